@@ -1,0 +1,17 @@
+-- Lists, item by item.
+use Rattle.std.specs.Prelude.{◌≡◌, ℕ, Bool, true, false, ◌&&◌, ◌==◌, List, [], ◌∷◌, ◌++◌}
+
+-- of each item of a list, one after another
+abbrev pub Each : {T : Type 0} → (T → Type 0) → List T → Type 0
+Each P [] = Unit {0}
+Each P (x ∷ xs) = P x × Each P xs
+
+-- the first list begins the second
+abbrev pub BeginsWith : {T : Type 0} → List T → List T → Type 0
+BeginsWith {T} xs ys = (more : List T) × (ys ≡ xs ++ more)
+
+abbrev pub same_bytes : List ℕ → List ℕ → Bool
+same_bytes [] [] = true
+same_bytes [] (y ∷ ys) = false
+same_bytes (x ∷ xs) [] = false
+same_bytes (x ∷ xs) (y ∷ ys) = x == y && same_bytes xs ys
