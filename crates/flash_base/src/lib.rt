@@ -1,5 +1,12 @@
-//! The small types that every crate above shares: lists that contracts see as lists,
-//! the want of memory, the width of a range and the key rules.
+//! The small types that every crate of the flasher shares.
+//!
+//! - Lists of the public surface, which contracts see as plain lists: [`Bytes`], [`Text`],
+//!   [`Names`], [`Files`] and the generic [`Items`].
+//! - [`NoMemory`], the one answer that is free everywhere.
+//! - [`Width`] and [`KeyRule`], which plans, requests and units speak of.
+//!
+//! Its `specs` hold the definitions that several crates cite: numbers as bytes, byte maps
+//! and facts on each item of a list.
 #![tactic(auto)]
 
 mod bytes;
@@ -7,6 +14,8 @@ mod fault;
 mod files;
 mod items;
 mod names;
+#[cfg(test)]
+mod tests;
 mod text;
 mod unit;
 

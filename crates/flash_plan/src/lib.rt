@@ -1,0 +1,11 @@
+//! What is to be programmed: the plan that was accepted, its canonical bytes and their digest,
+//! the entries that a journal keeps of it, and the outcomes that a unit may have.
+#![tactic(auto)]
+
+mod outcome;
+mod plan;
+mod unit;
+
+pub use outcome::{Entries, Entry, Outcome};
+pub use plan::Plan;
+pub use unit::{Draft, LinkRules, Segment, UnitPlan, Wanted};
