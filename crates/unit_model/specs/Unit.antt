@@ -1,0 +1,205 @@
+-- A control unit, and the step of a unit that obeys (ISO 14229-1; the options of the routines are this project's own).
+use Rattle.std.specs.Prelude.{◌≡◌, ℕ, zero, suc, ◌+◌, ◌*◌, ◌-◌, ◌/◌, ◌%◌, ◌^◌, min, Bool, true, false, ◌&&◌, ◌||◌, ◌==◌, nat_lt, nat_le, not, List, [], ◌∷◌, ◌++◌, length, take, replicate, filter, Option, Some, None, if◌then◌else◌}
+use Rattle.sha2.specs.Sha256.{sha256}
+use Rattle.flash_base.specs.Numbers.{big_endian}
+use Rattle.flash_base.specs.ByteMaps.{ByteMap, byte_at, fill, put, has_each, bytes_of}
+use Rattle.flash_base.specs.Lists.{same_bytes}
+use Rattle.flash_base.specs.declared.unit.KeyRule.{KeyRule}
+use Rattle.flash_base.specs.declared.unit.KeyRule.TheVariants.{Free, Xor, Digest}
+use Rattle.uds_codec.specs.declared.request.Request.{Request}
+use Rattle.uds_codec.specs.declared.request.Request.TheVariants.{Session, Reset, ReadId, Seed, Key, Routine, Download, Transfer, Exit}
+use Rattle.uds_codec.specs.Request.{Range, range_of, request_of, is_service, sid_of}
+use Rattle.uds_codec.specs.Key.{key_of}
+
+-- a download in hand: the next address, how many bytes are left, the next counter, whether a block was accepted
+pub record OpenTransfer : Type 0 where
+  pub at : ℕ
+  pub rest : ℕ
+  pub counter : ℕ
+  pub taken : Bool
+
+-- how often the unit has departed from the obedient step; refused and nacked by code
+pub record Counts : Type 0 where
+  pub refused : ℕ → ℕ
+  pub odd : ℕ
+  pub failed : ℕ
+  pub muted : ℕ
+  pub late : ℕ
+  pub stalled : ℕ
+  pub busy : ℕ
+  pub nacked : ℕ → ℕ
+
+-- session: 1 default, 2 programming, 3 extended. memory: the regions, with a byte at each address. checked: the ranges
+-- (address, size) that a check routine found equal. passed: the final check found that all is well. heard: how many
+-- requests. idents: identifiers with their values. block: the longest whole request 0x36. check: the check routine.
+pub record ControlUnit : Type 0 where
+  pub address : ℕ
+  pub session : ℕ
+  pub unlocked : Bool
+  pub seed : List ℕ
+  pub last_seed : Option (List ℕ)
+  pub memory : ByteMap
+  pub transfer : Option OpenTransfer
+  pub checked : List (ℕ × ℕ)
+  pub passed : Bool
+  pub heard : ℕ
+  pub idents : List (ℕ × List ℕ)
+  pub key : KeyRule
+  pub block : ℕ
+  pub check : ℕ
+  pub counts : Counts
+
+abbrev pub meets : ℕ → ℕ → ℕ × ℕ → Bool
+meets at size r = nat_lt r.0 (at + size) && nat_lt at (r.0 + r.1)
+
+abbrev pub apart : ℕ → ℕ → List (ℕ × ℕ) → List (ℕ × ℕ)
+apart at size checked = filter (λ r. not (meets at size r)) checked
+
+abbrev pub LAST_COUNT : ℕ
+LAST_COUNT = 2 ^ 64 - 1
+
+abbrev pub one_more : ℕ → ℕ
+one_more n = min (n + 1) LAST_COUNT
+
+abbrev pub heard_one : ControlUnit → ControlUnit
+heard_one u = record u { heard = one_more u.heard }
+
+abbrev pub answer : ControlUnit → List ℕ → ControlUnit × List ℕ
+answer u reply = (u, reply)
+
+abbrev pub refuse : ControlUnit → ℕ → ℕ → ControlUnit × List ℕ
+refuse u sid nrc = (u, 127 ∷ sid ∷ nrc ∷ [])
+
+abbrev pub in_session : ControlUnit → ℕ → ControlUnit
+in_session u kind = record u { session = kind; unlocked = false; transfer = None }
+
+abbrev pub ident_of : List (ℕ × List ℕ) → ℕ → Option (List ℕ)
+ident_of [] did = None
+ident_of (i ∷ is) did = if i.0 == did then Some i.1 else ident_of is did
+
+abbrev pub read_in : ControlUnit → ℕ → Option (List ℕ) → ControlUnit × List ℕ
+read_in u did None = refuse u 34 49
+read_in u did (Some value) = answer u (98 ∷ (big_endian 2 did ++ value))
+
+abbrev pub has_level : KeyRule → ℕ → Bool
+has_level Free level = false
+has_level (Xor l mask) level = l == level
+has_level (Digest l size secret) level = l == level
+
+abbrev pub has_key : KeyRule → Bool
+has_key Free = false
+has_key (Xor l mask) = true
+has_key (Digest l size secret) = true
+
+abbrev pub seed_given : ControlUnit → List ℕ
+seed_given u = if u.unlocked then replicate (length u.seed) 0 else u.seed
+
+abbrev pub give_seed : ControlUnit → ℕ → ControlUnit × List ℕ
+give_seed u level = answer (record u { last_seed = Some (seed_given u) }) (103 ∷ level ∷ seed_given u)
+
+abbrev pub key_in : ControlUnit → ℕ → List ℕ → Option (List ℕ) → ControlUnit × List ℕ
+key_in u level key None = refuse u 39 36
+key_in u level key (Some seed) =
+    if same_bytes key (key_of u.key seed) then answer (record u { unlocked = true }) (103 ∷ (level + 1) ∷ []) else refuse u 39 53
+
+abbrev pub is_locked : ControlUnit → Bool
+is_locked u = has_key u.key && not u.unlocked
+
+abbrev pub erased : ControlUnit → ℕ → ℕ → ControlUnit
+erased u at size = record u { memory = fill at size 255 u.memory; checked = apart at size u.checked; passed = false; transfer = None }
+
+abbrev pub erase_in : ControlUnit → Option Range → ControlUnit × List ℕ
+erase_in u None = refuse u 49 19
+erase_in u (Some r) =
+    if r.size == 0 || not (length r.more == 0) then refuse u 49 19
+    else if not (has_each r.at r.size u.memory) then refuse u 49 49
+    else answer (erased u r.at r.size) (113 ∷ 1 ∷ 255 ∷ 0 ∷ 0 ∷ [])
+
+abbrev pub check_in : ControlUnit → ℕ → Option Range → ControlUnit × List ℕ
+check_in u id None = refuse u 49 19
+check_in u id (Some r) =
+    if r.size == 0 || not (length r.more == 32) then refuse u 49 19
+    else if not (has_each r.at r.size u.memory) then refuse u 49 49
+    else if same_bytes r.more (sha256 (bytes_of r.at r.size u.memory)) then
+    answer (record u { checked = (r.at, r.size) ∷ u.checked }) (113 ∷ 1 ∷ (big_endian 2 id ++ (0 ∷ [])))
+    else answer u (113 ∷ 1 ∷ (big_endian 2 id ++ (1 ∷ [])))
+
+abbrev pub finish_in : ControlUnit → List (ℕ × ℕ) → ControlUnit × List ℕ
+finish_in u [] = answer u (113 ∷ 1 ∷ 255 ∷ 1 ∷ 1 ∷ [])
+finish_in u (r ∷ rs) = answer (record u { passed = true }) (113 ∷ 1 ∷ 255 ∷ 1 ∷ 0 ∷ [])
+
+abbrev pub routine : ControlUnit → ℕ → List ℕ → ControlUnit × List ℕ
+routine u id option =
+    if id == 65280 then (if is_locked u then refuse u 49 51 else erase_in u (range_of option))
+    else if is_locked u then refuse u 49 51
+    else if id == 65281 then finish_in u u.checked
+    else if id == u.check then check_in u id (range_of option)
+    else refuse u 49 49
+
+abbrev pub block_bytes : ℕ → List ℕ
+block_bytes n =
+    if nat_lt n 256 then 16 ∷ big_endian 1 n
+    else if nat_lt n 65536 then 32 ∷ big_endian 2 n
+    else if nat_lt n 16777216 then 48 ∷ big_endian 3 n
+    else 64 ∷ big_endian 4 n
+
+abbrev pub downloading : ControlUnit → ℕ → ℕ → ControlUnit
+downloading u at size = record u {
+  transfer = Some (record { at = at; rest = size; counter = 1; taken = false });
+  checked = apart at size u.checked;
+  passed = false;
+}
+
+abbrev pub download : ControlUnit → ℕ → ℕ → ControlUnit × List ℕ
+download u at size =
+    if is_locked u then refuse u 52 51
+    else if not (has_each at size u.memory) then refuse u 52 49
+    else answer (downloading u at size) (116 ∷ block_bytes u.block)
+
+abbrev pub next_counter : ℕ → ℕ
+next_counter counter = if counter == 255 then 0 else counter + 1
+
+abbrev pub written : ControlUnit → OpenTransfer → List ℕ → ControlUnit
+written u t body = record u {
+  memory = put t.at body u.memory;
+  transfer = Some (record { at = t.at + length body; rest = t.rest - length body; counter = next_counter t.counter; taken = true });
+}
+
+abbrev pub receive : ControlUnit → OpenTransfer → ℕ → List ℕ → ControlUnit × List ℕ
+receive u t counter body =
+    if t.taken && next_counter counter == t.counter then answer u (118 ∷ counter ∷ [])
+    else if not (counter == t.counter) then refuse u 54 115
+    else if nat_lt u.block (length body + 2) then refuse u 54 19
+    else if nat_lt t.rest (length body) then refuse u 54 113
+    else answer (written u t body) (118 ∷ counter ∷ [])
+
+abbrev pub receive_in : ControlUnit → Option OpenTransfer → ℕ → List ℕ → ControlUnit × List ℕ
+receive_in u None counter body = refuse u 54 36
+receive_in u (Some t) counter body = receive u t counter body
+
+abbrev pub exit_in : ControlUnit → Option OpenTransfer → ControlUnit × List ℕ
+exit_in u None = refuse u 55 36
+exit_in u (Some t) = if t.rest == 0 then answer (record u { transfer = None }) (119 ∷ []) else refuse u 55 36
+
+abbrev pub programming : ControlUnit → ℕ → ControlUnit × List ℕ → ControlUnit × List ℕ
+programming u sid step = if u.session == 2 then step else refuse u sid 127
+
+-- the state and the answer of a request that is in the form
+abbrev pub obey : ControlUnit → Request → ControlUnit × List ℕ
+obey u (Session kind) = answer (in_session u kind) (80 ∷ kind ∷ 0 ∷ 50 ∷ 1 ∷ 244 ∷ [])
+obey u Reset = answer (in_session u 1) (81 ∷ 1 ∷ [])
+obey u (ReadId did) = read_in u did (ident_of u.idents did)
+obey u (Seed level) = programming u 39 (if has_level u.key level then give_seed u level else refuse u 39 18)
+obey u (Key level key) = programming u 39 (if has_level u.key level then key_in u level key u.last_seed else refuse u 39 18)
+obey u (Routine id option) = programming u 49 (routine u id option)
+obey u (Download width at size) = programming u 52 (download u at size)
+obey u (Transfer counter body) = programming u 54 (receive_in u u.transfer counter body)
+obey u Exit = programming u 55 (exit_in u u.transfer)
+
+abbrev pub obey_in : ControlUnit → ℕ → Option Request → ControlUnit × List ℕ
+obey_in u sid None = refuse u sid (if is_service sid then 19 else 17)
+obey_in u sid (Some r) = obey u r
+
+-- of any bytes, without the count of what was heard
+abbrev pub obedient : ControlUnit → List ℕ → ControlUnit × List ℕ
+obedient u bytes = obey_in u (sid_of bytes) (request_of bytes)
