@@ -1,13 +1,11 @@
 -- One draft in the first form makes an accepted plan.
-use Rattle.std.proofs.Common.{◌≡◌, ◌⊎◌, inl, inr, ℕ, zero, suc, ◌+◌, ◌*◌, ◌<◌, ◌≤◌, List, [], ◌∷◌, ◌++◌, length, map, refl, sym, ◌∙◌, ap, subst, arith}
+use Rattle.std.proofs.Common.{◌≡◌, ℕ, zero, suc, ◌+◌, ◌<◌, ◌≤◌, List, [], ◌∷◌, ◌++◌, length, map, sym, ◌∙◌, subst, arith}
 use Rattle.std.specs.Prelude.{Contains}
 use Rattle.flash_base.specs.Lists.{Each}
 use Rattle.flash_base.specs.Numbers.{pow256}
 use Rattle.flash_base.specs.declared.unit.Width.{Width}
-use Rattle.flash_base.specs.declared.unit.KeyRule.{KeyRule}
 use Rattle.flash_plan.specs.declared.unit.Draft.{Draft}
 use Rattle.flash_plan.specs.declared.unit.Segment.{Segment}
-use Rattle.flash_plan.specs.declared.unit.UnitPlan.{UnitPlan}
 use Rattle.flash_plan.specs.declared.unit.Wanted.{Wanted}
 use Rattle.flash_plan.specs.Plan.{plan_of, IsAccepted, IsAcceptedUnit, IsFit, IsKeyRule, IsWanted, StandsBefore, next_to, before, AreApart, size_of}
 use Rattle.flash_plan.specs.Drafts.{numbered, IsShort, IsPlain, IsFirstForm}

@@ -1,7 +1,6 @@
 -- Drafts in the first form, and the units that they are.
-use Rattle.std.specs.Prelude.{◌≡◌, ℕ, ◌+◌, ◌<◌, ◌≤◌, List, [], ◌∷◌, length}
+use Rattle.std.specs.Prelude.{◌≡◌, ◌+◌, ◌<◌, ◌≤◌, List, [], ◌∷◌, length}
 use Rattle.flash_base.specs.Lists.{Each}
-use Rattle.flash_base.specs.declared.unit.KeyRule.{KeyRule}
 use Rattle.flash_base.specs.declared.unit.KeyRule.TheVariants.{Free}
 use Rattle.flash_plan.specs.declared.unit.Draft.{Draft}
 use Rattle.flash_plan.specs.declared.unit.Segment.{Segment}

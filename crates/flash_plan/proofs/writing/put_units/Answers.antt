@@ -1,5 +1,3 @@
-use Rattle.std.proofs.Common.{subst}
-use Rattle.flash_plan.specs.Plan.{IsAcceptedUnit}
 use Rattle.flash_plan.proofs.Units.{accepted_read}
 use Rattle.flash_plan.proofs.writing.put_units.Goals as goal
 

@@ -1,4 +1,3 @@
-use Rattle.std.proofs.Common.{◌≡◌, ◌∙◌, Some, ap, slice_get}
 use Rattle.flash_plan.proofs.Units.{nth_plan-get}
 use Rattle.flash_plan.proofs.plan.Plan.unit.Goals as goal
 
