@@ -6,7 +6,7 @@ use Rattle.turn_lock.specs.declared.view.Stage.TheVariants.{Idle, Waiting, Holdi
 use Rattle.turn_lock.specs.Lists.{Begins, longer, new_positions}
 use Rattle.turn_lock.specs.Seats.{OwnsSeen}
 
-module _ {V O E : Type 0} where
+module _ {V E : Type 0} where
   -- the entries of the value that the seat has put into the slot
   abbrev pub entries_in : (V → List E) → Option V → List E
   entries_in entries_of None = []
@@ -16,6 +16,7 @@ module _ {V O E : Type 0} where
   entries_put entries_of [] = []
   entries_put entries_of (x ∷ xs) = entries_in entries_of x.1
 
+module _ {V O E : Type 0} where
   abbrev pub CountsUp : Me (Option V) (View O E) → Me (Option V) (View O E) → Type 0
   CountsUp m n = n ≡ (record m.0 { others = m.0.others + 1; unseated = m.0.unseated + 1 }, m.1)
 

@@ -126,9 +126,7 @@ impl<V: Logged> Turn<V> {
         seats.fetch_sub::<CountDown>(&mut pass.seat, PASSES, 1);
         pass.others -= 1;
         pass.own += own;
-        if pass.seen < seen {
-            pass.seen = seen;
-        }
+        pass.seen = pass.seen.max(seen);
     }
 
     /// Waits for the value.
