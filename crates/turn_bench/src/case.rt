@@ -1,7 +1,6 @@
 //! What is run.
 ghost use Rattle.std.specs.Prelude.{◌≤◌};
 
-
 /// `workers` threads take the log `turns` times each, and read `block` bytes while they hold it.
 #[derive(Clone, Copy)]
 pub struct Case {

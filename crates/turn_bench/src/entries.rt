@@ -32,7 +32,11 @@ impl Entries {
     pub fn new(alloc: Global, room: u64, block: usize) -> Result<Entries, AllocError> {
         let numbers = Vec::with_capacity(alloc, room as usize)?;
         let block = vec![in alloc; 7u8; block]?;
-        Ok(Entries { numbers, block, sum: 0 })
+        Ok(Entries {
+            numbers,
+            block,
+            sum: 0,
+        })
     }
 
     /// One turn's work: reads the block, and appends the number.

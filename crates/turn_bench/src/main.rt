@@ -14,9 +14,8 @@ mod entries;
 mod timing;
 
 use case::Case;
-use std::env;
 use std::env::Env;
-use std::io;
+use std::{env, io};
 
 fn is_time<R: Env + Alloc>(rt: &R) -> io::Result<bool> {
     Ok(env::args(rt)?.skip(1).any(|word| word.as_str() == "time"))
@@ -24,10 +23,26 @@ fn is_time<R: Env + Alloc>(rt: &R) -> io::Result<bool> {
 
 fn main(rt: HostRuntime) -> io::Result<()> {
     let cases = [
-        Case { workers: 1, turns: 1_000_000, block: 0 },
-        Case { workers: 4, turns: 100_000, block: 0 },
-        Case { workers: 1, turns: 100_000, block: 4096 },
-        Case { workers: 4, turns: 25_000, block: 4096 },
+        Case {
+            workers: 1,
+            turns: 1_000_000,
+            block: 0,
+        },
+        Case {
+            workers: 4,
+            turns: 100_000,
+            block: 0,
+        },
+        Case {
+            workers: 1,
+            turns: 100_000,
+            block: 4096,
+        },
+        Case {
+            workers: 4,
+            turns: 25_000,
+            block: 4096,
+        },
     ];
     if is_time(&rt)? {
         for case in &cases {

@@ -1,8 +1,7 @@
 //! Runs of a case, and what is printed of them.
-use crate::by_mutex;
-use crate::by_turn;
 use crate::case::Case;
 use crate::entries::Entries;
+use crate::{by_mutex, by_turn};
 use std::alloc::{AllocError, Global};
 use std::io;
 use std::sync::Wait;
@@ -48,7 +47,9 @@ pub fn compare<R: Threads + Wait + Sync + Print + Clock + Alloc<A = Global>>(
     let (whole, part) = (hundredths / 100, hundredths % 100);
     let (turn, mutex) = (turn / entries, mutex / entries);
     let (least_turn, least_mutex) = (turns[0] / entries, mutexes[0] / entries);
-    println!(rt; "workers {workers} block {block}: turn {turn} ns (least {least_turn}), mutex {mutex} ns (least {least_mutex}), ratio {whole}.{part:02}")?;
+    println!(rt;
+        "workers {workers} block {block}: turn {turn} ns (least {least_turn}), mutex {mutex} ns (least {least_mutex}), ratio {whole}.{part:02}"
+    )?;
     Ok(())
 }
 
