@@ -14,6 +14,7 @@ fn work<R: Wait>(
     rt: &R,
     turn: &Turn<Entries>,
     mut pass: Pass<Entries>,
+    block: &[u8],
     number: u64,
     turns: u64,
 ) -> Pass<Entries>
@@ -22,7 +23,7 @@ fn work<R: Wait>(
 {
     for _ in 0..turns {
         let mut entries = turn.take(rt, &mut pass);
-        entries.work(number);
+        entries.work(block, number);
         turn.give(&mut pass, entries);
     }
     pass
@@ -33,6 +34,7 @@ fn crew<R: Threads + Wait + Sync>(
     rt: &R,
     turn: &Turn<Entries>,
     mut first: Pass<Entries>,
+    block: &[u8],
     count: u64,
     turns: u64,
 ) -> Pass<Entries>
@@ -41,7 +43,7 @@ fn crew<R: Threads + Wait + Sync>(
     ensures turn { (result.turn ≡ first.turn) × (result.holds ≡ false) × (result.first ≡ true) × (result.others ≡ first.others) }
 {
     if count == 0 {
-        return work(rt, turn, first, 0, turns);
+        return work(rt, turn, first, block, 0, turns);
     }
     let rest = count - 1;
     let pass = turn.split(&mut first);
@@ -50,11 +52,11 @@ fn crew<R: Threads + Wait + Sync>(
         move ||
             requires { IsSync R.row × (first.turn ≡ turn.now) × (first.holds ≡ false) × (first.first ≡ true) × (first.others + rest < 65536) }
             ensures { (result.turn ≡ first.turn) × (result.holds ≡ false) × (result.first ≡ true) × (result.others ≡ first.others) }
-        { crew(rt, turn, first, rest, turns) },
+        { crew(rt, turn, first, block, rest, turns) },
         move ||
             requires { (pass.turn ≡ turn.now) × (pass.holds ≡ false) }
             ensures { (result.turn ≡ turn.entry.now) × (result.holds ≡ false) }
-        { work(rt, turn, pass, count, turns) },
+        { work(rt, turn, pass, block, count, turns) },
     );
     turn.join(&mut first, pass);
     first
@@ -66,8 +68,16 @@ pub fn run<R: Threads + Wait + Sync>(
     alloc: Global,
     case: &Case,
 ) -> Result<Entries, AllocError> {
-    let entries = Entries::new(alloc, case.entries(), case.block)?;
+    let block = vec![in alloc; 7u8; case.block]?;
+    let entries = Entries::new(alloc, case.entries())?;
     let (turn, first) = Turn::new(alloc, entries).map_err(|_| AllocError)?;
-    let first = crew(rt, &turn, first, case.workers - 1, case.turns);
+    let first = crew(
+        rt,
+        &turn,
+        first,
+        block.as_slice(),
+        case.workers - 1,
+        case.turns,
+    );
     Ok(turn.close(first))
 }

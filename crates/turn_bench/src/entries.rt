@@ -6,11 +6,10 @@ use std::alloc::{AllocError, Global};
 use std::hint::black_box;
 use turn_lock::Logged;
 
-/// The numbers of those that had it, and a block of bytes.
+/// The numbers of those that had it, and what they made of the bytes that they read.
 #[derive(Drop)]
 pub struct Entries {
     pub numbers: Vec<u64>,
-    block: Vec<u8>,
     sum: u64,
 }
 
@@ -29,22 +28,17 @@ impl Logged for Entries {
 }
 
 impl Entries {
-    pub fn new(alloc: Global, room: u64, block: usize) -> Result<Entries, AllocError> {
+    pub fn new(alloc: Global, room: u64) -> Result<Entries, AllocError> {
         let numbers = Vec::with_capacity(alloc, room as usize)?;
-        let block = vec![in alloc; 7u8; block]?;
-        Ok(Entries {
-            numbers,
-            block,
-            sum: 0,
-        })
+        Ok(Entries { numbers, sum: 0 })
     }
 
     /// One turn's work: reads the block, and appends the number.
-    pub fn work(&mut self, number: u64)
+    pub fn work(&mut self, block: &[u8], number: u64)
         ensures { Begins self.old.numbers.items self.new.numbers.items }
     {
         let mut sum = self.sum;
-        for byte in self.block.iter() {
+        for byte in block {
             sum = sum.rotate_left(5) ^ u64::from(*byte);
         }
         self.sum = black_box(sum);

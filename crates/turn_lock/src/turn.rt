@@ -15,6 +15,7 @@ use crate::steps::{
 use crate::view::View;
 use atomic_table::{Seat, Table};
 use std::alloc::{AllocFailed, Global};
+use std::hint::spin_loop;
 use std::marker::Model;
 use std::snapshot::Snapshot;
 use std::sync::Wait;
@@ -28,6 +29,9 @@ const NEXT: usize = 1;
 const SERVING: usize = 2;
 
 const VALUE: usize = 0;
+
+// How often the next in line reads at once again before it lets other threads run.
+const LOOKS: u32 = 100;
 
 /// A value that workers take in turns.
 ///
@@ -167,11 +171,19 @@ impl<V: Logged> Turn<V> {
         ensures turn { seat.new.table_id ≡ seat.old.table_id }
         ensures took { Takes V.opening V.entries seat.old.me seat.new.me }
     {
+        let mut looks = 0u32;
         for _ in rt.forever() {
-            if self.table.shared.load::<ReadServing<V>>(seat, SERVING) == ticket {
+            let served = self.table.shared.load::<ReadServing<V>>(seat, SERVING);
+            if served == ticket {
                 return;
             }
-            thread::yield_now();
+            if ticket.wrapping_sub(served) == 1 && looks < LOOKS {
+                looks += 1;
+                spin_loop();
+            } else {
+                looks = 0;
+                thread::yield_now();
+            }
         }
         unreachable!()
     }
