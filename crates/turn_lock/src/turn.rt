@@ -144,19 +144,18 @@ impl<V: Logged> Turn<V> {
         ensures seen { Begins pass.old.seen (V.entries result) }
         ensures own { HasOwn pass.old (V.entries result) }
     {
-        let ticket = self
-            .table
-            .shared
-            .fetch_add::<DrawTicket>(&mut pass.seat, NEXT, 1);
+        let seats = &self.table.shared;
+        let ticket = seats.fetch_add::<DrawTicket>(&mut pass.seat, NEXT, 1);
         self.wait_for(rt, &mut pass.seat, ticket);
-        let taken = self.table.shared.exchange(&mut pass.seat, VALUE, None);
+        let taken = seats.exchange(&mut pass.seat, VALUE, None);
         let Some(value) = taken else { unreachable!() };
         pass.seen = value.count();
         value
     }
 
-    // Between two reads other threads may run. The one that has the value may need this processor to come to its `give`:
-    // with more threads than processors, a loop that only reads would keep it from that for the rest of its time slice.
+    // Between two reads other threads may run. With more threads than processors, the one that has the value may need this
+    // processor to come to its `give`, and a loop that only reads would keep it from that for the rest of its time slice.
+    // Only the next in line looks again at once for a while, since its turn is mostly near.
     fn wait_for<R: Wait>(
         &self,
         rt: &R,
