@@ -1,0 +1,87 @@
+-- The definitions on known requests and answers.
+use Rattle.std.proofs.Common.{◌≡◌, [], ◌∷◌, Some, None, refl}
+use Rattle.flash_base.specs.declared.unit.KeyRule.TheVariants.{Xor}
+use Rattle.uds_codec.specs.declared.request.Request.TheVariants.{Session, Seed, Key, ReadId, Routine, Download, Transfer, Exit, Reset}
+use Rattle.uds_codec.specs.Answer.{judge, Later, Again, Refusal, Good, Bad_status, Strange}
+use Rattle.uds_codec.specs.Key.{key_of}
+use Rattle.uds_codec.specs.Request.{spelled, request_of}
+
+-- a whole programming of three bytes at 0x1000
+to_programming : spelled (Session 2) ≡ 16 ∷ 2 ∷ []
+to_programming = refl
+
+erase : spelled (Routine 65280 (68 ∷ 0 ∷ 0 ∷ 16 ∷ 0 ∷ 0 ∷ 0 ∷ 0 ∷ 3 ∷ [])) ≡ 49 ∷ 1 ∷ 255 ∷ 0 ∷ 68 ∷ 0 ∷ 0 ∷ 16 ∷ 0 ∷ 0 ∷ 0 ∷ 0 ∷ 3 ∷ []
+erase = refl
+
+download : spelled (Download (record { size = 4; at = 4 }) 4096 3) ≡ 52 ∷ 0 ∷ 68 ∷ 0 ∷ 0 ∷ 16 ∷ 0 ∷ 0 ∷ 0 ∷ 0 ∷ 3 ∷ []
+download = refl
+
+block : spelled (Transfer 1 (97 ∷ 98 ∷ 99 ∷ [])) ≡ 54 ∷ 1 ∷ 97 ∷ 98 ∷ 99 ∷ []
+block = refl
+
+end : spelled Exit ≡ 55 ∷ []
+end = refl
+
+check : spelled (Routine 514 []) ≡ 49 ∷ 1 ∷ 2 ∷ 2 ∷ []
+check = refl
+
+dependencies : spelled (Routine 65281 []) ≡ 49 ∷ 1 ∷ 255 ∷ 1 ∷ []
+dependencies = refl
+
+reset : spelled Reset ≡ 17 ∷ 1 ∷ []
+reset = refl
+
+-- and read again
+download_read : request_of (52 ∷ 0 ∷ 68 ∷ 0 ∷ 0 ∷ 16 ∷ 0 ∷ 0 ∷ 0 ∷ 0 ∷ 3 ∷ []) ≡ Some (Download (record { size = 4; at = 4 }) 4096 3)
+download_read = refl
+
+erase_read : request_of (49 ∷ 1 ∷ 255 ∷ 0 ∷ 68 ∷ 0 ∷ 0 ∷ 16 ∷ 0 ∷ 0 ∷ 0 ∷ 0 ∷ 3 ∷ []) ≡ Some (Routine 65280 (68 ∷ 0 ∷ 0 ∷ 16 ∷ 0 ∷ 0 ∷ 0 ∷ 0 ∷ 3 ∷ []))
+erase_read = refl
+
+-- widths 2 and 3
+narrow : spelled (Download (record { size = 2; at = 3 }) 65536 16) ≡ 52 ∷ 0 ∷ 35 ∷ 1 ∷ 0 ∷ 0 ∷ 0 ∷ 16 ∷ []
+narrow = refl
+
+narrow_read : request_of (52 ∷ 0 ∷ 35 ∷ 1 ∷ 0 ∷ 0 ∷ 0 ∷ 16 ∷ []) ≡ Some (Download (record { size = 2; at = 3 }) 65536 16)
+narrow_read = refl
+
+cut_off : request_of (52 ∷ 0 ∷ 35 ∷ 1 ∷ 0 ∷ []) ≡ None
+cut_off = refl
+
+more : request_of (16 ∷ 2 ∷ 0 ∷ []) ≡ None
+more = refl
+
+no_reset : request_of (17 ∷ 2 ∷ []) ≡ None
+no_reset = refl
+
+-- keys
+seed_asked : spelled (Seed 1) ≡ 39 ∷ 1 ∷ []
+seed_asked = refl
+
+key_sent : spelled (Key 1 (key_of (Xor 1 (255 ∷ [])) (18 ∷ 52 ∷ []))) ≡ 39 ∷ 2 ∷ 237 ∷ 203 ∷ []
+key_sent = refl
+
+identifier : spelled (ReadId 61845) ≡ 34 ∷ 241 ∷ 149 ∷ []
+identifier = refl
+
+-- answers
+block_number : judge (52 ∷ 0 ∷ 68 ∷ []) (127 ∷ 52 ∷ 51 ∷ []) ≡ Refusal 51
+block_number = refl
+
+pending : judge (16 ∷ 2 ∷ []) (127 ∷ 16 ∷ 120 ∷ []) ≡ Later
+pending = refl
+
+busy : judge (54 ∷ 1 ∷ 97 ∷ []) (127 ∷ 54 ∷ 33 ∷ []) ≡ Again
+busy = refl
+
+accepted : judge (52 ∷ 0 ∷ 35 ∷ 1 ∷ 0 ∷ 0 ∷ 0 ∷ 16 ∷ []) (116 ∷ 32 ∷ 15 ∷ 255 ∷ []) ≡ Good (15 ∷ 255 ∷ [])
+accepted = refl
+
+too_small : judge (52 ∷ 0 ∷ 35 ∷ 1 ∷ 0 ∷ 0 ∷ 0 ∷ 16 ∷ []) (116 ∷ 32 ∷ 0 ∷ 2 ∷ []) ≡ Strange
+too_small = refl
+
+not_equal : judge (49 ∷ 1 ∷ 2 ∷ 2 ∷ []) (113 ∷ 1 ∷ 2 ∷ 2 ∷ 1 ∷ []) ≡ Bad_status 1
+not_equal = refl
+
+seed_said : judge (39 ∷ 1 ∷ []) (103 ∷ 1 ∷ 18 ∷ 52 ∷ []) ≡ Good (18 ∷ 52 ∷ [])
+seed_said = refl
