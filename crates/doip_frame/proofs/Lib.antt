@@ -1,3 +1,6 @@
 pub mod Cuts
+pub mod Feeds
+pub mod Looks
+pub mod Payloads
 mod Rows
 pub mod Streams
