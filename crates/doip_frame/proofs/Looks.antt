@@ -8,9 +8,9 @@ use Rattle.flash_base.specs.Numbers.{number2, number4}
 use Rattle.doip_frame.specs.declared.frame.Bad.TheVariants.{Pattern, Length, TooLarge}
 use Rattle.doip_frame.specs.declared.cut.Look.{Look}
 use Rattle.doip_frame.specs.declared.cut.Look.TheVariants.{Part, Refused, Complete}
-use Rattle.doip_frame.specs.Frame.{Cut, cut_frame, cut_body, cut_sized, is_length, Partial, Wrong, Whole}
+use Rattle.doip_frame.specs.Frame.{Cut, cut_frame, cut_sized, is_length, Partial, Wrong, Whole}
 use Rattle.doip_frame.specs.Deframe.{EndsThere, Stops, is_partial}
-use Rattle.doip_frame.specs.Look.{Cuts, CutsWhole, look_of, look_sized, two_at, four_at, missing_of}
+use Rattle.doip_frame.specs.Look.{Cuts, look_of, look_sized, two_at, four_at, missing_of}
 
 -- a header of these eight bytes
 module _ (k1 k0 l3 l2 l1 l0 : ℕ) (rest : List ℕ) where
@@ -190,3 +190,21 @@ pub stops_from : (cut : Cut) (unused : List ℕ) → EndsThere cut → (is_parti
 stops_from Partial unused ends used = used refl
 stops_from (Wrong bad) unused ends used = tt
 stops_from (Whole kind payload more) unused ends used = ends
+
+steps_small : (a b c : Bool) (k n : ℕ) → steps a b c k n ≡ Part → a ≡ false
+steps_small true b c k n e = cc
+steps_small false b c k n e = refl
+
+-- the beginning of a frame is shorter than the longest
+pub part_bound : (s : List ℕ) → cut_frame s ≡ Partial → length s < 65608
+part_bound s is =
+    let e = part_seen s is in
+    elim (chain_part (nat_lt 0 (length s) && not (get_or s 0 0 == 3)) (nat_lt 1 (length s) && not (get_or s 1 0 == 252)) (nat_lt (length s) 8) (look_sized (two_at s 2) (four_at s 4) (length s - 8)) e) [
+      | inl c ↦ let lt : length s < 8 = ltb-true _ _ c in omega (arith, lt)
+      | inr l ↦
+          let c = steps_part (nat_lt 65600 (four_at s 4)) (is_length (two_at s 2) (four_at s 4)) (nat_lt (length s - 8) (four_at s 4)) (two_at s 2) (four_at s 4) l in
+          let a : nat_lt 65600 (four_at s 4) ≡ false = steps_small (nat_lt 65600 (four_at s 4)) (is_length (two_at s 2) (four_at s 4)) (nat_lt (length s - 8) (four_at s 4)) (two_at s 2) (four_at s 4) l in
+          let lt : length s - 8 < four_at s 4 = ltb-true _ _ c in
+          let few : four_at s 4 ≤ 65600 = grind (arith, a) in
+          omega (arith, lt, few)
+    ]

@@ -1,5 +1,5 @@
 -- Payloads byte by byte.
-use Rattle.std.proofs.Common.{◌≡◌, ℕ, List, [], ◌∷◌, length, None, refl, arith}
+use Rattle.std.proofs.Common.{◌≡◌, ℕ, List, [], ◌∷◌, length, None, refl}
 use Rattle.doip_frame.specs.Frame.{oem_of}
 
 pub no_oem : (l : List ℕ) → (length l ≡ 4 → ⊥) → None ≡ oem_of l

@@ -3,7 +3,7 @@ use Rattle.std.specs.Prelude.{◌≡◌, ℕ, Bool, true, false, List, [], ◌++
 use Rattle.doip_frame.specs.declared.frame.Bad.{Bad}
 use Rattle.doip_frame.specs.declared.frame.Bad.TheVariants.{Failed}
 use Rattle.doip_frame.specs.declared.frame.Frame.{Frame}
-use Rattle.doip_frame.specs.Frame.{Stream, stream_of, Cut, Partial, Wrong, Whole}
+use Rattle.doip_frame.specs.Frame.{stream_of, Cut, Partial, Wrong, Whole}
 
 -- the frames that end in the piece
 abbrev pub frames_in : Option (List ℕ) → List ℕ → List Frame

@@ -1,4 +1,4 @@
-ghost use Rattle.std.specs.Prelude.{◌≡◌, ℕ, ◌+◌, ◌≤◌, ◌<◌, ◌++◌, [], Some, None, take, drop, length, IfOk, OnOk, OnErr};
+ghost use Rattle.std.specs.Prelude.{◌≡◌, ℕ, ◌+◌, ◌≤◌, ◌<◌, ◌++◌, [], Some, None, take, drop, length, IfOk, OnOk, OnErr, IfSome};
 ghost use Rattle.doip_frame.specs.Deframe.{frames_in, bad_in, held_after, is_partial, left, Stops};
 ghost use Rattle.doip_frame.specs.Frame.{stream_of, cut_frame, Partial};
 ghost use Rattle.doip_frame.specs.Look.{missing_of};
@@ -108,4 +108,111 @@ fn fill(held: &mut Vec<u8>, piece: &[u8]) -> Result<usize, NoMemory>
         used += n;
     }
     Ok(used)
+}
+
+/// The frames that the stream ends, behind those that there are. The rest is held in place of what was.
+fn straight(
+    held: &mut Vec<u8>,
+    alloc: Global,
+    before: Frames,
+    stream: &[u8],
+) -> Result<Fed, NoMemory>
+    ensures frames { IfOk result (λ fed. fed.frames ≡ before ++ (stream_of stream.now).frames) }
+    ensures bad { IfOk result (λ fed. fed.bad ≡ (stream_of stream.now).bad) }
+    ensures held { OnOk result (held.new.items ≡ left (stream_of stream.now).bad (stream_of stream.now).rest) }
+    ensures err { OnErr result (held.new.items ≡ held.old.items) }
+{
+    let (fed, used) = cut(alloc, before, stream)?;
+    let rest = match fed.bad {
+        None => Vec::from_slice(alloc, &stream[used..])?,
+        Some(_) => Vec::new(alloc),
+    };
+    *held = rest;
+    Ok(fed)
+}
+
+/// The frames that end in this piece, behind the bytes that are held. A refusal is all that may be held longer.
+fn feed_on(held: &mut Vec<u8>, alloc: Global, piece: &[u8]) -> Result<Fed, NoMemory>
+    requires { cut_frame held.old.items ≡ Partial }
+    ensures frames { IfOk result (λ fed. fed.frames ≡ (stream_of (held.old.items ++ piece.now)).frames) }
+    ensures bad { IfOk result (λ fed. fed.bad ≡ (stream_of (held.old.items ++ piece.now)).bad) }
+    ensures held { OnOk result (held.new.items ≡ left (stream_of (held.old.items ++ piece.now)).bad (stream_of (held.old.items ++ piece.now)).rest) }
+    ensures err { OnErr result (take (length held.old.items) held.new.items ≡ held.old.items) }
+{
+    let used = fill(held, piece)?;
+    match front(held) {
+        Look::Part => Ok(Fed {
+            frames: Frames::new(alloc),
+            bad: None,
+        }),
+        Look::Refused(bad) => {
+            held.clear();
+            Ok(Fed {
+                frames: Frames::new(alloc),
+                bad: Some(bad),
+            })
+        }
+        Look::Complete { kind, .. } => {
+            let frame = read(alloc, kind, &held[8..])?;
+            let mut frames = Frames::new(alloc);
+            frames.push(frame)?;
+            straight(held, alloc, frames, &piece[used..])
+        }
+    }
+}
+
+/// The same, and where there is no memory what was held is held.
+fn feed_into(held: &mut Vec<u8>, alloc: Global, piece: &[u8]) -> Result<Fed, NoMemory>
+    requires { cut_frame held.old.items ≡ Partial }
+    ensures frames { IfOk result (λ fed. fed.frames ≡ (stream_of (held.old.items ++ piece.now)).frames) }
+    ensures bad { IfOk result (λ fed. fed.bad ≡ (stream_of (held.old.items ++ piece.now)).bad) }
+    ensures held { OnOk result (held.new.items ≡ left (stream_of (held.old.items ++ piece.now)).bad (stream_of (held.old.items ++ piece.now)).rest) }
+    ensures err { OnErr result (held.new.items ≡ held.old.items) }
+{
+    if held.is_empty() {
+        return straight(held, alloc, Frames::new(alloc), piece);
+    }
+    let before = held.len();
+    match feed_on(held, alloc, piece) {
+        Ok(fed) => Ok(fed),
+        Err(e) => {
+            held.truncate(before);
+            Err(e)
+        }
+    }
+}
+
+impl Deframer {
+    /// At the beginning of a stream.
+    pub fn new(alloc: Global) -> Deframer
+        ensures { result ≡ Some [] }
+    {
+        Deframer {
+            held: Vec::new(alloc),
+            failed: false,
+            alloc,
+        }
+    }
+
+    /// The frames that end in this piece, in order, and the refusal behind them, if there is one.
+    ///
+    /// Frames before a refusal in the same piece are given. After it every call gives no frame and
+    /// `Failed`. Where there is no memory nothing changes, and the same piece may be fed again.
+    pub fn feed(&mut self, piece: &[u8]) -> Result<Fed, NoMemory>
+        ensures frames { IfOk result (λ fed. fed.frames ≡ frames_in self.old piece.now) }
+        ensures bad { IfOk result (λ fed. fed.bad ≡ bad_in self.old piece.now) }
+        ensures held { OnOk result (self.new ≡ held_after self.old piece.now) }
+        ensures bound { IfSome self.new (λ held. length held < 65608) }
+        ensures err { OnErr result (self.new ≡ self.old) }
+    {
+        if self.failed {
+            return Ok(Fed {
+                frames: Frames::new(self.alloc),
+                bad: Some(Bad::Failed),
+            });
+        }
+        let fed = feed_into(&mut self.held, self.alloc, piece)?;
+        self.failed = fed.bad.is_some();
+        Ok(fed)
+    }
 }

@@ -1,5 +1,5 @@
 -- Numbers and ranges are read as they were written.
-use Rattle.std.proofs.Common.{◌≡◌, ℕ, zero, suc, ◌+◌, ◌*◌, ◌/◌, ◌%◌, ◌<◌, ◌≤◌, true, List, [], ◌∷◌, ◌++◌, length, take, drop, Some, refl, ◌∙◌, ap, arith, length-append, append_assoc}
+use Rattle.std.proofs.Common.{◌≡◌, ℕ, zero, suc, ◌+◌, ◌*◌, ◌/◌, ◌%◌, ◌^◌, ◌<◌, ◌≤◌, true, List, [], ◌∷◌, ◌++◌, length, take, drop, Some, refl, ◌∙◌, ap, arith, length-append, append_assoc}
 use Rattle.std.specs.Prelude.{Bool, nat_le, ◌&&◌}
 use Rattle.std.proofs.lemmas.Bool.{le-leb}
 use Rattle.flash_base.specs.Numbers.{big_endian, number_after, number_of, pow256}
@@ -56,3 +56,10 @@ module _ (s a at size : ℕ) (more : List ℕ) (s1 : 1 ≤ s) (s4 : s ≤ 4) (a1
       let n1 = big_number a at fits in
       let n2 = big_number s size small in
       rw (hi, lo, assoc, ws, wa, len, t1, d1, t2, d2, n1, n2) refl
+
+pub small_power : (i n : ℕ) → i < 4 → n < 256 ^ i → n * 256 < 2 ^ 64
+small_power zero n h l = omega arith
+small_power (suc zero) n h l = omega arith
+small_power (suc (suc zero)) n h l = omega arith
+small_power (suc (suc (suc zero))) n h l = omega arith
+small_power (suc (suc (suc (suc i)))) n h l = absurd (omega arith)

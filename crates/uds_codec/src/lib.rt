@@ -1,6 +1,8 @@
 //! UDS requests and answers (ISO 14229-1): what bytes spell a request, what bytes answer one.
 #![tactic(auto)]
 
+mod number;
 mod request;
 
+pub use number::{get_number, put_number};
 pub use request::{Reply, Request, UdsFault};

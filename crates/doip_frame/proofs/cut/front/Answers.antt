@@ -1,6 +1,4 @@
-use Rattle.std.proofs.Common.{subst, sym}
 use Rattle.doip_frame.proofs.Looks.{cuts}
-use Rattle.doip_frame.specs.Look.{Cuts}
 use Rattle.doip_frame.proofs.cut.front.Goals as goal
 
 pub returns : goal.returns

@@ -1,8 +1,7 @@
-use Rattle.std.proofs.Common.{◌≡◌, ℕ, ◌+◌, ◌-◌, ◌≤◌, ◌<◌, true, List, [], ◌++◌, length, take, drop, sym, ap, subst, ◌∙◌, arith, append_assoc, take-add}
-use Rattle.std.specs.Prelude.{min}
+use Rattle.std.proofs.Common.{◌≡◌, ℕ, ◌+◌, ◌-◌, ◌≤◌, true, List, ◌++◌, length, take, drop, sym, ap, subst, ◌∙◌, arith, append_assoc, take-add}
 use Rattle.std.proofs.lemmas.List.{drop_all, length-take-le, length-drop}
 use Rattle.doip_frame.specs.Deframe.{EndsThere, is_partial}
-use Rattle.doip_frame.specs.Frame.{cut_frame, Partial}
+use Rattle.doip_frame.specs.Frame.{cut_frame}
 use Rattle.doip_frame.specs.Look.{missing_of}
 use Rattle.doip_frame.proofs.Looks.{missing_ends, missing_some, partial_from, stops_from}
 use Rattle.doip_frame.proofs.deframer.fill.Goals as goal

@@ -1,4 +1,4 @@
-use Rattle.std.proofs.Common.{◌≡◌, ◌-◌, length, drop, arith, length-drop}
+use Rattle.std.proofs.Common.{drop, arith, length-drop}
 use Rattle.doip_frame.proofs.Payloads.{no_oem}
 use Rattle.doip_frame.proofs.payload.oem.Goals as goal
 
