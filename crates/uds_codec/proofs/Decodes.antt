@@ -13,10 +13,10 @@ use Rattle.uds_codec.specs.Decoding.{session_at, reset_at, read_id_at, seed_at, 
 use Rattle.uds_codec.specs.Grammar.{begins, Stops, Reads}
 use Rattle.uds_codec.specs.Request.{request_of, one_byte, is_width, is_service}
 
-lt-leb : (a b : ℕ) → b < a → nat_le a b ≡ false
+pub lt-leb : (a b : ℕ) → b < a → nat_le a b ≡ false
 lt-leb a b lt = grind (arith, nat_tests)
 
-neq-eqb : (a b : ℕ) → (a ≡ b → ⊥) → (a == b) ≡ false
+pub neq-eqb : (a b : ℕ) → (a ≡ b → ⊥) → (a == b) ≡ false
 neq-eqb a b ne = grind (arith, nat_tests)
 
 bad : (s : List ℕ) (at : ℕ) → at < length s → 1 ≤ at → begins (take at s) ≡ true → begins (take (at + 1) s) ≡ false → request_of s ≡ None → Reads s (Err (BadForm at))
@@ -196,7 +196,7 @@ narrow_width n lt = let g = lt-leb 1 n lt in rw g refl
 wide_width : (n : ℕ) → 4 < n → is_width n ≡ false
 wide_width n lt = let g = lt-leb n 4 lt in let h : nat_le 1 n ≡ true = le-leb 1 n (omega (arith, lt)) in rw (h, g) refl
 
-right_width : (n : ℕ) → 1 ≤ n → n ≤ 4 → is_width n ≡ true
+pub right_width : (n : ℕ) → 1 ≤ n → n ≤ 4 → is_width n ≡ true
 right_width n ge le = let g = le-leb 1 n ge in let h = le-leb n 4 le in rw (g, h) refl
 
 first_false : (a b : Bool) → a ≡ false → (a && b) ≡ false

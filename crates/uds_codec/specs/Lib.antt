@@ -3,4 +3,5 @@ pub mod Decoding
 pub mod Form
 pub mod Grammar
 pub mod Key
+pub mod Laws
 pub mod Request

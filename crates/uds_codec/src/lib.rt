@@ -2,6 +2,7 @@
 #![tactic(auto)]
 
 
+mod laws;
 mod number;
 mod read;
 mod reading;
@@ -10,6 +11,7 @@ mod service;
 mod write;
 
 pub use reading::{decode, decode_reply};
+pub use laws::{determined, grammar, read_again, written_again};
 pub use number::{get_number, put_number};
 pub use request::{Reply, Request, UdsFault};
 pub use write::encode;
