@@ -1,12 +1,12 @@
 -- The lowest address at which another byte stands.
-use Rattle.std.proofs.Common.{zero, suc, ◌≡◌, ◌≢◌, ℕ, ◌+◌, ◌-◌, ◌<◌, ◌≤◌, ◌⊎◌, List, [], ◌∷◌, length, drop, get_or, Option, Some, None, true, false, eqb, refl, sym, ap, ◌∙◌, inl, inr, arith, length-drop}
-use Rattle.std.proofs.lemmas.Bool.{cases_lt, cases_Bool, eqb-true, eq-eqb, ne_eqb}
+use Rattle.std.proofs.Common.{zero, suc, ◌≡◌, ◌≢◌, ℕ, ◌+◌, ◌-◌, ◌<◌, ◌≤◌, List, [], ◌∷◌, length, drop, get_or, Option, Some, None, refl, sym, ap, ◌∙◌, arith}
+use Rattle.std.proofs.lemmas.Bool.{eq-eqb, ne_eqb}
 use Rattle.std.proofs.lemmas.List.{drop-drop, drop_more, drop_all}
 use Rattle.std.proofs.lemmas.Option.{none-some, same_Some, slice_get-get_or}
 use Rattle.std.specs.List.{slice_get}
 use Rattle.std.specs.FinMap.{get}
 use Rattle.span_store.specs.ByteMap.{ByteMap, clash, clash_at, Holds}
-use Rattle.span_store.specs.Extents.{Extent, end_of, IsPiece}
+use Rattle.span_store.specs.Extents.{Extent, IsPiece}
 use Rattle.span_store.specs.declared.clash.Clash.{Clash}
 
 pub clash_none : (m : ByteMap) (at : ℕ) (bs : List ℕ) → ((q : ℕ) → at ≤ q → q < at + length bs → get m q ≡ None) → clash m at bs ≡ None

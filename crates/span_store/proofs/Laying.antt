@@ -1,11 +1,11 @@
 -- Bytes laid among extents.
-use Rattle.std.proofs.Common.{zero, suc, Some, append-nil, ◌≡◌, ℕ, ◌+◌, ◌-◌, ◌<◌, ◌≤◌, List, [], ◌∷◌, ◌++◌, length, append_assoc, refl, sym, ap, ◌∙◌, subst, arith, length-append}
+use Rattle.std.proofs.Common.{Some, append-nil, ◌≡◌, ℕ, ◌+◌, ◌<◌, ◌≤◌, List, [], ◌∷◌, ◌++◌, length, append_assoc, sym, ap, ◌∙◌, subst, arith, length-append}
 use Rattle.std.specs.Ordering.{nat_cmp}
 use Rattle.std.specs.Map.{set_value, lookup}
 use Rattle.std.specs.BTreeMap.{insert_entry, is_at}
 use Rattle.span_store.specs.ByteMap.{over, top}
 use Rattle.span_store.specs.Extents.{Extent, map_of, end_of, EndBy, StartFrom, AreExtents, low, high, EndsWith}
-use Rattle.span_store.proofs.Order.{split, ascending, high_twice, high_are, low_are, high_from, low_below, back, front, front_ends, joined, whole, last_below, low-append, high-append, low_all, low_none, low_keep, low_skip, high_skip, high_none, high_all, low-insert, high-insert, set_there, lookup_there, below_ends, StartFrom_less, EndBy-append, EndBy_more, StartBelow, Ascend, StartFrom-append, StartFrom_front}
+use Rattle.span_store.proofs.Order.{split, ascending, high_twice, high_are, low_are, high_from, low_below, back, front, front_ends, joined, whole, low-append, high-append, low_all, low_none, high_none, low-insert, high-insert, set_there, lookup_there, below_ends, StartFrom_less, StartBelow, StartFrom_front}
 use Rattle.span_store.proofs.Lookups.{placed, touching}
 
 -- the extents with bytes in the place of those that start where they are

@@ -1,13 +1,13 @@
 -- What a byte map that is kept in extents has at an address.
-use Rattle.std.proofs.Common.{zero, suc, ◌≡◌, ℕ, ◌+◌, ◌-◌, ◌<◌, ◌≤◌, ◌⊎◌, List, [], ◌∷◌, ◌++◌, length, Option, Some, None, cond, eqb, refl, sym, ap, ◌∙◌, subst, inl, inr, arith}
+use Rattle.std.proofs.Common.{zero, suc, ◌≡◌, ℕ, ◌+◌, ◌-◌, ◌<◌, ◌≤◌, ◌⊎◌, List, [], ◌∷◌, ◌++◌, length, Option, Some, None, cond, eqb, refl, sym, ap, ◌∙◌, inl, inr, arith}
 use Rattle.std.proofs.lemmas.Bool.{cases_lt, eq-eqb, ne_eqb}
 use Rattle.std.specs.List.{slice_get}
 use Rattle.std.specs.Ordering.{nat_cmp}
 use Rattle.std.specs.Cmp.{nat_cmp_total, unsigned_tied}
 use Rattle.std.specs.FinMap.{get, get-insert, get-empty, same_map, nat_cmp-IsAntisymmetric}
 use Rattle.span_store.specs.ByteMap.{ByteMap, over, Holds}
-use Rattle.span_store.specs.Extents.{Extent, map_of, end_of, EndBy, StartFrom, AreExtents}
-use Rattle.span_store.proofs.Order.{back, front_ends}
+use Rattle.span_store.specs.Extents.{Extent, map_of, EndBy, StartFrom, AreExtents}
+use Rattle.span_store.proofs.Order.{front_ends}
 
 -- what bytes from an address on have at q, or else r
 abbrev pub reads : ℕ → List ℕ → ℕ → Option ℕ → Option ℕ

@@ -1,7 +1,7 @@
 -- Parts of byte maps.
-use Rattle.std.proofs.Common.{zero, suc, ◌≡◌, ℕ, ◌+◌, ◌-◌, ◌<◌, ◌≤◌, ◌⊎◌, ◌&&◌, Bool, true, false, cond, List, [], ◌∷◌, ◌++◌, length, take, Option, Some, None, refl, sym, ap, ◌∙◌, subst, inl, inr, arith, length-take, length-append, min}
+use Rattle.std.proofs.Common.{zero, suc, ◌≡◌, ℕ, ◌+◌, ◌-◌, ◌<◌, ◌≤◌, ◌⊎◌, ◌&&◌, true, false, cond, List, [], ◌∷◌, ◌++◌, length, take, Option, None, refl, sym, ap, ◌∙◌, inl, inr, arith, length-take, length-append, min}
 use Rattle.std.proofs.lemmas.Bool.{cases_lt, le-leb, lt-leb, lt-ltb, le-ltb, false≢true}
-use Rattle.std.proofs.lemmas.Option.{none-some, slice_get-get_or}
+use Rattle.std.proofs.lemmas.Option.{slice_get-get_or}
 use Rattle.std.specs.List.{slice_get}
 use Rattle.std.specs.Prelude.{IsSome, nat_le, nat_lt}
 use Rattle.std.specs.Option.{is_some}
@@ -9,8 +9,8 @@ use Rattle.std.specs.Ordering.{nat_cmp}
 use Rattle.std.specs.Cmp.{nat_cmp_total}
 use Rattle.std.specs.FinMap.{get, empty, get-empty, get-retain_keys, same_map, nat_cmp-IsAntisymmetric}
 use Rattle.span_store.specs.ByteMap.{ByteMap, over, part, top, Holds}
-use Rattle.span_store.specs.Extents.{Extent, map_of, end_of, EndBy, AreExtents}
-use Rattle.span_store.proofs.Lookups.{get-over, get-map_of, byte_in_below, reads_before, reads_after, reads_hit, reads_other, cases_in}
+use Rattle.span_store.specs.Extents.{Extent, map_of, EndBy, AreExtents}
+use Rattle.span_store.proofs.Lookups.{get-over, get-map_of, byte_in_below, reads_hit, reads_other, cases_in}
 use Rattle.span_store.proofs.Settled.{slice_get-take}
 
 -- ------ nothing is at the top or above

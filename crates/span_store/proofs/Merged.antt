@@ -1,18 +1,17 @@
 -- Maximal runs, counted over extents.
-use Rattle.std.proofs.Common.{zero, suc, ◌≡◌, ℕ, ◌+◌, ◌-◌, ◌<◌, ◌≤◌, ◌⊎◌, Bool, true, false, cond, eqb, List, [], ◌∷◌, ◌++◌, length, Option, Some, None, refl, sym, ap, ◌∙◌, subst, inl, inr, arith, append_assoc}
-use Rattle.std.proofs.lemmas.Bool.{cases_lt, cases_Bool, eq-eqb, ne_eqb, eqb-true, false≢true}
+use Rattle.std.proofs.Common.{zero, suc, ◌≡◌, ℕ, ◌+◌, ◌-◌, ◌<◌, ◌≤◌, false, cond, eqb, List, [], ◌∷◌, ◌++◌, length, Some, refl, sym, ap, ◌∙◌, subst, inl, inr, arith, append_assoc}
+use Rattle.std.proofs.lemmas.Bool.{cases_Bool, eq-eqb, ne_eqb, eqb-true, false≢true}
 use Rattle.std.proofs.lemmas.Option.{none-some}
 use Rattle.std.specs.Ordering.{nat_cmp}
 use Rattle.std.specs.declared.cmp.Ordering.TheVariants.{Less}
 use Rattle.std.specs.Cmp.{nat_cmp_total, nat_cmp_is}
-use Rattle.std.specs.FinMap.{entries, entries-insert, empty, insert, put, len, len-entries, len-empty}
+use Rattle.std.specs.FinMap.{entries, entries-insert, put, len-entries, len-empty}
 use Rattle.std.specs.FinMap.Entries.{by_order}
 use Rattle.std.specs.List.{slice_get}
-use Rattle.std.specs.Prelude.{nat_eq}
 use Rattle.span_store.specs.ByteMap.{ByteMap, over, top}
-use Rattle.span_store.specs.Extents.{Extent, map_of, end_of, EndBy, StartFrom, AreExtents, low, high}
+use Rattle.span_store.specs.Extents.{Extent, map_of, end_of, StartFrom, AreExtents, low, high}
 use Rattle.span_store.specs.Runs.{before_runs, runs_of, runs}
-use Rattle.span_store.proofs.Order.{split, ascending, low_are, back, front, front_ends, high_cut, EndBy-append, EndBy_more, high_all, high_are, high_from}
+use Rattle.span_store.proofs.Order.{split, ascending, back, front, front_ends, high_cut, EndBy-append, EndBy_more, high_all, high_are, high_from}
 
 abbrev pairs : ℕ → List ℕ → List (ℕ × ℕ)
 pairs at [] = []

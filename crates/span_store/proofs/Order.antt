@@ -1,5 +1,5 @@
 -- Extents below an address and from it on.
-use Rattle.std.proofs.Common.{◌&&◌, append_assoc, zero, suc, ◌≡◌, ℕ, ◌+◌, ◌-◌, ◌<◌, ◌≤◌, ◌⊎◌, Bool, not, List, [], ◌∷◌, ◌++◌, length, Option, Some, None, cond, true, false, append-nil, refl, sym, ap, ◌∙◌, subst, inl, inr, arith}
+use Rattle.std.proofs.Common.{◌&&◌, append_assoc, suc, ◌≡◌, ℕ, ◌+◌, ◌<◌, ◌≤◌, ◌⊎◌, not, List, [], ◌∷◌, ◌++◌, length, Some, cond, true, false, append-nil, refl, sym, ap, ◌∙◌, subst, inl, inr, arith}
 use Rattle.std.proofs.lemmas.Bool.{cases_lt}
 use Rattle.std.specs.List.Sorted.{IsStrictlySortedBy}
 use Rattle.std.specs.List.{AllByRecursion}
@@ -10,9 +10,8 @@ use Rattle.std.specs.Map.{keys_of, lookup, set_value, remove_entry}
 use Rattle.std.specs.BTreeMap.{insert_entry, is_at}
 use Rattle.std.specs.BTreeMap.Range.{entries_between}
 use Rattle.std.specs.declared.ops.Bound.TheVariants.{Included, Excluded}
-use Rattle.std.specs.List.{filter}
 use Rattle.std.proofs.lemmas.List.Elements.{filter-append}
-use Rattle.span_store.specs.Extents.{Extent, map_of, end_of, EndBy, StartFrom, AreExtents, low, high, EndsWith}
+use Rattle.span_store.specs.Extents.{Extent, end_of, EndBy, StartFrom, AreExtents, low, high, EndsWith}
 
 -- each starts above an address
 abbrev pub StartAfter : ℕ → List Extent → Type 0

@@ -3,13 +3,13 @@ use Rattle.std.proofs.Common.{MatchOption, append-nil, zero, suc, ◌≡◌, ℕ
 use Rattle.std.specs.Option.{option_map}
 use Rattle.std.specs.List.{slice_get}
 use Rattle.std.specs.FinMap.{get}
-use Rattle.span_store.specs.ByteMap.{ByteMap, over, Holds, top}
+use Rattle.span_store.specs.ByteMap.{top}
 use Rattle.span_store.specs.Extents.{Extent, map_of, end_of, EndBy, StartFrom, AreExtents, low, high, EndsWith, StartsWith, IsPiece}
 use Rattle.span_store.proofs.Order.{back, front, front_ends, StartFrom_less, EndBy-append, EndBy_more, whole, last_below, high_from, low_cut, low-append, low_keep}
 use Rattle.std.proofs.lemmas.Bool.{cases_lt}
 use Rattle.std.proofs.lemmas.Option.{slice_get-get_or}
 use Rattle.std.specs.Prelude.{IsSome}
-use Rattle.span_store.proofs.Lookups.{held, bare, get-map_of, byte_in_below, byte_in}
+use Rattle.span_store.proofs.Lookups.{held, bare, get-map_of, byte_in_below}
 
 pub slice_get-drop : (bs : List ℕ) (n k : ℕ) → slice_get (drop n bs) k ≡ slice_get bs (n + k)
 slice_get-drop bs zero k = let e : k ≡ 0 + k = omega arith in ap (slice_get bs) e

@@ -1,5 +1,5 @@
 -- Bytes of which some stand already.
-use Rattle.std.proofs.Common.{zero, suc, min, ◌≡◌, ℕ, ◌+◌, ◌-◌, ◌<◌, ◌≤◌, ◌⊎◌, List, [], ◌∷◌, ◌++◌, length, take, drop, get_or, Option, Some, None, eqb, refl, sym, ap, ◌∙◌, subst, inl, inr, arith, length-take, length-drop}
+use Rattle.std.proofs.Common.{zero, suc, min, ◌≡◌, ℕ, ◌+◌, ◌-◌, ◌<◌, ◌≤◌, List, [], ◌∷◌, ◌++◌, length, take, drop, get_or, Option, Some, None, eqb, refl, sym, ap, ◌∙◌, subst, inl, inr, arith, length-take, length-drop}
 use Rattle.std.proofs.lemmas.Bool.{cases_lt, cases_Bool, eqb-true, false≢true}
 use Rattle.std.proofs.lemmas.Option.{none-some, same_Some, slice_get-get_or}
 use Rattle.std.specs.List.{slice_get}
@@ -10,7 +10,7 @@ use Rattle.span_store.specs.ByteMap.{ByteMap, over, clash, clash_at, top}
 use Rattle.span_store.specs.Extents.{Extent, map_of, end_of, EndBy, AreExtents, low, high}
 use Rattle.span_store.specs.declared.clash.Clash.{Clash}
 use Rattle.span_store.proofs.Order.{split, ascending, EndBy_more, EndBy-append, front_ends, back, EndBy_front}
-use Rattle.span_store.proofs.Lookups.{reads, get-over, get-map_of, byte_in_below, reads_before, reads_after, reads_hit, reads_other, cases_in}
+use Rattle.span_store.proofs.Lookups.{get-over, get-map_of, byte_in_below, reads_before, reads_after, reads_hit, reads_other, cases_in}
 use Rattle.span_store.proofs.Pieces.{slice_get-drop}
 use Rattle.span_store.proofs.Clashes.{clash_none}
 

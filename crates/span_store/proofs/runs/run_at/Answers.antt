@@ -1,7 +1,6 @@
-use Rattle.std.proofs.Common.{◌≡◌, ◌+◌, ◌-◌, ◌<◌, ◌≤◌, ◌∙◌, ◌∷◌, [], suc, ℕ, List, Some, length, sym, ap, arith}
+use Rattle.std.proofs.Common.{◌≡◌, ◌+◌, ◌-◌, ◌∙◌, ◌∷◌, suc, List, length, sym, ap, arith}
 use Rattle.std.specs.List.{slice_get}
-use Rattle.span_store.specs.Extents.{Extent, map_of, end_of, high}
-use Rattle.span_store.specs.Runs.{runs}
+use Rattle.span_store.specs.Extents.{Extent, end_of}
 use Rattle.span_store.proofs.Merged.{merged, runs_from, runs-merged, next_is, no_runs, run_first, run_longer, run_next, run_last, only_one}
 use Rattle.span_store.proofs.runs.run_at.Goals as goal
 use Rattle.span_store.proofs.runs.run_at.Goals.{then-start-end+else-seen-i, else-start-end}

@@ -1,4 +1,4 @@
-use Rattle.std.proofs.Common.{◌≡◌, ◌+◌, ◌-◌, ◌<◌, ◌≤◌, length}
+use Rattle.std.proofs.Common.{◌≡◌, ◌-◌, ◌≤◌}
 use Rattle.std.specs.List.{slice_get}
 use Rattle.span_store.specs.ByteMap.{top}
 use Rattle.span_store.proofs.Merged.{merged, runs_from}

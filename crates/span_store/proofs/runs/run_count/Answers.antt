@@ -1,8 +1,8 @@
-use Rattle.std.proofs.Common.{◌≡◌, ◌+◌, ◌∙◌, ◌∷◌, ℕ, List, length, sym, ap, arith}
+use Rattle.std.proofs.Common.{◌≡◌, ◌+◌, ◌∙◌, ◌∷◌, List, length, sym, ap, arith}
 use Rattle.span_store.specs.Extents.{Extent, end_of, high}
 use Rattle.span_store.proofs.Merged.{merged, tally, tally_joined, tally_apart, length-merged, runs-merged, high_next, high_zero, next_is, no_runs}
 use Rattle.span_store.proofs.runs.run_count.Goals as goal
-use Rattle.span_store.proofs.runs.run_count.Goals.{then-start-end, else-start-end}
+use Rattle.span_store.proofs.runs.run_count.Goals.{then-end-start, else-end-start}
 
 pub returns-in_default : goal.returns-in_default
 returns-in_default c = sym (no_runs c.args.store.now.entries c.requires c.in_default.ensures.first)
@@ -53,16 +53,16 @@ loop-start-preserved c =
     let known = c.loop-start.invariant.counted in
     let rest : tally (end_of e) (high (end_of e) es) ≡ tally (end_of e) w.0 = ap (tally (end_of e)) (high_next es c.loop-start.end e w.0 c.requires w.1) in
     let head : tally c.loop-start.end (high c.loop-start.end es) ≡ tally c.loop-start.end (e ∷ w.0) = ap (tally c.loop-start.end) w.1 in
-    elim c.if-start-end.branch [
-      | then-start-end t ↦ record {
+    elim c.if-end-start.branch [
+      | then-end-start t ↦ record {
         within = n.2;
         small = (let s = c.loop-start.invariant.small in let is = t.count-is in omega arith);
-        counted = (let is = t.count-is in let one = tally_apart c.loop-start.end e w.0 t.if-start-end.true in omega (arith, known, rest, head, one, is));
+        counted = (let is = t.count-is in let one = tally_apart c.loop-start.end e w.0 (λ is. t.if-end-start.true (sym is)) in omega (arith, known, rest, head, one, is));
       }
-      | else-start-end t ↦ record {
+      | else-end-start t ↦ record {
         within = n.2;
         small = (let s = c.loop-start.invariant.small in let is = t.count-is in omega arith);
-        counted = (let is = t.count-is in let one = tally_joined c.loop-start.end e w.0 t.if-start-end.false in omega (arith, known, rest, head, one, is));
+        counted = (let is = t.count-is in let one = tally_joined c.loop-start.end e w.0 (sym t.if-end-start.false) in omega (arith, known, rest, head, one, is));
       }
     ]
 

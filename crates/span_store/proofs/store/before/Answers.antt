@@ -1,4 +1,4 @@
-use Rattle.std.proofs.Common.{rules, ◌∷◌, ◌++◌, [], sym, ◌∙◌, ap, arith}
+use Rattle.std.proofs.Common.{◌∷◌, ◌++◌, [], sym, ◌∙◌, ap}
 use Rattle.span_store.proofs.Order.{split, ascend}
 use Rattle.span_store.proofs.store.before.Goals as goal
 

@@ -1,4 +1,4 @@
-use Rattle.std.proofs.Common.{length, ◌-◌, ◌≡◌, ℕ, ◌<◌, ◌≤◌, slice_get}
+use Rattle.std.proofs.Common.{length, ◌-◌, ◌≡◌, ℕ, ◌<◌, slice_get}
 use Rattle.span_store.proofs.store.difference.Given as goal
 
 abbrev pub invariant-loop-k : goal.invariant-loop-k

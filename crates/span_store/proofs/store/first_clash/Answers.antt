@@ -1,6 +1,5 @@
-use Rattle.std.proofs.Common.{◌≡◌, ◌+◌, ◌-◌, ◌<◌, ◌≤◌, ◌∙◌, ℕ, length, drop, take, get_or, Some, sym, ap, arith, subst}
+use Rattle.std.proofs.Common.{◌-◌, ◌≤◌, length, sym, arith}
 use Rattle.std.proofs.lemmas.List.{take_rest}
-use Rattle.span_store.specs.ByteMap.{clash}
 use Rattle.span_store.specs.Extents.{map_of, Extent}
 use Rattle.span_store.proofs.Clashes.{past_gap_at, past_piece_at, past_end, none_left, found_at}
 use Rattle.span_store.proofs.store.first_clash.Goals as goal

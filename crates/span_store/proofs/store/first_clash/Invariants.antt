@@ -1,4 +1,4 @@
-use Rattle.std.proofs.Common.{◌≡◌, ◌+◌, ◌-◌, ◌≤◌, length, drop}
+use Rattle.std.proofs.Common.{◌≡◌, ◌-◌, ◌≤◌, drop}
 use Rattle.span_store.specs.ByteMap.{clash, top}
 use Rattle.span_store.specs.Extents.{map_of}
 use Rattle.span_store.proofs.store.first_clash.Given as goal

@@ -1,5 +1,4 @@
-use Rattle.std.proofs.Common.{◌≡◌, ◌+◌, ◌<◌, ◌≤◌, ◌⊎◌, inl, inr, ℕ, length, arith}
-use Rattle.span_store.specs.Extents.{Extent, end_of}
+use Rattle.std.proofs.Common.{◌+◌, inl, inr, length, arith}
 use Rattle.span_store.proofs.Order.{last_below}
 use Rattle.span_store.proofs.Pieces.{last_fits, last_covers, ends_behind, ends_none}
 use Rattle.span_store.proofs.store.free_from.Goals as goal

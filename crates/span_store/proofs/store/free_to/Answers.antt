@@ -1,6 +1,6 @@
-use Rattle.std.proofs.Common.{◌≡◌, ◌+◌, ◌<◌, ◌≤◌, ◌⊎◌, inl, inr, ℕ, length, arith}
+use Rattle.std.proofs.Common.{inl, arith}
 use Rattle.span_store.proofs.Order.{last_below}
-use Rattle.span_store.proofs.Pieces.{last_fits, last_covers, ends_behind, ends_start, ends_none, not_over}
+use Rattle.span_store.proofs.Pieces.{last_fits, last_covers, ends_behind, ends_start, not_over}
 use Rattle.span_store.proofs.store.free_to.Goals as goal
 
 pub overflow_add-end : goal.overflow_add-end

@@ -1,4 +1,4 @@
-use Rattle.std.proofs.Common.{◌≡◌, ◌+◌, ◌-◌, ◌<◌, ◌≤◌, ◌∙◌, inl, inr, length, arith, ℕ, ap, take, drop, Result, Ok, Err, OnOk}
+use Rattle.std.proofs.Common.{◌≡◌, ◌-◌, ◌≤◌, ◌∙◌, inl, inr, arith, ℕ, ap, take, drop, Result, Ok, Err, OnOk}
 use Rattle.std.proofs.lemmas.Bool.{cases_lt}
 use Rattle.span_store.specs.ByteMap.{ByteMap, over}
 use Rattle.span_store.specs.Extents.{map_of}

@@ -1,6 +1,6 @@
-use Rattle.std.proofs.Common.{◌-◌, ◌+◌, ◌≡◌, Some, length, take, drop, sym, arith, subst}
+use Rattle.std.proofs.Common.{◌-◌, ◌+◌, Some, sym, arith, subst}
 use Rattle.std.proofs.lemmas.List.{take_rest}
-use Rattle.span_store.specs.Extents.{map_of, IsPiece, EndBy, end_of, low, high}
+use Rattle.span_store.specs.Extents.{map_of, IsPiece, EndBy, low, high}
 use Rattle.span_store.proofs.Order.{last_below, high_from}
 use Rattle.span_store.proofs.Pieces.{piece_in, piece_after, ends_before}
 use Rattle.span_store.proofs.Maps.{beyond}

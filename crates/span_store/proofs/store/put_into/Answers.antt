@@ -1,4 +1,4 @@
-use Rattle.std.proofs.Common.{◌+◌, ◌≤◌, length, refl, arith}
+use Rattle.std.proofs.Common.{◌+◌, length, refl, arith}
 use Rattle.span_store.proofs.Order.{EndBy_more}
 use Rattle.span_store.proofs.Settled.{EndBy_low, behind_free}
 use Rattle.span_store.proofs.store.put_into.Goals as goal

@@ -1,4 +1,4 @@
-use Rattle.std.proofs.Common.{◌≡◌, ◌+◌, length, arith}
+use Rattle.std.proofs.Common.{arith}
 use Rattle.span_store.proofs.Pieces.{last_fits}
 use Rattle.span_store.proofs.Laying.{found_there}
 use Rattle.span_store.proofs.store.touched.Goals as goal

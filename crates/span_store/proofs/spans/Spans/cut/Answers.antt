@@ -1,4 +1,4 @@
-use Rattle.std.proofs.Common.{◌≡◌, ◌<◌, ◌≤◌, ◌+◌, ◌-◌, ◌∙◌, ℕ, List, min, length, take, inl, inr, arith, sym, ap, subst, length-take}
+use Rattle.std.proofs.Common.{◌≡◌, ◌≤◌, ◌+◌, ◌-◌, ◌∙◌, min, length, take, arith, sym, ap, subst, length-take}
 use Rattle.span_store.specs.ByteMap.{Holds, part, over}
 use Rattle.span_store.proofs.Maps.{part_none, part_same, part_more, held_first}
 use Rattle.span_store.proofs.spans.Spans.cut.Goals as goal

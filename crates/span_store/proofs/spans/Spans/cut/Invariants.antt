@@ -1,5 +1,5 @@
-use Rattle.std.proofs.Common.{◌≡◌, ◌+◌, ◌-◌, ℕ, ◌<◌, ◌≤◌}
-use Rattle.span_store.specs.ByteMap.{top, part}
+use Rattle.std.proofs.Common.{◌≡◌, ◌+◌, ◌-◌, ◌≤◌}
+use Rattle.span_store.specs.ByteMap.{part}
 use Rattle.span_store.proofs.spans.Spans.cut.Given as goal
 
 abbrev pub invariant-loop-here : goal.invariant-loop-here

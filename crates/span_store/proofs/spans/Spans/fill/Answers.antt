@@ -1,4 +1,4 @@
-use Rattle.std.proofs.Common.{◌≡◌, ◌<◌, ◌≤◌, ◌+◌, ◌-◌, ◌++◌, ℕ, List, min, length, take, inl, inr, arith, sym, subst, length-take}
+use Rattle.std.proofs.Common.{◌≡◌, ◌≤◌, ◌+◌, ◌-◌, ℕ, min, length, take, inl, inr, arith, sym, subst, length-take}
 use Rattle.std.proofs.lemmas.Bool.{cases_lt}
 use Rattle.span_store.specs.ByteMap.{Holds}
 use Rattle.span_store.proofs.Maps.{held_first, held-append}

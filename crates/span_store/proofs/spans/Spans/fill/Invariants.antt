@@ -1,4 +1,4 @@
-use Rattle.std.proofs.Common.{◌+◌, ◌-◌, ℕ, ◌<◌, ◌≤◌, length, take}
+use Rattle.std.proofs.Common.{◌-◌, ◌≤◌, length, take}
 use Rattle.span_store.specs.ByteMap.{Holds}
 use Rattle.span_store.proofs.spans.Spans.fill.Given as goal
 

@@ -1,4 +1,4 @@
-use Rattle.std.proofs.Common.{◌≡◌, ◌<◌, ◌≤◌, ◌+◌, length, inl, inr, arith, sym, subst}
+use Rattle.std.proofs.Common.{◌≡◌, inl, inr, arith, subst}
 use Rattle.std.proofs.lemmas.Bool.{cases_lt}
 use Rattle.span_store.specs.ByteMap.{Holds}
 use Rattle.span_store.proofs.Maps.{held_some}

@@ -1,4 +1,4 @@
-use Rattle.std.proofs.Common.{◌+◌, ◌-◌, ℕ, ◌<◌, ◌≤◌}
+use Rattle.std.proofs.Common.{◌-◌, ℕ, ◌<◌, ◌≤◌}
 use Rattle.std.specs.Prelude.{IsSome}
 use Rattle.std.specs.FinMap.{get}
 use Rattle.span_store.specs.ByteMap.{top}

@@ -1,5 +1,4 @@
-use Rattle.std.proofs.Common.{◌+◌, ◌-◌, ℕ, ◌<◌, ◌≤◌}
-use Rattle.std.specs.FinMap.{get}
+use Rattle.std.proofs.Common.{◌-◌, ℕ, ◌<◌, ◌≤◌}
 use Rattle.span_store.specs.ByteMap.{top}
 use Rattle.span_store.specs.Lowest.{IsShared}
 use Rattle.span_store.proofs.spans.Spans.overlap.Given as goal

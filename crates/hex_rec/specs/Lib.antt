@@ -1,0 +1,4 @@
+pub mod Base
+pub mod HexText
+pub mod Reading
+pub mod Record
