@@ -7,3 +7,6 @@ mod reading;
 
 pub use reading::{read, shape_law};
 pub use rec_text::RecFault;
+
+#[cfg(test)]
+mod tests;
