@@ -24,7 +24,7 @@ held_more m at n b line l held is =
     let here : at + length (take n line) ≡ at + n = omega arith in
     subst (Holds m at) (sym (take_more_set line n b l)) (held-append m at (take n line) (b ∷ []) held (held_one m (at + length (take n line)) b (ap (get m) here ∙ is)))
 
-pub cut_here : (room : ℕ) (m : ByteMap) (at n : ℕ) (line : List ℕ) → length line ≡ 16 → 0 < n → n ≤ 16 → n ≤ room → (n ≡ 16) ⊎ ((n ≡ room) ⊎ (get m (at + n) ≡ None)) → IsCut room m (at, take n line)
+pub cut_here : (room : ℕ) (m : ByteMap) (at n : ℕ) (line : List ℕ) → n ≤ length line → 0 < n → n ≤ 16 → n ≤ room → (n ≡ 16) ⊎ ((n ≡ room) ⊎ (get m (at + n) ≡ None)) → IsCut room m (at, take n line)
 cut_here room m at n line long some short inside full =
     let size : length (take n line) ≡ min n (length line) = length-take n line in
     let same : length (take n line) ≡ n = omega arith in

@@ -1,4 +1,4 @@
-ghost use Rattle.std.specs.Prelude.{◌≡◌, ◌+◌, ◌^◌, ◌≤◌, ◌<◌, take, IsSome};
+ghost use Rattle.std.specs.Prelude.{◌≡◌, ◌+◌, ◌^◌, ◌≤◌, ◌<◌, length, take, IsSome};
 ghost use Rattle.std.specs.FinMap as map;
 ghost use Rattle.span_store.specs.ByteMap.{Holds};
 ghost use Rattle.rec_text.specs.Cutting.{IsCut};
@@ -16,6 +16,7 @@ pub fn cut_front(spans: &Spans, at: u64, room: u64, line: &mut [u8; DATA]) -> us
     requires first { IsSome (map.get spans.now at) }
     ensures small { result ≤ 16 }
     ensures within { at + result ≤ 2 ^ 32 }
+    ensures size { length (take result line.new) ≡ result }
     ensures cut { IsCut room spans.now (at, take result line.new) }
     ensures holds { Holds spans.now at (take result line.new) }
 {

@@ -1,6 +1,7 @@
 use Rattle.std.proofs.Common.{◌≡◌, ◌+◌, ◌-◌, ◌^◌, ◌<◌, ◌≤◌, ◌⊎◌, ◌∙◌, ℕ, length, take, min, Some, None, sym, inl, inr, arith}
 use Rattle.std.proofs.lemmas.Bool.{cases_lt}
 use Rattle.std.proofs.lemmas.Option.{none-some}
+use Rattle.std.proofs.Common.{length-set}
 use Rattle.span_store.specs.ByteMap.{top}
 use Rattle.rec_text.proofs.Cuts.{held_more, cut_here, some_here}
 use Rattle.rec_text.proofs.cutting.cut_front.Goals as goal
@@ -10,7 +11,7 @@ returns-in_default-clause-cut c =
     let none = sym c.in_default.ensures.value in
     let most = c.min-most.ensures in
     let small = c.loop-n.invariant.small in
-    cut_here c.args.room c.args.spans.now c.args.at c.loop-n.n c.loop-n.line (omega arith) (some_here c.args.spans.now c.args.at c.loop-n.n c.requires.first none) (omega arith) (omega arith) (inr (inr none))
+    cut_here c.args.room c.args.spans.now c.args.at c.loop-n.n c.loop-n.line c.loop-n.invariant.stored (some_here c.args.spans.now c.args.at c.loop-n.n c.requires.first none) (omega arith) (omega arith) (inr (inr none))
 
 pub loop-n-preserved : goal.loop-n-preserved
 loop-n-preserved c =
@@ -21,6 +22,7 @@ loop-n-preserved c =
     ] in
     record {
       small = omega arith;
+      stored = (let size = length-set c.loop-n.line c.loop-n.n c.in-Some.b in omega arith);
       within = omega arith;
       held = held_more c.args.spans.now c.args.at c.loop-n.n c.in-Some.b c.loop-n.line (omega arith) c.loop-n.invariant.held (sym c.in-Some.ensures.value);
     }
@@ -35,5 +37,5 @@ returns-clause-cut c =
       | inl l ↦ inr (omega arith)
       | inr l ↦ inl (omega arith)
     ] in
-    cut_here c.args.room c.args.spans.now c.args.at c.loop-n.n c.loop-n.line (omega arith) (omega arith) (omega arith) (omega arith)
+    cut_here c.args.room c.args.spans.now c.args.at c.loop-n.n c.loop-n.line c.loop-n.invariant.stored (omega arith) (omega arith) (omega arith)
     (elim which [ inl a ↦ inl a | inr b ↦ inr (inl b) ])
