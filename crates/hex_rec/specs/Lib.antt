@@ -2,3 +2,4 @@ pub mod Base
 pub mod HexText
 pub mod Reading
 pub mod Record
+pub mod Writing

@@ -4,9 +4,11 @@
 mod base;
 mod line;
 mod reading;
+mod writing;
 
 pub use reading::{read, shape_law};
 pub use rec_text::RecFault;
+pub use writing::write;
 
 #[cfg(test)]
 mod tests;

@@ -3,9 +3,11 @@
 
 mod line;
 mod reading;
+mod writing;
 
 pub use reading::read;
 pub use rec_text::RecFault;
+pub use writing::write;
 
 #[cfg(test)]
 mod tests;
