@@ -1,7 +1,11 @@
 pub mod Alike
 pub mod Answers
 pub mod Finals
+pub mod Gateway
+pub mod Hearing
 pub mod Ranges
+pub mod Replies
+pub mod Sends
 pub mod States
 pub mod Whole
 pub mod Words
