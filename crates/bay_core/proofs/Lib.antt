@@ -3,6 +3,8 @@ pub mod Joined
 pub mod Links
 pub mod Recorded
 pub mod Sane
+pub mod Slots
 pub mod Sounds
 pub mod Talks
+pub mod Ticking
 pub mod Ticks
