@@ -1,6 +1,7 @@
 pub mod Allowed
 pub mod Joined
 pub mod Links
+pub mod Piecing
 pub mod Recorded
 pub mod Sane
 pub mod Slots
