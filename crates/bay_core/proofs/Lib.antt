@@ -1,4 +1,5 @@
 pub mod Allowed
+pub mod Collecting
 pub mod Joined
 pub mod Links
 pub mod Piecing
@@ -6,6 +7,7 @@ pub mod Recorded
 pub mod Sane
 pub mod Slots
 pub mod Sounds
+pub mod Takes
 pub mod Talks
 pub mod Ticking
 pub mod Ticks
