@@ -9,5 +9,6 @@ pub mod Slots
 pub mod Sounds
 pub mod Takes
 pub mod Talks
+pub mod Tending
 pub mod Ticking
 pub mod Ticks
