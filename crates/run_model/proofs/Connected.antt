@@ -56,10 +56,10 @@ told tester f l l2 v v2 c s k up got rest phase =
     (subst (λ (p : Phase). IsByPhase tester p l2 v2.gateway) (sym phase) (up_phase tester l.phase l l2 v.gateway v2.gateway up c.phase kept.active))
 
 -- the activation request
-abbrev FreshParts : Link → Gateway → Type 0
+abbrev pub FreshParts : Link → Gateway → Type 0
 FreshParts l g = (g.active ≡ None) × (g.ready ≡ []) × (g.later ≡ []) × (g.held ≡ []) × (l.got ≡ []) × (l.rest ≡ []) × (l.inbox ≡ [])
 
-fresh_parts : (tester : ℕ) (p : Phase) (l : Link) (g : Gateway) → is_fresh p ≡ true → IsByPhase tester p l g → FreshParts l g
+pub fresh_parts : (tester : ℕ) (p : Phase) (l : Link) (g : Gateway) → is_fresh p ≡ true → IsByPhase tester p l g → FreshParts l g
 fresh_parts tester Down l g is by = absurd (false≢true is)
 fresh_parts tester Fresh l g is by = by
 fresh_parts tester Waits l g is by = absurd (false≢true is)

@@ -16,7 +16,7 @@ use Rattle.run_model.specs.Ways.{Spoken, Reply, Unheard, words_from, word_in, wo
 
 module _ (tester : ℕ) (units : List ℕ) (a : ℕ) (known : is_known units a ≡ true) where
   -- a message of a unit of the plan is kept where it is for the tester
-  kept : (source target : ℕ) (word : Spoken) (l : Link) → words_from a (keep_word (target == tester && is_known units source) source word l).inbox ≡ words_from a l.inbox ++ (if target == tester && source == a then word ∷ [] else [])
+  pub kept : (source target : ℕ) (word : Spoken) (l : Link) → words_from a (keep_word (target == tester && is_known units source) source word l).inbox ≡ words_from a l.inbox ++ (if target == tester && source == a then word ∷ [] else [])
   kept source target word l = elim (cases_Bool (target == tester)) [
     | inr e ↦ rw e (sym (append-nil (words_from a l.inbox)))
     | inl e ↦ elim (cases_Bool (source == a)) [

@@ -1,5 +1,3 @@
 pub mod Feeding
-pub mod Maps
-pub mod Parts
 pub mod Steps
 pub mod Units

@@ -1,0 +1,14 @@
+pub mod Allowed
+pub mod Collecting
+pub mod Joined
+pub mod Links
+pub mod Piecing
+pub mod Recorded
+pub mod Sane
+pub mod Slots
+pub mod Sounds
+pub mod Takes
+pub mod Talks
+pub mod Tending
+pub mod Ticking
+pub mod Ticks
