@@ -1,5 +1,5 @@
 //! What is run.
-ghost use Rattle.std.specs.Prelude.{◌≤◌};
+ghost use Rattle.std.specs.Prelude.{◌≡◌, ◌*◌, ◌/◌, ◌≤◌};
 
 /// `workers` threads take the log `turns` times each, and read `block` bytes while they hold it.
 #[derive(Clone, Copy)]
@@ -14,7 +14,10 @@ pub struct Case {
 
 impl Case {
     /// The same with a hundredth of the turns.
-    pub fn shortened(&self) -> Case {
+    pub fn shortened(&self) -> Case
+        ensures turns { result.turns ≡ self.now.turns / 100 }
+        ensures same { (result.workers ≡ self.now.workers) × (result.block ≡ self.now.block) }
+    {
         Case {
             workers: self.workers,
             turns: self.turns / 100,
@@ -22,7 +25,10 @@ impl Case {
         }
     }
 
-    pub fn entries(&self) -> u64 {
+    /// How many entries the log has afterwards.
+    pub fn entries(&self) -> u64
+        ensures { result ≡ self.now.workers * self.now.turns }
+    {
         self.workers * self.turns
     }
 }

@@ -1,12 +1,12 @@
 //! Runs of a case, and what is printed of them.
 use crate::case::Case;
-use crate::entries::Entries;
 use crate::{by_mutex, by_turn};
 use std::alloc::{AllocError, Global};
 use std::io;
 use std::sync::Wait;
 use std::thread::Threads;
 use std::time::{Clock, Instant};
+use turn_lock::Logged;
 
 const ROUNDS: usize = 7;
 
@@ -18,7 +18,7 @@ pub fn count<R: Threads + Wait + Sync + Print + Alloc<A = Global>>(
     let turn = by_turn::run(rt, rt.alloc(), case)?;
     let mutex = by_mutex::run(rt, rt.alloc(), case)?;
     let (workers, block) = (case.workers, case.block);
-    let (turn, mutex) = (turn.numbers.len(), mutex.numbers.len());
+    let (turn, mutex) = (turn.count(), mutex.count());
     println!(rt; "workers {workers} block {block} entries {turn} by turn, {mutex} by mutex")?;
     Ok(())
 }
