@@ -8,6 +8,9 @@ mod laws;
 mod payload;
 mod write;
 
+#[cfg(test)]
+mod tests;
+
 pub use deframer::{Deframer, Fed};
 pub use frame::{Bad, Frame, Frames};
 pub use laws::{any_pieces, ignores_reserved, only_one, read_again};
