@@ -6,10 +6,9 @@ mod deframer;
 mod frame;
 mod laws;
 mod payload;
-mod write;
-
 #[cfg(test)]
 mod tests;
+mod write;
 
 pub use deframer::{Deframer, Fed};
 pub use frame::{Bad, Frame, Frames};

@@ -127,7 +127,12 @@ fn byte_by_byte(rt: HostRuntime) -> Result<(), Fail> {
         kind: 0,
         oem: None,
     };
-    is_written(&rt, alloc, &ask, b"\x03\xfc\x00\x05\x00\x00\x00\x07\x0e\x80\x00\x00\x00\x00\x00")?;
+    is_written(
+        &rt,
+        alloc,
+        &ask,
+        b"\x03\xfc\x00\x05\x00\x00\x00\x07\x0e\x80\x00\x00\x00\x00\x00",
+    )?;
     let answer: &[u8] = b"\x03\xfc\x00\x06\x00\x00\x00\x09\x0e\x80\x40\x00\x10\x00\x00\x00\x00";
     let wanted = Frame::Activated {
         tester: 0x0e80,
@@ -191,7 +196,15 @@ fn lengths(rt: HostRuntime) -> Result<(), Fail> {
     for (kind, allowed, end) in rows.iter() {
         for said in 0..*end {
             let mut bytes = Vec::new(alloc);
-            let head = [0x03, 0xfc, (*kind / 256) as u8, (*kind % 256) as u8, 0, 0, 0];
+            let head = [
+                0x03,
+                0xfc,
+                (*kind / 256) as u8,
+                (*kind % 256) as u8,
+                0,
+                0,
+                0,
+            ];
             bytes.extend_from_slice(&head)?;
             bytes.push((said % 256) as u8)?;
             for i in 0..said {
@@ -240,8 +253,12 @@ fn greatest(rt: HostRuntime) -> Result<(), Fail> {
 fn stream(alloc: Global) -> Result<Vec<u8>, Fail> {
     let mut bytes = Vec::new(alloc);
     bytes.extend_from_slice(b"\x03\xfc\x00\x00\x00\x00\x00\x01\x04")?;
-    bytes.extend_from_slice(b"\x03\xfc\x00\x05\x00\x00\x00\x0b\x0e\x80\xe0\x00\x00\x00\x00\x01\x02\x03\x04")?;
-    bytes.extend_from_slice(b"\x03\xfc\x00\x06\x00\x00\x00\x0d\x0e\x80\x40\x00\x10\x00\x00\x00\x00\xff\xfe\xfd\xfc")?;
+    bytes.extend_from_slice(
+        b"\x03\xfc\x00\x05\x00\x00\x00\x0b\x0e\x80\xe0\x00\x00\x00\x00\x01\x02\x03\x04",
+    )?;
+    bytes.extend_from_slice(
+        b"\x03\xfc\x00\x06\x00\x00\x00\x0d\x0e\x80\x40\x00\x10\x00\x00\x00\x00\xff\xfe\xfd\xfc",
+    )?;
     bytes.extend_from_slice(b"\x03\xfc\x00\x07\x00\x00\x00\x00")?;
     bytes.extend_from_slice(b"\x03\xfc\x00\x08\x00\x00\x00\x02\x0e\x80")?;
     bytes.extend_from_slice(b"\x03\xfc\x80\x01\x00\x00\x00\x06\x0e\x80\x10\x01\x10\x02")?;
@@ -282,22 +299,47 @@ fn any_cut(rt: HostRuntime) -> Result<(), Fail> {
 #[test]
 fn each_kind(rt: HostRuntime) -> Result<(), Fail> {
     let alloc = rt.alloc();
-    is_written(&rt, alloc, &Frame::HeaderNack { code: 4 }, b"\x03\xfc\x00\x00\x00\x00\x00\x01\x04")?;
+    is_written(
+        &rt,
+        alloc,
+        &Frame::HeaderNack { code: 4 },
+        b"\x03\xfc\x00\x00\x00\x00\x00\x01\x04",
+    )?;
     let ask = Frame::Activate {
         source: 0x0e80,
         kind: 0xe0,
         oem: Some(0x0102_0304),
     };
-    is_written(&rt, alloc, &ask, b"\x03\xfc\x00\x05\x00\x00\x00\x0b\x0e\x80\xe0\x00\x00\x00\x00\x01\x02\x03\x04")?;
+    is_written(
+        &rt,
+        alloc,
+        &ask,
+        b"\x03\xfc\x00\x05\x00\x00\x00\x0b\x0e\x80\xe0\x00\x00\x00\x00\x01\x02\x03\x04",
+    )?;
     let answer = Frame::Activated {
         tester: 0x0e80,
         entity: 0x4000,
         code: 0x10,
         oem: Some(0xfffe_fdfc),
     };
-    is_written(&rt, alloc, &answer, b"\x03\xfc\x00\x06\x00\x00\x00\x0d\x0e\x80\x40\x00\x10\x00\x00\x00\x00\xff\xfe\xfd\xfc")?;
-    is_written(&rt, alloc, &Frame::AliveAsk, b"\x03\xfc\x00\x07\x00\x00\x00\x00")?;
-    is_written(&rt, alloc, &Frame::AliveSay { source: 0x0e80 }, b"\x03\xfc\x00\x08\x00\x00\x00\x02\x0e\x80")?;
+    is_written(
+        &rt,
+        alloc,
+        &answer,
+        b"\x03\xfc\x00\x06\x00\x00\x00\x0d\x0e\x80\x40\x00\x10\x00\x00\x00\x00\xff\xfe\xfd\xfc",
+    )?;
+    is_written(
+        &rt,
+        alloc,
+        &Frame::AliveAsk,
+        b"\x03\xfc\x00\x07\x00\x00\x00\x00",
+    )?;
+    is_written(
+        &rt,
+        alloc,
+        &Frame::AliveSay { source: 0x0e80 },
+        b"\x03\xfc\x00\x08\x00\x00\x00\x02\x0e\x80",
+    )?;
     Ok(())
 }
 
@@ -309,21 +351,36 @@ fn each_message(rt: HostRuntime) -> Result<(), Fail> {
         target: 0x1001,
         body: Bytes::from_slice(alloc, b"\x10\x02")?,
     };
-    is_written(&rt, alloc, &message, b"\x03\xfc\x80\x01\x00\x00\x00\x06\x0e\x80\x10\x01\x10\x02")?;
+    is_written(
+        &rt,
+        alloc,
+        &message,
+        b"\x03\xfc\x80\x01\x00\x00\x00\x06\x0e\x80\x10\x01\x10\x02",
+    )?;
     let ack = Frame::Ack {
         source: 0x1001,
         target: 0x0e80,
         code: 0,
         old: Bytes::from_slice(alloc, b"\x10\x02")?,
     };
-    is_written(&rt, alloc, &ack, b"\x03\xfc\x80\x02\x00\x00\x00\x07\x10\x01\x0e\x80\x00\x10\x02")?;
+    is_written(
+        &rt,
+        alloc,
+        &ack,
+        b"\x03\xfc\x80\x02\x00\x00\x00\x07\x10\x01\x0e\x80\x00\x10\x02",
+    )?;
     let nack = Frame::Nack {
         source: 0x1001,
         target: 0x0e80,
         code: 3,
         old: Bytes::new(alloc),
     };
-    is_written(&rt, alloc, &nack, b"\x03\xfc\x80\x03\x00\x00\x00\x05\x10\x01\x0e\x80\x03")?;
+    is_written(
+        &rt,
+        alloc,
+        &nack,
+        b"\x03\xfc\x80\x03\x00\x00\x00\x05\x10\x01\x0e\x80\x03",
+    )?;
     let other = Frame::Other {
         kind: 0x4002,
         payload: Bytes::from_slice(alloc, b"abc")?,

@@ -1,16 +1,15 @@
 -- What is read place by place is what the bytes spell, or the reason why they spell nothing.
-use Rattle.std.proofs.Common.{◌≡◌, ◌⊎◌, ℕ, zero, suc, ◌+◌, ◌-◌, ◌*◌, ◌/◌, ◌%◌, ◌<◌, ◌≤◌, true, false, List, [], ◌∷◌, ◌++◌, length, take, drop, Some, None, Result, Ok, Err, refl, sym, ◌∙◌, ap, subst, inl, inr, arith, length-append, length-drop}
-use Rattle.std.specs.Prelude.{Bool, nat_lt, nat_le, ◌==◌, ◌&&◌, not, Option, if◌then◌else◌}
+use Rattle.std.proofs.Common.{◌≡◌, ℕ, suc, ◌+◌, ◌-◌, ◌/◌, ◌%◌, ◌<◌, ◌≤◌, true, false, List, [], ◌∷◌, length, take, drop, Some, None, Err, refl, sym, ◌∙◌, ap, subst, inl, inr, arith, length-drop}
+use Rattle.std.specs.Prelude.{Bool, nat_lt, nat_le, ◌==◌, ◌&&◌, Option}
 use Rattle.std.proofs.lemmas.Bool.{cases_Bool, cases_lt, lt-ltb, le-ltb, le-leb}
 use Rattle.std.proofs.lemmas.Bool.Decides.{Decides-eqb, nat_tests}
-use Rattle.std.proofs.lemmas.List.{length-take-le, drop-drop, take_all, drop_all}
-use Rattle.flash_base.specs.Numbers.{number2, number_of}
+use Rattle.std.proofs.lemmas.List.{length-take-le, take_all}
+use Rattle.flash_base.specs.Numbers.{number_of}
 use Rattle.uds_codec.specs.declared.request.Request.{Request}
-use Rattle.uds_codec.specs.declared.request.Request.TheVariants.{Session, Seed, Key, ReadId, Routine, Download, Transfer, Exit, Reset}
-use Rattle.uds_codec.specs.declared.request.UdsFault.{UdsFault}
-use Rattle.uds_codec.specs.declared.request.UdsFault.TheVariants.{Short, UnknownSid, BadForm}
+use Rattle.uds_codec.specs.declared.request.Request.TheVariants.{Download}
+use Rattle.uds_codec.specs.declared.request.UdsFault.TheVariants.{UnknownSid, BadForm}
 use Rattle.uds_codec.specs.Decoding.{session_at, reset_at, read_id_at, seed_at, key_at, security_at, routine_at, range_at, widths_at, download_at, transfer_at, exit_at, decoded_at, decoded}
-use Rattle.uds_codec.specs.Grammar.{begins, Stops, Reads}
+use Rattle.uds_codec.specs.Grammar.{begins, Reads}
 use Rattle.uds_codec.specs.Request.{request_of, one_byte, is_width, is_service}
 
 pub lt-leb : (a b : ℕ) → b < a → nat_le a b ≡ false

@@ -1,17 +1,16 @@
 -- What is read is in the grammar, and what is in the grammar is read.
-use Rattle.std.proofs.Common.{◌≡◌, ◌⊎◌, ℕ, zero, suc, ◌+◌, ◌-◌, ◌*◌, ◌/◌, ◌%◌, ◌<◌, ◌≤◌, true, false, List, [], ◌∷◌, ◌++◌, length, take, drop, Some, None, refl, sym, ◌∙◌, ap, subst, inl, inr, arith, length-append, length-drop}
+use Rattle.std.proofs.Common.{◌≡◌, ℕ, zero, suc, ◌+◌, ◌-◌, ◌*◌, ◌/◌, ◌%◌, ◌<◌, ◌≤◌, true, false, List, [], ◌∷◌, ◌++◌, length, take, drop, Some, None, refl, sym, ◌∙◌, ap, subst, inl, inr, arith, length-append, length-drop}
 use Rattle.std.specs.Prelude.{Bool, nat_lt, nat_le, ◌==◌, ◌&&◌, ◌||◌, Option, if◌then◌else◌}
-use Rattle.std.proofs.lemmas.Bool.{cases_Bool, lt-ltb, le-ltb, le-leb}
+use Rattle.std.proofs.lemmas.Bool.{cases_Bool, le-leb}
 use Rattle.std.proofs.lemmas.Bool.Decides.{Decides-eqb, nat_tests}
 use Rattle.std.proofs.lemmas.List.{take-append-drop, length-take-le, take_all, drop_all, take_at, drop_at}
 use Rattle.flash_base.specs.Numbers.{number2, number_of, number_after, big_endian, pow256}
-use Rattle.flash_base.specs.declared.unit.Width.{Width}
 use Rattle.uds_codec.specs.declared.request.Request.{Request}
 use Rattle.uds_codec.specs.declared.request.Request.TheVariants.{Session, Seed, Key, ReadId, Routine, Download, Transfer, Exit, Reset}
-use Rattle.uds_codec.specs.Form.{IsLevel, IsWidth, IsRange, HasLength, HasForm, AreBytes, Fits}
+use Rattle.uds_codec.specs.Form.{IsLevel, AreBytes}
 use Rattle.uds_codec.specs.Laws.{Spells, AreNumbers, IsWritten}
-use Rattle.uds_codec.specs.Request.{spelled, request_of, one_byte, range_of, range_with, download_in, Range, is_width}
-use Rattle.uds_codec.proofs.Decodes.{neq-eqb, lt-leb, right_width}
+use Rattle.uds_codec.specs.Request.{spelled, request_of, range_with, download_in, Range, is_width}
+use Rattle.uds_codec.proofs.Decodes.{right_width}
 use Rattle.uds_codec.proofs.Written.{read_again, key_read}
 
 chosen : (b : Bool) (x r : Request) → (if b then Some x else None) ≡ Some r → (b ≡ true) × (x ≡ r)

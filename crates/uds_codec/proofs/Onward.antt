@@ -1,13 +1,13 @@
 -- Bytes begin a request exactly where some bytes behind them make one.
-use Rattle.std.proofs.Common.{◌≡◌, ◌⊎◌, ℕ, zero, suc, ◌+◌, ◌-◌, ◌*◌, ◌/◌, ◌%◌, ◌<◌, ◌≤◌, true, false, List, [], ◌∷◌, ◌++◌, length, take, drop, Some, None, refl, sym, ◌∙◌, ap, subst, inl, inr, arith, length-append, length-drop}
-use Rattle.std.specs.Prelude.{Bool, nat_lt, nat_le, ◌==◌, ◌&&◌, Option, if◌then◌else◌}
-use Rattle.std.proofs.lemmas.Bool.{cases_Bool, lt-ltb, le-ltb, le-leb}
-use Rattle.std.proofs.lemmas.Bool.Decides.{Decides-eqb, nat_tests}
+use Rattle.std.proofs.Common.{◌≡◌, ℕ, zero, suc, ◌+◌, ◌-◌, ◌*◌, ◌/◌, ◌%◌, ◌<◌, ◌≤◌, true, false, List, [], ◌∷◌, ◌++◌, length, take, drop, Some, refl, sym, ◌∙◌, ap, subst, inl, inr, arith, length-append, length-drop}
+use Rattle.std.specs.Prelude.{Bool, nat_lt, nat_le, ◌==◌, ◌&&◌, if◌then◌else◌}
+use Rattle.std.proofs.lemmas.Bool.{cases_Bool, le-ltb, le-leb}
+use Rattle.std.proofs.lemmas.Bool.Decides.{Decides-eqb}
 use Rattle.std.proofs.lemmas.List.{append-nil, take-append-drop, length-take-le}
 use Rattle.flash_base.specs.Numbers.{number_of}
 use Rattle.uds_codec.specs.declared.request.Request.{Request}
 use Rattle.uds_codec.specs.declared.request.Request.TheVariants.{Session, Seed, Key, ReadId, Routine, Download, Transfer, Exit, Reset}
-use Rattle.uds_codec.specs.Form.{IsLevel, IsWidth, HasLength, AreBytes}
+use Rattle.uds_codec.specs.Form.{AreBytes}
 use Rattle.uds_codec.specs.Grammar.{begins, begins_one, begins_security, begins_routine, begins_range, begins_download, begins_transfer}
 use Rattle.uds_codec.specs.Laws.{Spells, AreNumbers, GoesOn}
 use Rattle.uds_codec.specs.Request.{request_of, is_width}
@@ -183,6 +183,7 @@ security_goes (level ∷ key) e =
     odd : (key : List ℕ) → nat_lt 126 level ≡ false → (level == 0) ≡ false → (level % 2 == 1) ≡ true → (length key == 0) ≡ true → GoesOn (39 ∷ level ∷ key)
     odd [] a b o h = whole (39 ∷ level ∷ []) (Seed level) (rw (a, b, o) refl)
     odd (x ∷ more) a b o h = let z : length (x ∷ more) ≡ 0 = eq_of _ 0 h in absurd (omega (arith, z))
+
     even : (key : List ℕ) → nat_lt 126 level ≡ false → (level == 0) ≡ false → (level % 2 == 1) ≡ false → nat_le (length key) 32 ≡ true → GoesOn (39 ∷ level ∷ key)
     even [] a b o h = goes (39 ∷ level ∷ []) (0 ∷ []) (Key (level - 1) (0 ∷ [])) (omega arith, tt) (rw (a, b, o) refl)
     even (x ∷ more) a b o h =
@@ -219,7 +220,7 @@ range_goes digits rest e =
     let lz : length (drop a all) ≡ z = omega (arith, length-drop a all, size) in
     let digits_are : digits ≡ z * 16 + a = omega arith in
     let numbers : AreNumbers z a (number_of (take a all)) (number_of (drop a all)) (take a all) (drop a all) =
-        record { address_length = la; amount_length = lz; address_number = refl; amount_number = refl } in
+    record { address_length = la; amount_length = lz; address_number = refl; amount_number = refl } in
     let here = range_only z a (number_of (take a all)) (number_of (drop a all)) (take a all) (drop a all) z1 z4 a1 a4 numbers in
     goes (52 ∷ 0 ∷ digits ∷ rest) (zeros n) (Download (record { size = z; at = a }) (number_of (take a all)) (number_of (drop a all))) (zeros_bytes n)
     (ap (λ (d : ℕ). request_of (52 ∷ 0 ∷ d ∷ all)) digits_are ∙ ap (λ (l : List ℕ). request_of (52 ∷ 0 ∷ (z * 16 + a) ∷ l)) (sym (take-append-drop a all)) ∙ here)
