@@ -6,6 +6,8 @@ mod deframer;
 mod frame;
 mod laws;
 mod payload;
+#[cfg(test)]
+mod tests;
 mod write;
 
 pub use deframer::{Deframer, Fed};

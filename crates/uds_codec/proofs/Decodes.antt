@@ -1,16 +1,15 @@
 -- What is read place by place is what the bytes spell, or the reason why they spell nothing.
-use Rattle.std.proofs.Common.{◌≡◌, ◌⊎◌, ℕ, zero, suc, ◌+◌, ◌-◌, ◌*◌, ◌/◌, ◌%◌, ◌<◌, ◌≤◌, true, false, List, [], ◌∷◌, ◌++◌, length, take, drop, Some, None, Result, Ok, Err, refl, sym, ◌∙◌, ap, subst, inl, inr, arith, length-append, length-drop}
-use Rattle.std.specs.Prelude.{Bool, nat_lt, nat_le, ◌==◌, ◌&&◌, not, Option, if◌then◌else◌}
+use Rattle.std.proofs.Common.{◌≡◌, ℕ, suc, ◌+◌, ◌-◌, ◌/◌, ◌%◌, ◌<◌, ◌≤◌, true, false, List, [], ◌∷◌, length, take, drop, Some, None, Err, refl, sym, ◌∙◌, ap, subst, inl, inr, arith, length-drop}
+use Rattle.std.specs.Prelude.{Bool, nat_lt, nat_le, ◌==◌, ◌&&◌, Option}
 use Rattle.std.proofs.lemmas.Bool.{cases_Bool, cases_lt, lt-ltb, le-ltb, le-leb}
 use Rattle.std.proofs.lemmas.Bool.Decides.{Decides-eqb, nat_tests}
-use Rattle.std.proofs.lemmas.List.{length-take-le, drop-drop, take_all, drop_all}
-use Rattle.flash_base.specs.Numbers.{number2, number_of}
+use Rattle.std.proofs.lemmas.List.{length-take-le, take_all}
+use Rattle.flash_base.specs.Numbers.{number_of}
 use Rattle.uds_codec.specs.declared.request.Request.{Request}
-use Rattle.uds_codec.specs.declared.request.Request.TheVariants.{Session, Seed, Key, ReadId, Routine, Download, Transfer, Exit, Reset}
-use Rattle.uds_codec.specs.declared.request.UdsFault.{UdsFault}
-use Rattle.uds_codec.specs.declared.request.UdsFault.TheVariants.{Short, UnknownSid, BadForm}
+use Rattle.uds_codec.specs.declared.request.Request.TheVariants.{Download}
+use Rattle.uds_codec.specs.declared.request.UdsFault.TheVariants.{UnknownSid, BadForm}
 use Rattle.uds_codec.specs.Decoding.{session_at, reset_at, read_id_at, seed_at, key_at, security_at, routine_at, range_at, widths_at, download_at, transfer_at, exit_at, decoded_at, decoded}
-use Rattle.uds_codec.specs.Grammar.{begins, Stops, Reads}
+use Rattle.uds_codec.specs.Grammar.{begins, Reads}
 use Rattle.uds_codec.specs.Request.{request_of, one_byte, is_width, is_service}
 
 pub lt-leb : (a b : ℕ) → b < a → nat_le a b ≡ false
@@ -94,6 +93,7 @@ routine_reads (k ∷ rest) = elim (cases_Bool (k == 1)) [ inr e ↦ other rest e
     other (a ∷ b ∷ more) e =
         let two : nat_lt (length (49 ∷ k ∷ a ∷ b ∷ more)) 2 ≡ false = le-ltb _ _ (omega arith) in
         rw (two, e) (bad (49 ∷ k ∷ a ∷ b ∷ more) 1 (omega arith) (omega arith) refl (rw e refl) (rw e refl))
+
     good : (rest : List ℕ) → (k == 1) ≡ true → Reads (49 ∷ k ∷ rest) (routine_at (49 ∷ k ∷ rest))
     good [] e = rw e (refl, rw e refl)
     good (a ∷ []) e = rw e (refl, rw e refl)
@@ -151,12 +151,14 @@ security_reads (level ∷ key) =
   where
     above : (level == 0) ≡ false → 1 ≤ level
     above e = grind (arith, nat_tests, e)
+
     odd : (key : List ℕ) → nat_lt 126 level ≡ false → (level == 0) ≡ false → nat_le 1 level ≡ true → nat_le level 126 ≡ true → (level % 2 == 1) ≡ true → Reads (39 ∷ level ∷ key) (seed_at (39 ∷ level ∷ key))
     odd [] f e g h o = rw (f, e, o) refl
     odd (x ∷ more) f e g h o =
         let long : nat_lt 2 (length (39 ∷ level ∷ x ∷ more)) ≡ true = lt-ltb _ _ (omega arith) in
         let none : (length (x ∷ more) == 0) ≡ false = neq-eqb _ _ (λ z. omega (arith, z)) in
         rw long (bad (39 ∷ level ∷ x ∷ more) 2 (omega arith) (omega arith) (rw (g, h, o) refl) (rw (g, h, o) refl) (rw (f, e, o, none) refl))
+
     even : (key : List ℕ) → nat_lt 126 level ≡ false → (level == 0) ≡ false → nat_le 1 level ≡ true → nat_le level 126 ≡ true → (level % 2 == 1) ≡ false → Reads (39 ∷ level ∷ key) (key_at (39 ∷ level ∷ key))
     even [] f e g h o = (rw (f, e, o) refl, rw (g, h, o) refl)
     even (x ∷ more) f e g h o =
@@ -178,6 +180,7 @@ security_reads (level ∷ key) =
               let few : nat_le (length (x ∷ more)) 32 ≡ true = le-leb _ _ le in
               rw (three, fits) (rw (f, e, o, some, few) refl)
         ]
+
     good : (key : List ℕ) → nat_lt 126 level ≡ false → (level == 0) ≡ false → nat_le 1 level ≡ true → nat_le level 126 ≡ true → Reads (39 ∷ level ∷ key) (security_at (39 ∷ level ∷ key))
     good key f e g h =
         let two : nat_lt (length (39 ∷ level ∷ key)) 2 ≡ false = le-ltb _ _ (omega arith) in
@@ -291,6 +294,7 @@ download_reads (form ∷ rest) = elim (cases_Bool (form == 0)) [ inr e ↦ other
     other e =
         let two : nat_lt (length (52 ∷ form ∷ rest)) 2 ≡ false = le-ltb _ _ (omega arith) in
         rw (two, e) (bad (52 ∷ form ∷ rest) 1 (omega arith) (omega arith) refl (rw e refl) (rw e refl))
+
     good : (rest : List ℕ) → (form == 0) ≡ true → Reads (52 ∷ form ∷ rest) (download_at (52 ∷ form ∷ rest))
     good rest e = subst (λ (x : ℕ). Reads (52 ∷ x ∷ rest) (download_at (52 ∷ x ∷ rest))) (sym ((Decides-eqb form 0).0 e)) (zero_form rest)
       where

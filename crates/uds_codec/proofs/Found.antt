@@ -1,17 +1,16 @@
 -- What is read is in the grammar, and what is in the grammar is read.
-use Rattle.std.proofs.Common.{◌≡◌, ◌⊎◌, ℕ, zero, suc, ◌+◌, ◌-◌, ◌*◌, ◌/◌, ◌%◌, ◌<◌, ◌≤◌, true, false, List, [], ◌∷◌, ◌++◌, length, take, drop, Some, None, refl, sym, ◌∙◌, ap, subst, inl, inr, arith, length-append, length-drop}
+use Rattle.std.proofs.Common.{◌≡◌, ℕ, zero, suc, ◌+◌, ◌-◌, ◌*◌, ◌/◌, ◌%◌, ◌<◌, ◌≤◌, true, false, List, [], ◌∷◌, ◌++◌, length, take, drop, Some, None, refl, sym, ◌∙◌, ap, subst, inl, inr, arith, length-append, length-drop}
 use Rattle.std.specs.Prelude.{Bool, nat_lt, nat_le, ◌==◌, ◌&&◌, ◌||◌, Option, if◌then◌else◌}
-use Rattle.std.proofs.lemmas.Bool.{cases_Bool, lt-ltb, le-ltb, le-leb}
+use Rattle.std.proofs.lemmas.Bool.{cases_Bool, le-leb}
 use Rattle.std.proofs.lemmas.Bool.Decides.{Decides-eqb, nat_tests}
 use Rattle.std.proofs.lemmas.List.{take-append-drop, length-take-le, take_all, drop_all, take_at, drop_at}
 use Rattle.flash_base.specs.Numbers.{number2, number_of, number_after, big_endian, pow256}
-use Rattle.flash_base.specs.declared.unit.Width.{Width}
 use Rattle.uds_codec.specs.declared.request.Request.{Request}
 use Rattle.uds_codec.specs.declared.request.Request.TheVariants.{Session, Seed, Key, ReadId, Routine, Download, Transfer, Exit, Reset}
-use Rattle.uds_codec.specs.Form.{IsLevel, IsWidth, IsRange, HasLength, HasForm, AreBytes, Fits}
+use Rattle.uds_codec.specs.Form.{IsLevel, AreBytes}
 use Rattle.uds_codec.specs.Laws.{Spells, AreNumbers, IsWritten}
-use Rattle.uds_codec.specs.Request.{spelled, request_of, one_byte, range_of, range_with, download_in, Range, is_width}
-use Rattle.uds_codec.proofs.Decodes.{neq-eqb, lt-leb, right_width}
+use Rattle.uds_codec.specs.Request.{spelled, request_of, range_with, download_in, Range, is_width}
+use Rattle.uds_codec.proofs.Decodes.{right_width}
 use Rattle.uds_codec.proofs.Written.{read_again, key_read}
 
 chosen : (b : Bool) (x r : Request) → (if b then Some x else None) ≡ Some r → (b ≡ true) × (x ≡ r)
@@ -22,7 +21,7 @@ refused : (b : Bool) (o : Option Request) (r : Request) → (if b then None else
 refused true o r e = cc
 refused false o r e = (refl, e)
 
-and_true : (a b : Bool) → (a && b) ≡ true → (a ≡ true) × (b ≡ true)
+pub and_true : (a b : Bool) → (a && b) ≡ true → (a ≡ true) × (b ≡ true)
 and_true true b e = (refl, e)
 and_true false b e = cc
 
@@ -30,10 +29,10 @@ or_false : (a b : Bool) → (a || b) ≡ false → (a ≡ false) × (b ≡ false
 or_false true b e = cc
 or_false false b e = (refl, e)
 
-le_of : (a b : ℕ) → nat_le a b ≡ true → a ≤ b
+pub le_of : (a b : ℕ) → nat_le a b ≡ true → a ≤ b
 le_of a b e = grind (arith, nat_tests, e)
 
-eq_of : (a b : ℕ) → (a == b) ≡ true → a ≡ b
+pub eq_of : (a b : ℕ) → (a == b) ≡ true → a ≡ b
 eq_of a b e = (Decides-eqb a b).0 e
 
 session_found : (rest : List ℕ) (r : Request) → request_of (16 ∷ rest) ≡ Some r → Spells r (16 ∷ rest)
@@ -63,7 +62,7 @@ security_found : (rest : List ℕ) (r : Request) → request_of (39 ∷ rest) �
 security_found [] r e = cc
 security_found (level ∷ key) r e =
     let (out, e1) = refused (nat_lt 126 level || level == 0) (if level % 2 == 1 then (if length key == 0 then Some (Seed level) else None)
-        else if nat_le 1 (length key) && nat_le (length key) 32 then Some (Key (level - 1) key) else None) r e in
+    else if nat_le 1 (length key) && nat_le (length key) 32 then Some (Key (level - 1) key) else None) r e in
     let (high, low) = or_false (nat_lt 126 level) (level == 0) out in
     let most : level ≤ 126 = grind (arith, nat_tests, high) in
     let some : 1 ≤ level = grind (arith, nat_tests, low) in
@@ -82,7 +81,7 @@ security_found (level ∷ key) r e =
           let odd : (level - 1) % 2 ≡ 1 = omega (arith, some, even) in
           let below : level - 1 ≤ 125 = omega (arith, most) in
           subst (λ (q : Request). Spells q (39 ∷ level ∷ key)) is
-              (ap (λ (n : ℕ). 39 ∷ n ∷ key) back, record { odd = odd; most = below }, record { least = le_of 1 (length key) a; most = le_of (length key) 32 b })
+          (ap (λ (n : ℕ). 39 ∷ n ∷ key) back, record { odd = odd; most = below }, record { least = le_of 1 (length key) a; most = le_of (length key) 32 b })
     ]
   where
     empty : (xs : List ℕ) → length xs ≡ 0 → xs ≡ []
@@ -112,7 +111,7 @@ has_range : (b : Bool) (g : Range) (r : Request) → download_in (if b then Some
 has_range true g r e = (refl, e)
 has_range false g r e = cc
 
-width_of : (n : ℕ) → is_width n ≡ true → (1 ≤ n) × (n ≤ 4)
+pub width_of : (n : ℕ) → is_width n ≡ true → (1 ≤ n) × (n ≤ 4)
 width_of n e = let (a, b) = and_true (nat_le 1 n) (nat_le n 4) e in (le_of 1 n a, le_of n 4 b)
 
 range_found : (digits : ℕ) (rest : List ℕ) (r : Request) → download_in (range_with (digits / 16) (digits % 16) rest) ≡ Some r → Spells r (52 ∷ 0 ∷ digits ∷ rest)
@@ -134,7 +133,7 @@ range_found digits rest r e =
     let digits_are : digits ≡ z * 16 + a = omega arith in
     let joined : rest ≡ take a rest ++ take z (drop a rest) = sym (take-append-drop a rest) ∙ ap (λ (l : List ℕ). take a rest ++ l) (sym all) in
     let same : 52 ∷ 0 ∷ digits ∷ rest ≡ 52 ∷ 0 ∷ (z * 16 + a) ∷ (take a rest ++ take z (drop a rest)) =
-        ap (λ (n : ℕ). 52 ∷ 0 ∷ n ∷ rest) digits_are ∙ ap (λ (l : List ℕ). 52 ∷ 0 ∷ (z * 16 + a) ∷ l) joined in
+    ap (λ (n : ℕ). 52 ∷ 0 ∷ n ∷ rest) digits_are ∙ ap (λ (l : List ℕ). 52 ∷ 0 ∷ (z * 16 + a) ∷ l) joined in
     subst (λ (q : Request). Spells q (52 ∷ 0 ∷ digits ∷ rest)) is (
       take a rest,
       take z (drop a rest),
@@ -191,7 +190,7 @@ found (sid ∷ rest) r e = elim (cases_Bool (sid == 16)) [
 ]
 
 -- ------ what is in the grammar is read
-range_only : (s a at size : ℕ) (xs ys : List ℕ) → 1 ≤ s → s ≤ 4 → 1 ≤ a → a ≤ 4 → AreNumbers s a at size xs ys
+pub range_only : (s a at size : ℕ) (xs ys : List ℕ) → 1 ≤ s → s ≤ 4 → 1 ≤ a → a ≤ 4 → AreNumbers s a at size xs ys
     → request_of (52 ∷ 0 ∷ (s * 16 + a) ∷ (xs ++ ys)) ≡ Some (Download (record { size = s; at = a }) at size)
 range_only s a at size xs ys s1 s4 a1 a4 n =
     let hi : (s * 16 + a) / 16 ≡ s = omega (arith, a4) in

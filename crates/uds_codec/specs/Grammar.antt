@@ -1,11 +1,8 @@
 -- Which bytes begin a request, and what refused bytes are.
-use Rattle.std.specs.Prelude.{◌≡◌, ℕ, ◌+◌, ◌*◌, ◌/◌, ◌%◌, ◌<◌, ◌≤◌, Bool, true, false, ◌&&◌, ◌==◌, nat_lt, nat_le, List, [], ◌∷◌, ◌++◌, length, take, Option, Some, None, Result, Ok, Err, if◌then◌else◌}
-use Rattle.flash_base.specs.Numbers.{number2, number_of}
+use Rattle.std.specs.Prelude.{◌≡◌, ℕ, ◌+◌, ◌/◌, ◌%◌, ◌<◌, ◌≤◌, Bool, true, false, ◌&&◌, ◌==◌, nat_le, List, [], ◌∷◌, length, take, Some, None, Result, Ok, Err, if◌then◌else◌}
 use Rattle.uds_codec.specs.declared.request.Request.{Request}
-use Rattle.uds_codec.specs.declared.request.Request.TheVariants.{Session, Seed, Key, ReadId, Routine, Download, Transfer, Exit, Reset}
 use Rattle.uds_codec.specs.declared.request.UdsFault.{UdsFault}
 use Rattle.uds_codec.specs.declared.request.UdsFault.TheVariants.{Short, UnknownSid, BadForm, NoMemory}
-use Rattle.uds_codec.specs.Form.{HasForm, AreBytes}
 use Rattle.uds_codec.specs.Request.{request_of, is_service, is_width}
 
 -- the bytes behind a service's that begin one of its requests

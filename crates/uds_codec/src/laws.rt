@@ -1,4 +1,4 @@
-ghost use Rattle.uds_codec.specs.Laws.{IsReadAgain, IsWrittenAgain, IsGrammar, IsDetermined};
+ghost use Rattle.uds_codec.specs.Laws.{IsReadAgain, IsWrittenAgain, IsGrammar, IsDetermined, AreBeginnings};
 
 /// What is written is read again as the same request.
 pub fn read_again()
@@ -18,4 +18,9 @@ pub fn grammar()
 /// One request has one spelling for its width, and a spelling one request.
 pub fn determined()
     ensures { IsDetermined }
+{}
+
+/// Bytes begin a request exactly where some bytes behind them make one.
+pub fn beginnings()
+    ensures { AreBeginnings }
 {}

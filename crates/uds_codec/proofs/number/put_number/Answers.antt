@@ -1,4 +1,4 @@
-use Rattle.std.proofs.Common.{◌≡◌, ◌≤◌, ◌++◌, drop, length, arith}
+use Rattle.std.proofs.Common.{arith}
 use Rattle.std.proofs.Math.ListN.{length-set}
 use Rattle.uds_codec.proofs.Numbers.{written_before}
 use Rattle.uds_codec.proofs.number.put_number.Goals as goal

@@ -1,4 +1,4 @@
-use Rattle.std.proofs.Common.{◌≡◌, sym, subst, inl, inr}
+use Rattle.std.proofs.Common.{sym, subst, inl, inr}
 use Rattle.uds_codec.specs.Grammar.{Reads}
 use Rattle.uds_codec.proofs.Decodes.{reads}
 use Rattle.uds_codec.proofs.reading.decode.Goals as goal
