@@ -29,7 +29,7 @@ pub record Adds (m new : ByteMap) (P : ℕ → ℕ → Type 0) : Type 0 where
 abbrev pub From : ℕ → List ℕ → ℕ → ℕ → Type 0
 From at bs a b = (k : ℕ) × (a ≡ at + k) × (slice_get bs k ≡ Some b)
 
-some_below : (bs : List ℕ) (k b : ℕ) → slice_get bs k ≡ Some b → k < length bs
+pub some_below : (bs : List ℕ) (k b : ℕ) → slice_get bs k ≡ Some b → k < length bs
 some_below [] k b e = absurd (none-some b e)
 some_below (x ∷ bs) zero b e = omega arith
 some_below (x ∷ bs) (suc k) b e = let l = some_below bs k b e in omega arith
@@ -40,16 +40,16 @@ some_is o b e = rw e refl
 over_adds : (m : ByteMap) (at : ℕ) (bs : List ℕ) → clash m at bs ≡ None → Adds m (over m at bs) (From at bs)
 over_adds m at bs free = record {
   splits = λ a b e.
-    let read : reads at bs a (get m a) ≡ Some b = sym (get-over m at bs a) ∙ e in
-    elim (cases_in at (length bs) a) [
-      | inl hit ↦ inr (hit.0, hit.1, sym (reads_hit at bs a hit.0 (get m a) hit.1 hit.2) ∙ read)
-      | inr out ↦ inl (sym (reads_other at bs a (get m a) out) ∙ read)
-    ];
+      let read : reads at bs a (get m a) ≡ Some b = sym (get-over m at bs a) ∙ e in
+      elim (cases_in at (length bs) a) [
+        | inl hit ↦ inr (hit.0, hit.1, sym (reads_hit at bs a hit.0 (get m a) hit.1 hit.2) ∙ read)
+        | inr out ↦ inl (sym (reads_other at bs a (get m a) out) ∙ read)
+      ];
   keeps = λ a b e.
-    get-over m at bs a ∙ elim (cases_in at (length bs) a) [
-      | inl hit ↦ reads_hit at bs a hit.0 (get m a) hit.1 hit.2 ∙ sym (stands m at a bs free hit.0 hit.1 hit.2 (some_is (get m a) b e)) ∙ e
-      | inr out ↦ reads_other at bs a (get m a) out ∙ e
-    ];
+      get-over m at bs a ∙ elim (cases_in at (length bs) a) [
+        | inl hit ↦ reads_hit at bs a hit.0 (get m a) hit.1 hit.2 ∙ sym (stands m at a bs free hit.0 hit.1 hit.2 (some_is (get m a) b e)) ∙ e
+        | inr out ↦ reads_other at bs a (get m a) out ∙ e
+      ];
   has = λ a b p. get-over m at bs a ∙ reads_hit at bs a p.0 (get m a) p.1 (some_below bs p.0 b p.2) ∙ p.2;
 }
 
@@ -57,7 +57,7 @@ put_free : (c : Option Clash) (m new : ByteMap) → put_unless c m ≡ Ok new �
 put_free None m new e = (refl, (let is : m ≡ new = cc in is))
 put_free (Some c) m new e = cc
 
-putting_adds : (m new : ByteMap) (at : ℕ) (bs : List ℕ) → putting m at bs ≡ Ok new → Adds m new (From at bs)
+pub putting_adds : (m new : ByteMap) (at : ℕ) (bs : List ℕ) → putting m at bs ≡ Ok new → Adds m new (From at bs)
 putting_adds m new at bs e =
     let f = put_free (clash m at bs) (over m at bs) new e in
     subst (λ t. Adds m t (From at bs)) f.1 (over_adds m at bs f.0)
@@ -104,14 +104,14 @@ module _ (m new : ByteMap) (start first room : ℕ) (bs : List ℕ) (place : ℕ
         ];
         keeps = λ a b h. q.keeps a b (p.keeps a b h);
         has = λ a b h.
-          let k : ℕ = h.0 in
-          let l : k < length bs = h.1 in
-          elim (cases_lt k room) [
-            | inl lt ↦ q.has a b (k, h.2 ∙ near k lt l, slice_get-take bs room k lt ∙ h.3)
-            | inr ge ↦
-                let back : room + (k - room) ≡ k = omega arith in
-                q.keeps a b (p.has a b (k - room, h.2 ∙ far k ge l, slice_get-drop bs room (k - room) ∙ ap (slice_get bs) back ∙ h.3))
-          ];
+            let k : ℕ = h.0 in
+            let l : k < length bs = h.1 in
+            elim (cases_lt k room) [
+              | inl lt ↦ q.has a b (k, h.2 ∙ near k lt l, slice_get-take bs room k lt ∙ h.3)
+              | inr ge ↦
+                  let back : room + (k - room) ≡ k = omega arith in
+                  q.keeps a b (p.has a b (k - room, h.2 ∙ far k ge l, slice_get-drop bs room (k - room) ∙ ap (slice_get bs) back ∙ h.3))
+            ];
       }
 
   pub round_adds : put_round m start first room bs ≡ Ok new → Adds m new (At place bs)

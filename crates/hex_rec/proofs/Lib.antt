@@ -3,4 +3,5 @@ pub mod Shapes
 pub mod Bases
 pub mod Adds
 pub mod Whole
+pub mod Back
 pub mod Cuts

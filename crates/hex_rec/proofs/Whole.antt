@@ -75,11 +75,11 @@ snoc (z ∷ front) x (y ∷ f) l k e =
       | inr early ↦ inr (early.0, ap (λ t. t ∷ front) (ap head_of e) ∙ ap (λ t. y ∷ t) early.1)
     ]
 
-abbrev offset_of : List ℕ → ℕ
+abbrev pub offset_of : List ℕ → ℕ
 offset_of bytes = get_or bytes 1 0 * 256 + get_or bytes 2 0
 
 -- what a line gives behind others
-abbrev Last : List (List ℕ) → List ℕ → ℕ → ℕ → Type 0
+abbrev pub Last : List (List ℕ) → List ℕ → ℕ → ℕ → Type 0
 Last front line a b =
     (bytes : List ℕ) × (base : Base) × (k : ℕ) × IsRecord line bytes × (kind_of bytes ≡ 0) × HasBase front base × (k < get_or bytes 0 0) × (a ≡ address base (offset_of bytes) k) × (slice_get bytes (4 + k) ≡ Some b)
 
@@ -96,7 +96,7 @@ gives_early front line a b g =
     let (f, l, k, bytes, base, i, whole, r, kind, based, lt, at, got) = g in
     (f, l, k ++ (line ∷ []), bytes, base, i, ap (λ t. t ++ (line ∷ [])) whole ∙ append_assoc f (l ∷ k) (line ∷ []), r, kind, based, lt, at, got)
 
-gives_last : (front : List (List ℕ)) (line : List ℕ) (a b : ℕ) → Last front line a b → Gives (front ++ (line ∷ [])) a b
+pub gives_last : (front : List (List ℕ)) (line : List ℕ) (a b : ℕ) → Last front line a b → Gives (front ++ (line ∷ [])) a b
 gives_last front line a b g =
     let (bytes, base, i, r, kind, based, lt, at, got) = g in
     (front, line, [], bytes, base, i, refl, r, kind, based, lt, at, got)
@@ -120,17 +120,17 @@ hold_skip done line base next m h none based bounded = record {
   ];
 }
 
-abbrev data_of : List ℕ → List ℕ
+abbrev pub data_of : List ℕ → List ℕ
 data_of bytes = take (get_or bytes 0 0) (drop 4 bytes)
 
-data_size : (line bytes : List ℕ) → IsRecord line bytes → length (data_of bytes) ≡ get_or bytes 0 0
+pub data_size : (line bytes : List ℕ) → IsRecord line bytes → length (data_of bytes) ≡ get_or bytes 0 0
 data_size line bytes r =
     let n = size_is line bytes r in
     let t : length (data_of bytes) ≡ min (get_or bytes 0 0) (length (drop 4 bytes)) = length-take (get_or bytes 0 0) (drop 4 bytes) in
     let d : length (drop 4 bytes) ≡ length bytes - 4 = length-drop 4 bytes in
     omega arith
 
-data_at : (bytes : List ℕ) (k : ℕ) → k < get_or bytes 0 0 → slice_get (data_of bytes) k ≡ slice_get bytes (4 + k)
+pub data_at : (bytes : List ℕ) (k : ℕ) → k < get_or bytes 0 0 → slice_get (data_of bytes) k ≡ slice_get bytes (4 + k)
 data_at bytes k l = slice_get-take (drop 4 bytes) (get_or bytes 0 0) k l ∙ slice_get-drop bytes 4 k
 
 hold_data : (done : List (List ℕ)) (line bytes : List ℕ) (base : Base) (m new : ByteMap) → Holding done base m → IsRecord line bytes → kind_of bytes ≡ 0
@@ -206,7 +206,7 @@ bounded_next line bytes b r h =
       | inr same ↦ subst IsBase (sym same.0) h
     ]
 
-hold_record : (done : List (List ℕ)) (line bytes : List ℕ) (s t : State) → Holding done s.base s.spans → IsRecord line bytes → applied s bytes ≡ Ok t → Holding (done ++ (line ∷ [])) t.base t.spans
+pub hold_record : (done : List (List ℕ)) (line bytes : List ℕ) (s t : State) → Holding done s.base s.spans → IsRecord line bytes → applied s bytes ≡ Ok t → Holding (done ++ (line ∷ [])) t.base t.spans
 hold_record done line bytes s t h r e =
     elim (cases_Bool (eqb (kind_of bytes) 0)) [
       | inl data_line ↦
@@ -220,7 +220,7 @@ hold_record done line bytes s t h r e =
           (hold_skip done line s.base (set_of bytes s.base) s.spans h (λ o ro ko. ne (subst (λ u. kind_of u ≡ 0) (same_record line o bytes ro r) ko)) (base_next done line bytes s.base h.based r) (bounded_next line bytes s.base r h.bounded)))
     ]
 
-hold_empty : (done : List (List ℕ)) (base : Base) (m : ByteMap) → Holding done base m → Holding (done ++ ([] ∷ [])) base m
+pub hold_empty : (done : List (List ℕ)) (base : Base) (m : ByteMap) → Holding done base m → Holding (done ++ ([] ∷ [])) base m
 hold_empty done base m h = hold_skip done [] base base m h (λ o r k. no_record o r) (base_keep done [] base h.based (λ o b r s. no_record o r)) h.bounded
 
 -- ------ all lines
@@ -293,16 +293,16 @@ found done s n ((c ∷ cs) ∷ more) m f h e =
           ]
     ]
 
-nothing_given : Holding [] (Linear 0) empty
+pub nothing_given : Holding [] (Linear 0) empty
 nothing_given = record {
   based = inl (tt, refl);
   bounded = omega arith;
   given = λ a b e. absurd (none-some b (sym (get-empty nat_cmp a) ∙ e));
   all = λ a b g.
-    let (f, l, k, bytes, base, i, whole, r, kind, based, lt, at, got) = g in
-    let n : length {A = List ℕ} [] ≡ length (f ++ (l ∷ k)) = ap length whole in
-    let s : length (f ++ (l ∷ k)) ≡ length f + length (l ∷ k) = length-append f (l ∷ k) in
-    absurd (omega arith);
+      let (f, l, k, bytes, base, i, whole, r, kind, based, lt, at, got) = g in
+      let n : length {A = List ℕ} [] ≡ length (f ++ (l ∷ k)) = ap length whole in
+      let s : length (f ++ (l ∷ k)) ≡ length f + length (l ∷ k) = length-append f (l ∷ k) in
+      absurd (omega arith);
 }
 
 pub whole_text : (text : List ℕ) (m : ByteMap) → reading_of text ≡ Ok m → IsHexText text m

@@ -122,8 +122,9 @@ pub fn read(alloc: Global, text: &[u8]) -> Result<Spans, RecFault>
     }
 }
 
-/// A text that is read is records, one end, and nothing behind it, and its map is the union of what
-/// its data lines give.
+/// A text is read exactly where it is records, one end, and nothing behind it, and its map is the
+/// union of what its data lines give.
 pub fn text_law()
-    ensures { (text : List ℕ) (m : ByteMap) → reading_of text ≡ Ok m → IsHexText text m }
+    ensures read { (text : List ℕ) (m : ByteMap) → reading_of text ≡ Ok m → IsHexText text m }
+    ensures is { (text : List ℕ) (m : ByteMap) → IsHexText text m → reading_of text ≡ Ok m }
 {}
