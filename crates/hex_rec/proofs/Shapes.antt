@@ -13,11 +13,11 @@ use Rattle.hex_rec.specs.declared.reading.State.{State}
 use Rattle.rec_text.specs.declared.fault.RecFault.{RecFault}
 use Rattle.rec_text.specs.declared.fault.RecFault.TheVariants.{AfterEnd, BadLine, BadSum}
 
-chosen : {A : Type 0} (b : Bool) (x y z : A) → cond b x y ≡ z → ((b ≡ true) × (x ≡ z)) ⊎ ((b ≡ false) × (y ≡ z))
+pub chosen : {A : Type 0} (b : Bool) (x y z : A) → cond b x y ≡ z → ((b ≡ true) × (x ≡ z)) ⊎ ((b ≡ false) × (y ≡ z))
 chosen true x y z e = inl (refl, e)
 chosen false x y z e = inr (refl, e)
 
-bind_ok : {A B : Type 0} (r : Result A RecFault) (f : A → Result B RecFault) (y : B) → (r >>= f) ≡ Ok y → (x : A) × (r ≡ Ok x) × (f x ≡ Ok y)
+pub bind_ok : {A B : Type 0} (r : Result A RecFault) (f : A → Result B RecFault) (y : B) → (r >>= f) ≡ Ok y → (x : A) × (r ≡ Ok x) × (f x ≡ Ok y)
 bind_ok (Ok x) f y e = (x, refl, e)
 bind_ok (Err d) f y e = cc
 
@@ -73,7 +73,7 @@ ladder k s t b c a e ha hb hc =
           ]
     ]
 
-applied_ended : (s t : State) (bytes : List ℕ) → applied s bytes ≡ Ok t → ((kind_of bytes ≡ 1) × (t.ended ≡ true)) ⊎ ((kind_of bytes ≢ 1) × (t.ended ≡ s.ended))
+pub applied_ended : (s t : State) (bytes : List ℕ) → applied s bytes ≡ Ok t → ((kind_of bytes ≡ 1) × (t.ended ≡ true)) ⊎ ((kind_of bytes ≢ 1) × (t.ended ≡ s.ended))
 applied_ended s t bytes e = ladder (get_or bytes 3 0) s t _ _ _ e (λ h. with_map_ended s t _ h) refl refl
 
 pub nothing_after : (t : State) (n : ℕ) (ls : List (List ℕ)) (m : ByteMap) → t.ended ≡ true → read_from t n ls ≡ Ok m → AreEmpty ls

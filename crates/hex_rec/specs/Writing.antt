@@ -1,5 +1,5 @@
 -- The text that is written.
-use Rattle.std.specs.Prelude.{◌≡◌, ℕ, ◌+◌, ◌-◌, ◌/◌, ◌%◌, List, [], ◌∷◌, ◌++◌, length, sum, nat_eq, if◌then◌else◌}
+use Rattle.std.specs.Prelude.{◌≡◌, ℕ, ◌-◌, ◌/◌, ◌%◌, List, [], ◌∷◌, ◌++◌, length, sum, nat_eq, if◌then◌else◌}
 use Rattle.span_store.specs.ByteMap.{ByteMap}
 use Rattle.span_store.specs.Extents.{Extent}
 use Rattle.rec_text.specs.Cutting.{Cuts}

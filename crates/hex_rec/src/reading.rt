@@ -1,7 +1,7 @@
 ghost use Rattle.std.specs.Prelude.{◌≡◌, ℕ, ◌+◌, ◌-◌, ◌^◌, ◌≤◌, ◌<◌, take, drop, length, ◌⊎◌, Ok, Err, IfOk, slice_index, true, List};
 ghost use Rattle.hex_rec.specs.Base.{IsBase};
 ghost use Rattle.span_store.specs.ByteMap.{ByteMap};
-ghost use Rattle.hex_rec.specs.HexText.{HasShape};
+ghost use Rattle.hex_rec.specs.HexText.{IsHexText};
 ghost use Rattle.hex_rec.specs.Record.{is_kind};
 ghost use Rattle.hex_rec.specs.Reading.{put_line, applied, step, reading_of, with_map};
 ghost use Rattle.rec_text.specs.declared.fault.RecFault.{RecFault};
@@ -122,7 +122,9 @@ pub fn read(alloc: Global, text: &[u8]) -> Result<Spans, RecFault>
     }
 }
 
-/// A text that is read is records, one end, and nothing behind it.
-pub fn shape_law()
-    ensures { (text : List ℕ) (m : ByteMap) → reading_of text ≡ Ok m → HasShape text }
+/// A text is read exactly where it is records, one end, and nothing behind it, and its map is the
+/// union of what its data lines give.
+pub fn text_law()
+    ensures read { (text : List ℕ) (m : ByteMap) → reading_of text ≡ Ok m → IsHexText text m }
+    ensures is { (text : List ℕ) (m : ByteMap) → IsHexText text m → reading_of text ≡ Ok m }
 {}

@@ -1,4 +1,5 @@
-use crate::{RecFault, read};
+use crate::{RecFault, read, write};
+use span_store::Spans;
 
 /// A number for each refusal, and what it names.
 fn named(fault: &RecFault) -> (u8, u64) {
@@ -82,6 +83,33 @@ fn texts_that_are_refused(rt: HostRuntime) {
         match read(rt.alloc(), text.as_bytes()) {
             Ok(_) => panic!(rt; "read"),
             Err(e) => assert_eq!(rt; named(&e), want, "{text}"),
+        }
+    }
+}
+
+/// Texts that are written: three bytes, and a run over a multiple of 65536.
+#[test]
+fn texts_that_are_written(rt: HostRuntime) {
+    let table: [(u64, &[u8], &str); 2] = [
+        (
+            0x1000,
+            &[0x61, 0x62, 0x63],
+            ":03100000616263C7\n:00000001FF\n",
+        ),
+        (
+            0xFFFF,
+            &[1, 2],
+            ":01FFFF000100\n:020000040001F9\n:0100000002FD\n:00000001FF\n",
+        ),
+    ];
+    for (at, bytes, want) in table {
+        let mut spans = Spans::new(rt.alloc());
+        if at <= 0x1_0000 && bytes.len() < 4 {
+            assert!(rt; spans.put(at, bytes).is_ok());
+        }
+        match write(rt.alloc(), &spans) {
+            Ok(text) => assert!(rt; text.as_slice() == want.as_bytes(), "{want}"),
+            Err(_) => panic!(rt; "no memory"),
         }
     }
 }

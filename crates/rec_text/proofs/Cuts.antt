@@ -1,13 +1,12 @@
 -- Lines that are being cut.
-use Rattle.std.proofs.Common.{zero, suc, ◌≡◌, ℕ, ◌+◌, ◌-◌, ◌^◌, ◌<◌, ◌≤◌, ◌⊎◌, List, [], ◌∷◌, ◌++◌, length, take, get_or, set, min, Option, Some, None, refl, sym, ap, ◌∙◌, subst, inl, inr, arith, append-nil, length-take}
+use Rattle.std.proofs.Common.{zero, suc, ◌≡◌, ℕ, ◌+◌, ◌-◌, ◌^◌, ◌<◌, ◌≤◌, ◌⊎◌, List, [], ◌∷◌, ◌++◌, length, take, set, min, Some, None, sym, ap, ◌∙◌, subst, inl, inr, arith, append-nil, length-take}
 use Rattle.std.proofs.lemmas.Bool.{cases_lt}
 use Rattle.std.proofs.lemmas.List.{take_more_set}
-use Rattle.std.specs.List.{slice_get}
 use Rattle.std.specs.Prelude.{IsSome}
 use Rattle.std.specs.Cmp.{nat_cmp_total}
-use Rattle.std.specs.FinMap.{get, empty, same_map, nat_cmp-IsAntisymmetric}
-use Rattle.span_store.specs.ByteMap.{ByteMap, over, part, top, Holds}
-use Rattle.span_store.specs.Extents.{Extent, map_of, end_of, EndBy, StartFrom, AreExtents}
+use Rattle.std.specs.FinMap.{get, same_map, nat_cmp-IsAntisymmetric}
+use Rattle.span_store.specs.ByteMap.{ByteMap, over, part, Holds}
+use Rattle.span_store.specs.Extents.{Extent, map_of, EndBy, AreExtents}
 use Rattle.span_store.proofs.Order.{joined, EndBy-append, EndBy_more}
 use Rattle.span_store.proofs.Lookups.{placed}
 use Rattle.span_store.proofs.Maps.{part_none, part_same, part_more, part_in, part_out, held-append, some_not_none}

@@ -1,5 +1,5 @@
 -- Bytes cut into the data of lines.
-use Rattle.std.specs.Prelude.{◌≡◌, ℕ, ◌+◌, ◌<◌, ◌≤◌, ◌⊎◌, List, [], ◌∷◌, length, None}
+use Rattle.std.specs.Prelude.{◌≡◌, ℕ, ◌<◌, ◌≤◌, ◌⊎◌, List, [], ◌∷◌, length, None}
 use Rattle.std.specs.FinMap.{get}
 use Rattle.span_store.specs.ByteMap.{ByteMap}
 use Rattle.span_store.specs.Extents.{Extent, map_of, end_of, AreExtents}

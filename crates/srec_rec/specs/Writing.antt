@@ -15,7 +15,7 @@ line_of kind bytes = (83 ∷ (48 + kind) ∷ []) ++ (digits_of bytes ++ (digits_
 
 -- the data line of bytes at an address
 abbrev pub data_line : Extent → List ℕ
-data_line e = line_of 3 (length e.1 + 5 ∷ e.0 / 16777216 ∷ e.0 / 65536 % 256 ∷ e.0 / 256 % 256 ∷ e.0 % 256 ∷ e.1)
+data_line e = line_of 3 ((length e.1 + 5) ∷ e.0 / 16777216 ∷ e.0 / 65536 % 256 ∷ e.0 / 256 % 256 ∷ e.0 % 256 ∷ e.1)
 
 abbrev pub lines_of : List Extent → List ℕ
 lines_of [] = []

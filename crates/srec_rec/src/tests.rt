@@ -1,4 +1,5 @@
-use crate::{RecFault, read};
+use crate::{RecFault, read, write};
+use span_store::Spans;
 
 /// A number for each refusal, and what it names.
 fn named(fault: &RecFault) -> (u8, u64, u64) {
@@ -63,5 +64,19 @@ fn texts_that_are_refused(rt: HostRuntime) {
             Ok(_) => panic!(rt; "read"),
             Err(e) => assert_eq!(rt; named(&e), want, "{text}"),
         }
+    }
+}
+
+/// Four bytes, written.
+#[test]
+fn text_that_is_written(rt: HostRuntime) {
+    let mut spans = Spans::new(rt.alloc());
+    assert!(rt; spans.put(0x1000, &[1, 2, 3, 4]).is_ok());
+    match write(rt.alloc(), &spans) {
+        Ok(text) => {
+            let want = "S0030000FC\nS3090000100001020304DC\nS70500000000FA\n";
+            assert!(rt; text.as_slice() == want.as_bytes());
+        }
+        Err(_) => panic!(rt; "no memory"),
     }
 }

@@ -33,7 +33,7 @@ fn push_line(text: &mut Bytes, kind: u8, head: &[u8], data: &[u8]) -> Result<(),
 fn push_data(text: &mut Bytes, at: u64, data: &[u8]) -> Result<(), NoMemory>
     requires size { length data.now ≤ 16 }
     requires below { at < 2 ^ 32 }
-    ensures { OnOk result (text.new ≡ text.old ++ line_of 3 (length data.now + 5 ∷ at / 16777216 ∷ at / 65536 % 256 ∷ at / 256 % 256 ∷ at % 256 ∷ data.now)) }
+    ensures { OnOk result (text.new ≡ text.old ++ line_of 3 ((length data.now + 5) ∷ at / 16777216 ∷ at / 65536 % 256 ∷ at / 256 % 256 ∷ at % 256 ∷ data.now)) }
 {
     let head = [
         (data.len() + 5) as u8,

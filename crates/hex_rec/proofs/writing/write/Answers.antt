@@ -1,7 +1,7 @@
-use Rattle.std.proofs.Common.{◌≡◌, ◌+◌, ◌-◌, ◌%◌, ◌/◌, ◌<◌, ◌≤◌, ◌++◌, ◌∷◌, [], ◌∙◌, ℕ, List, length, take, min, nat_eq, sym, ap, arith, length-take, append_assoc}
+use Rattle.std.proofs.Common.{◌%◌, ◌/◌, ◌++◌, ◌∷◌, [], ◌∙◌, ℕ, List, length, take, nat_eq, ap, arith, append_assoc}
 use Rattle.std.specs.Prelude.{if◌then◌else◌}
 use Rattle.span_store.proofs.Maps.{held_some}
-use Rattle.hex_rec.specs.Writing.{line_of, lines_at, base_line}
+use Rattle.hex_rec.specs.Writing.{line_of, base_line}
 use Rattle.hex_rec.proofs.Cuts.{begun, advanced, finished}
 use Rattle.hex_rec.proofs.writing.write.Goals as goal
 
