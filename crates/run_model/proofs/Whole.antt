@@ -57,3 +57,13 @@ pub message_frames : (source target : ℕ) (body : List ℕ) → CanSend body �
 message_frames source target body can =
     let one = stream_one 32769 (addressed source target body) (omega (arith, can.few)) (message_length body can) in
     (λ i. (one i).frames) ∙ (λ i. Message (number2_of source i) (number2_of target i) body ∷ [])
+
+pub nack_frames : (source target code : ℕ) → (stream_of (nack_bytes source target code)).frames ≡ Nack source target code [] ∷ []
+nack_frames source target code =
+    let one = stream_one 32771 (addressed source target (code ∷ [])) (omega arith) refl in
+    (λ i. (one i).frames) ∙ (λ i. Nack (number2_of source i) (number2_of target i) code [] ∷ [])
+
+pub ack_frames : (source target : ℕ) → (stream_of (ack_bytes source target)).frames ≡ Ack source target 0 [] ∷ []
+ack_frames source target =
+    let one = stream_one 32770 (addressed source target (0 ∷ [])) (omega arith) refl in
+    (λ i. (one i).frames) ∙ (λ i. Ack (number2_of source i) (number2_of target i) 0 [] ∷ [])
