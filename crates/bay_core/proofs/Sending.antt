@@ -1,11 +1,11 @@
 -- A request that was sent: its unit hears it or misses it, and the others stay.
 use Rattle.std.proofs.Common.{◌≡◌, ◌⊎◌, inl, inr, ℕ, zero, suc, ◌+◌, ◌<◌, ◌≤◌, true, false, List, [], ◌∷◌, ◌++◌, Some, None, refl, sym, ◌∙◌, ap, subst, arith, append_assoc}
-use Rattle.std.specs.Prelude.{Bool, Option, ◌==◌, ◌&&◌, not, filter, unwrap_or, if◌then◌else◌}
+use Rattle.std.specs.Prelude.{Bool, Option, ◌==◌, ◌&&◌, not, nat_le, filter, unwrap_or, if◌then◌else◌}
 use Rattle.std.proofs.lemmas.Bool.{cases_Bool, cases_eq, false≢true, both_ways, eqb-true, eq-eqb, ne_eqb, and_parts}
 use Rattle.std.proofs.lemmas.List.{append-nil}
 use Rattle.bay_core.proofs.Allowed.{SentFacts, sent_facts, asks_needs}
 use Rattle.bay_core.proofs.Joined.{up_open, open_live}
-use Rattle.bay_core.proofs.Queueing.{queue_more, released_bytes, release_is, filter_can, released_whole, released_words, held_filter, words_front, nack_words, ack_words, Alike, alike_way, alike_words, own_order, none_below, timely_held}
+use Rattle.bay_core.proofs.Queueing.{queue_more, released_bytes, release_is, filter_can, released_whole, released_words, held_filter, words_front, nack_words, ack_words, Alike, alike_way, alike_ready, alike_words, own_order, none_below, timely_held}
 use Rattle.bay_core.proofs.Slots.{unit_after}
 use Rattle.bay_core.proofs.Ticking.{left_nil, right_nil, bodies, held_bodies, way_holds_none, up_tester, up_active}
 use Rattle.bay_core.proofs.Ticks.{between, sent_can}
@@ -23,7 +23,7 @@ use Rattle.flash_plan.specs.Plan.{IsAccepted, plan_of, count_of}
 use Rattle.flash_plan.specs.declared.outcome.Entry.{Entry}
 use Rattle.flash_plan.specs.declared.unit.LinkRules.{LinkRules}
 use Rattle.flash_plan.specs.declared.unit.UnitPlan.{UnitPlan}
-use Rattle.run_model.proofs.Alike.{state_in_same}
+use Rattle.run_model.proofs.Alike.{state_in_same, awaits_same}
 use Rattle.run_model.proofs.Hearing.{Stepped, HeardAtMost, sent_heard, found_address}
 use Rattle.run_model.proofs.Replies.{Timely, Clear, said_words, replies_way, heard_it, step_timely}
 use Rattle.run_model.proofs.Sends.{IsBetween}
@@ -41,10 +41,19 @@ use Rattle.unit_model.proofs.Steps.{step_frames}
 use Rattle.unit_model.proofs.Units.{SameState, SameIn, SameUnits, same_self, with_same, with_other}
 use Rattle.unit_model.specs.Feed.{Word, with_unit, queue_word, queue_words, tester_of, waits_for, released, words_of, Handles, HandlesMessage, HandlesAt, Nacks, Hears, Refuses}
 use Rattle.unit_model.specs.Step.{CanSend, UnitStep, Holds, raise_code}
-use Rattle.unit_model.specs.Unit.{ControlUnit, Counts}
+use Rattle.unit_model.specs.Unit.{ControlUnit, Counts, obedient}
 use Rattle.unit_model.specs.Vehicle.{HeldAnswer, Gateway, Vehicle, unit_at}
 use Rattle.unit_model.specs.declared.reply.Due.TheVariants.{At, Held}
+use Rattle.unit_model.specs.declared.reply.Due.{Due}
 use Rattle.unit_model.specs.declared.reply.UnitReply.{UnitReply}
+
+tick_kept : (ws : List Word) (g : Gateway) → (queue_words g ws).tick ≡ g.tick
+tick_kept [] g = refl
+tick_kept (x ∷ xs) g = tick_kept xs (queue_word g x.unit x.sid x.reply.due x.reply.body) ∙ one x.reply.due
+  where
+    one : (due : Due) → (queue_word g x.unit x.sid due x.reply.body).tick ≡ g.tick
+    one (At due) = elim (cases_Bool (nat_le due g.tick)) [ inl e ↦ rw e refl | inr e ↦ rw e refl ]
+    one (Held every watch service) = refl
 
 -- ------ a request to the unit at t goes on to the gateway
 module _ (tester t : ℕ) (bytes : List ℕ) (l : Link) (v w : Vehicle) (c : IsConnected tester l v.gateway) (up : is_up l.phase ≡ true) where
@@ -134,3 +143,213 @@ module _ (tester t : ℕ) (bytes : List ℕ) (l : Link) (v w : Vehicle) (c : IsC
       at None is r = inl (refuses 3 h.mid h.out r h.becomes)
       at (Some u) is (inl n) = inl (nacks u h.mid h.out is n h.becomes)
       at (Some u) is (inr y) = inr (hears u h.mid h.out is y h.becomes)
+
+  -- ------ what is on the way from any unit before the replies
+  ready_whole : (frame : List ℕ) → IsWhole frame → IsWhole (l.rest ++ (v.gateway.ready ++ frame))
+  ready_whole frame wf = subst (λ (x : List ℕ). IsWhole x) (append_assoc l.rest v.gateway.ready frame) (whole_append (l.rest ++ v.gateway.ready) frame c.ready wf)
+
+  let_whole : IsWhole (l.rest ++ let_out.ready)
+  let_whole = subst (λ (x : List ℕ). IsWhole x) (append_assoc l.rest acked.ready (released_bytes tester (filter waits v.gateway.held)))
+      (whole_append (l.rest ++ acked.ready) (released_bytes tester (filter waits v.gateway.held)) (ready_whole (ack_bytes t tester) (ack_whole t tester)) (released_whole tester (filter waits v.gateway.held) (filter_can waits v.gateway.held c.held)))
+
+  module _ (a : ℕ) (inbox : List (ℕ × Spoken)) where
+    abbrev X : List Spoken
+    X = words_from a inbox
+
+    abbrev Y : List Spoken
+    Y = words_in tester a (stream_of (l.rest ++ v.gateway.ready)).frames
+
+    abbrev L : List Spoken
+    L = words_later tester a v.gateway.later
+
+    abbrev old_way : List Spoken
+    old_way = on_way tester a inbox l.rest v.gateway
+
+    more_ready : (frame : List ℕ) → words_in tester a (stream_of (l.rest ++ (v.gateway.ready ++ frame))).frames ≡ Y ++ words_in tester a (stream_of frame).frames
+    more_ready frame = ap (λ (x : List ℕ). words_in tester a (stream_of x).frames) (sym (append_assoc l.rest v.gateway.ready frame)) ∙ words_front tester a (l.rest ++ v.gateway.ready) frame c.ready
+
+    let_ready : words_in tester a (stream_of (l.rest ++ let_out.ready)).frames ≡ Y ++ bodies (filter waits (held_of a v.gateway.held))
+    let_ready =
+        ap (λ (x : List ℕ). words_in tester a (stream_of x).frames) (sym (append_assoc l.rest acked.ready (released_bytes tester (filter waits v.gateway.held))))
+        ∙ words_front tester a (l.rest ++ acked.ready) (released_bytes tester (filter waits v.gateway.held)) (ready_whole (ack_bytes t tester) (ack_whole t tester))
+        ∙ (λ i. (more_ready (ack_bytes t tester) ∙ ap (λ (ws : List Spoken). Y ++ ws) (ack_words tester a t tester) ∙ append-nil Y) i
+        ++ (released_words tester a (filter waits v.gateway.held) (filter_can waits v.gateway.held c.held) ∙ ap bodies (held_filter tester a waits v.gateway.held)) i)
+
+    let_held : words_held a let_out.held ≡ bodies (filter (λ h. not (waits h)) (held_of a v.gateway.held))
+    let_held = held_bodies a let_out.held ∙ ap bodies (held_filter tester a (λ h. not (waits h)) v.gateway.held)
+
+    let_way : on_way tester a inbox l.rest let_out ≡ X ++ ((Y ++ bodies (filter waits (held_of a v.gateway.held))) ++ (L ++ bodies (filter (λ h. not (waits h)) (held_of a v.gateway.held))))
+    let_way = λ i. X ++ (let_ready i ++ (L ++ let_held i))
+
+    was_way : old_way ≡ X ++ (Y ++ (L ++ bodies (held_of a v.gateway.held)))
+    was_way = λ i. X ++ (Y ++ (L ++ held_bodies a v.gateway.held i))
+
+    let_none : held_of a v.gateway.held ≡ [] → on_way tester a inbox l.rest let_out ≡ old_way
+    let_none none =
+        let_way ∙ (λ i. X ++ ((Y ++ bodies (filter waits (none i))) ++ (L ++ bodies (filter (λ h. not (waits h)) (none i)))))
+        ∙ (λ i. X ++ (append-nil Y i ++ (L ++ []))) ∙ (λ i. X ++ (Y ++ (L ++ bodies (sym none i)))) ∙ sym was_way
+
+    let_lone : (one : HeldAnswer) → held_of a v.gateway.held ≡ one ∷ [] → L ≡ [] → on_way tester a inbox l.rest let_out ≡ old_way
+    let_lone one lone none =
+        let_way ∙ (λ i. X ++ ((Y ++ bodies (filter waits (lone i))) ++ (none i ++ bodies (filter (λ h. not (waits h)) (lone i)))))
+        ∙ ap (λ (ws : List Spoken). X ++ ws) (moved (cases_Bool (waits one))) ∙ (λ i. X ++ (Y ++ (sym none i ++ bodies (sym lone i)))) ∙ sym was_way
+      where
+        moved : (waits one ≡ true) ⊎ (waits one ≡ false) → (Y ++ bodies (filter waits (one ∷ []))) ++ bodies (filter (λ h. not (waits h)) (one ∷ [])) ≡ Y ++ (Reply one.body ∷ [])
+        moved (inl e) = rw e (append-nil (Y ++ (Reply one.body ∷ [])))
+        moved (inr e) = rw e (ap (λ (ws : List Spoken). ws ++ (Reply one.body ∷ [])) (append-nil Y))
+
+    let_holds : (k : ℕ) → HoldsAtMost tester a k v.gateway → HoldsAtMost tester a k let_out
+    let_holds k (inl none) = inl (held_filter tester a (λ h. not (waits h)) v.gateway.held ∙ ap (filter (λ h. not (waits h))) none)
+    let_holds k (inr lone) = go (cases_Bool (waits lone.one))
+      where
+        filtered : held_of a let_out.held ≡ filter (λ h. not (waits h)) (lone.one ∷ [])
+        filtered = held_filter tester a (λ h. not (waits h)) v.gateway.held ∙ ap (filter (λ h. not (waits h))) lone.held
+
+        dropped : waits lone.one ≡ true → filter (λ h. not (waits h)) (lone.one ∷ []) ≡ []
+        dropped e = rw e refl
+
+        stayed : waits lone.one ≡ false → filter (λ h. not (waits h)) (lone.one ∷ []) ≡ lone.one ∷ []
+        stayed e = rw e refl
+
+        go : (waits lone.one ≡ true) ⊎ (waits lone.one ≡ false) → HoldsAtMost tester a k let_out
+        go (inl e) = inl (filtered ∙ dropped e)
+        go (inr e) = inr (record { one = lone.one; held = filtered ∙ stayed e; service = lone.service; later = lone.later })
+
+  -- ------ another unit
+  answered_alike : (a : ℕ) (frame : List ℕ) → IsWhole frame → words_in tester a (stream_of frame).frames ≡ [] → Alike tester a l.rest v.gateway (answered frame v.gateway.held)
+  answered_alike a frame wf none =
+      let x = alike_ready tester a l.rest v.gateway frame c.ready wf none in
+      record { ready = x.ready; later = refl; held = refl; order = λ from. refl; whole = x.whole; tick = refl }
+
+  alike_holds : (a k : ℕ) (g g2 : Gateway) → Alike tester a l.rest g g2 → HoldsAtMost tester a k g → HoldsAtMost tester a k g2
+  alike_holds a k g g2 x (inl none) = inl (x.held ∙ none)
+  alike_holds a k g g2 x (inr lone) = inr (record { one = lone.one; held = x.held ∙ lone.held; service = lone.service; later = x.later ∙ lone.later })
+
+  -- what another unit keeps
+  record Others (a : ℕ) (inbox : List (ℕ × Spoken)) : Type 0 where
+    none : held_of a v.gateway.held ≡ [] → on_way tester a inbox l.rest w.gateway ≡ on_way tester a inbox l.rest v.gateway
+    holds : (k : ℕ) → HoldsAtMost tester a k v.gateway → HoldsAtMost tester a k w.gateway
+    way : (k : ℕ) → HoldsAtMost tester a k v.gateway → on_way tester a inbox l.rest w.gateway ≡ on_way tester a inbox l.rest v.gateway
+    order : ascends_for tester a v.gateway.tick v.gateway.later ≡ true → ascends_for tester a w.gateway.tick w.gateway.later ≡ true
+    unit : SameIn (unit_at v.units a) (unit_at w.units a)
+
+  others : (a : ℕ) (inbox : List (ℕ × Spoken)) → (a ≡ t → ⊥) → Refused ⊎ Heard → Others a inbox
+  others a inbox apart (inl r) =
+      let not_a : (t == a) ≡ false = ne_eqb t a (λ q. apart (sym q)) in
+      let none : words_in tester a (stream_of (nack_bytes t tester r.code)).frames ≡ [] = nack_words tester a t r.code ∙ (λ i. if not_a i then Unheard r.code ∷ [] else []) in
+      let x = answered_alike a (nack_bytes t tester r.code) (nack_whole t tester r.code) none in
+      let way : on_way tester a inbox l.rest w.gateway ≡ on_way tester a inbox l.rest v.gateway = ap (λ (g : Gateway). on_way tester a inbox l.rest g) r.gateway ∙ alike_way tester a inbox l.rest v.gateway _ x in
+      record {
+        none = λ e. way;
+        holds = λ k h. subst (λ (g : Gateway). HoldsAtMost tester a k g) (sym r.gateway) (alike_holds a k v.gateway _ x h);
+        way = λ k h. way;
+        order = λ up. ap (λ (g : Gateway). ascends_for tester a g.tick g.later) r.gateway ∙ up;
+        unit = r.same a;
+      }
+  others a inbox apart (inr h) =
+      let not_a : (t == a) ≡ false = ne_eqb t a (λ q. apart (sym q)) in
+      let x = alike_words tester a l.rest t sid h.replies let_out not_a let_whole h.step.sizes in
+      let after : on_way tester a inbox l.rest w.gateway ≡ on_way tester a inbox l.rest let_out = ap (λ (g : Gateway). on_way tester a inbox l.rest g) h.gateway ∙ alike_way tester a inbox l.rest let_out _ x in
+      record {
+        none = λ e. after ∙ let_none a inbox e;
+        holds = λ k m. subst (λ (g : Gateway). HoldsAtMost tester a k g) (sym h.gateway) (alike_holds a k let_out _ x (let_holds a inbox k m));
+        way = λ k m. after ∙ way_of m;
+        order = λ up. ap (λ (g : Gateway). ascends_for tester a g.tick g.later) h.gateway ∙ (λ i. ascends_for tester a (x.tick i) (queue_words let_out (words_of t sid h.replies)).later) ∙ x.order v.gateway.tick ∙ up;
+        unit = subst (λ (o : Option ControlUnit). SameIn (unit_at v.units a) o) (sym (h.others a apart)) (same_self (unit_at v.units a));
+      }
+    where
+      way_of : {k : ℕ} → HoldsAtMost tester a k v.gateway → on_way tester a inbox l.rest let_out ≡ on_way tester a inbox l.rest v.gateway
+      way_of (inl none) = let_none a inbox none
+      way_of (inr lone) = let_lone a inbox lone.one lone.held lone.later
+
+  pub other_unit : (plan : UnitPlan) (s : Slot) → (plan.address ≡ t → ⊥) → Refused ⊎ Heard → IsUnitJoint tester plan l s v → IsUnitJoint tester plan l s w
+  other_unit plan s apart how j =
+      let o = others plan.address l.inbox apart how in
+      let live : is_live l.phase ≡ true = open_live l.phase (up_open l.phase up) in
+      record {
+        slot = record {
+          unclaimed = λ x k. let e = j.slot.unclaimed x k in o.none (way_holds_none tester plan.address l.inbox l.rest v.gateway e).0 ∙ e;
+          rests = λ x k i n. let e = j.slot.rests x k i n in o.none (way_holds_none tester plan.address l.inbox l.rest v.gateway e).0 ∙ e;
+          state = λ a i. state_in_same plan s.talk.place _ _ o.unit (j.slot.state a i);
+          awaits = λ x a i. awaits_same plan s.talk.place _ _ _ _ (o.way (sid_of (bytes_at plan s.talk.place)) (j.held x a i)) o.unit (j.slot.awaits x a i);
+        };
+        order = λ x. o.order (j.order x);
+        held = λ x a i. o.holds (sid_of (bytes_at plan s.talk.place)) (j.held x a i);
+      }
+
+  -- ------ the unit that the request was for: nothing was on the way from it
+  module _ (inbox : List (ℕ × Spoken)) (nothing : on_way tester t inbox l.rest v.gateway ≡ []) where
+    no_X : words_from t inbox ≡ []
+    no_X = left_nil (words_from t inbox) _ nothing
+
+    no_Y : words_in tester t (stream_of (l.rest ++ v.gateway.ready)).frames ≡ []
+    no_Y = left_nil (words_in tester t (stream_of (l.rest ++ v.gateway.ready)).frames) _ (right_nil (words_from t inbox) _ nothing)
+
+    no_held : held_of t v.gateway.held ≡ []
+    no_held = (way_holds_none tester t inbox l.rest v.gateway nothing).0
+
+    no_later : words_later tester t v.gateway.later ≡ []
+    no_later = (way_holds_none tester t inbox l.rest v.gateway nothing).1
+
+    refused_way : (r : Refused) → on_way tester t inbox l.rest w.gateway ≡ Unheard r.code ∷ []
+    refused_way r =
+        ap (λ (g : Gateway). on_way tester t inbox l.rest g) r.gateway
+        ∙ (λ i. no_X i ++ ((more_ready t inbox (nack_bytes t tester r.code) ∙ (λ j. no_Y j ++ (nack_words tester t t r.code ∙ (λ k. if eq-eqb t t refl k then Unheard r.code ∷ [] else [])) j)) i
+        ++ (no_later i ++ (held_bodies t v.gateway.held ∙ ap bodies no_held) i)))
+
+    let_nothing : on_way tester t inbox l.rest let_out ≡ []
+    let_nothing = let_none t inbox no_held ∙ nothing
+
+    let_no_held : words_held t let_out.held ≡ []
+    let_no_held = held_bodies t let_out.held ∙ ap bodies (held_filter tester t (λ h. not (waits h)) v.gateway.held ∙ ap (filter (λ h. not (waits h))) no_held)
+
+    -- the answer is held
+    held_last : (held : List HeldAnswer) (h : HeldAnswer) → (h.unit == t) ≡ true → held_of t held ≡ [] → held_of t (held ++ (h ∷ [])) ≡ h ∷ []
+    held_last [] h e none = rw e refl
+    held_last (x ∷ xs) h e none = elim (cases_Bool (x.unit == t)) [
+      | inl f ↦ absurd (cons_nil x (held_of t xs) (rw f at none))
+      | inr f ↦ rw f (held_last xs h e (rw f at none))
+    ]
+      where
+        cons_nil : (x : HeldAnswer) (xs : List HeldAnswer) → x ∷ xs ≡ [] → ⊥
+        cons_nil x xs e = false≢true (sym (ap is_cons e))
+          where
+            is_cons : List HeldAnswer → Bool
+            is_cons [] = false
+            is_cons (y ∷ ys) = true
+
+    record Said (h : Heard) : Type 0 where
+      way : on_way tester t inbox l.rest w.gateway ≡ said_words h.replies
+      holds : HoldsAtMost tester t sid w.gateway
+      order : ascends_for tester t w.gateway.tick w.gateway.later ≡ true
+
+    timely_said : (h : Heard) → Timely v.gateway.tick h.replies → ascends_for tester t v.gateway.tick v.gateway.later ≡ true → Said h
+    timely_said h timely up_order = record {
+      way = ap (λ (g : Gateway). on_way tester t inbox l.rest g) h.gateway
+          ∙ replies_way tester t sid inbox l.rest h.replies v.gateway.tick let_out timely (record { whole = let_whole; active = active_is; held = let_no_held }) (inl no_later)
+          ∙ ap (λ (ws : List Spoken). ws ++ said_words h.replies) let_nothing;
+      holds = inl (ap (λ (g : Gateway). held_of t g.held) h.gateway ∙ ap (held_of t) (timely_held tester t t sid h.replies v.gateway.tick let_out timely) ∙ held_filter tester t (λ h. not (waits h)) v.gateway.held ∙ ap (filter (λ h. not (waits h))) no_held);
+      order = ap (λ (g : Gateway). ascends_for tester t g.tick g.later) h.gateway ∙ (λ i. ascends_for tester t (tick_kept (words_of t sid h.replies) let_out i) (queue_words let_out (words_of t sid h.replies)).later)
+          ∙ own_order tester t t sid v.gateway.tick h.replies v.gateway.tick let_out timely (omega arith) (none_below tester t v.gateway.later v.gateway.tick no_later) up_order;
+    }
+
+    held_said : (h : Heard) → Holds h.old bytes v.gateway.tick h.replies h.new → ascends_for tester t v.gateway.tick v.gateway.later ≡ true → Said h
+    held_said h holds up_order =
+        let last : HeldAnswer = record { unit = t; sid = sid; body = (obedient h.old bytes).1; every = holds.every; watch = holds.unit; service = holds.sid; from = v.gateway.tick; pending = 0 } in
+        let is : w.gateway ≡ record let_out { held = let_out.held ++ (record { unit = t; sid = sid; body = (obedient h.old bytes).1; every = holds.every; watch = holds.unit; service = holds.sid; from = v.gateway.tick; pending = 0 } ∷ []) } =
+        h.gateway ∙ ap (λ (rs : List UnitReply). queue_words let_out (words_of t sid rs)) holds.gives in
+        let one : held_of t (let_out.held ++ (record { unit = t; sid = sid; body = (obedient h.old bytes).1; every = holds.every; watch = holds.unit; service = holds.sid; from = v.gateway.tick; pending = 0 } ∷ [])) ≡ record { unit = t; sid = sid; body = (obedient h.old bytes).1; every = holds.every; watch = holds.unit; service = holds.sid; from = v.gateway.tick; pending = 0 } ∷ [] =
+        held_last let_out.held _ (eq-eqb t t refl) (held_filter tester t (λ x. not (waits x)) v.gateway.held ∙ ap (filter (λ x. not (waits x))) no_held) in
+        record {
+          way = ap (λ (g : Gateway). on_way tester t inbox l.rest g) is
+              ∙ (λ i. no_X i ++ (left_nil (words_in tester t (stream_of (l.rest ++ let_out.ready)).frames) _ (right_nil (words_from t inbox) _ let_nothing) i ++ (no_later i ++ (held_bodies t _ ∙ ap bodies one) i)))
+              ∙ sym (ap said_words holds.gives);
+          holds = subst (λ (g : Gateway). HoldsAtMost tester t sid g) (sym is) (inr (record { one = last; held = one; service = refl; later = no_later }));
+          order = ap (λ (g : Gateway). ascends_for tester t g.tick g.later) is ∙ up_order;
+        }
+
+    said_by_unit : (h : Heard) → ascends_for tester t v.gateway.tick v.gateway.later ≡ true → Said h
+    said_by_unit h up_order = elim (step_timely h.old h.new bytes v.gateway.tick h.replies h.step) [
+      | inl timely ↦ timely_said h timely up_order
+      | inr holds ↦ held_said h holds up_order
+    ]
