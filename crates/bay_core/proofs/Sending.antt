@@ -26,7 +26,7 @@ use Rattle.flash_plan.specs.declared.unit.UnitPlan.{UnitPlan}
 use Rattle.run_model.proofs.Alike.{state_in_same, awaits_same}
 use Rattle.run_model.proofs.Hearing.{Stepped, HeardAtMost, sent_heard, found_address}
 use Rattle.run_model.proofs.Replies.{Timely, Clear, said_words, replies_way, heard_it, step_timely}
-use Rattle.run_model.proofs.Sends.{IsBetween}
+use Rattle.run_model.proofs.Sends.{IsBetween, message_sends}
 use Rattle.run_model.proofs.Whole.{whole_append, ack_whole, nack_whole, message_length}
 use Rattle.run_model.specs.Connected.{IsConnected}
 use Rattle.run_model.specs.Link.{Link, Phase, Down, Fresh, Waits, Up, Denied, is_up, is_live}
@@ -39,7 +39,7 @@ use Rattle.uds_codec.specs.Request.{sid_of}
 use Rattle.unit_model.proofs.Feeding.{Handled, fed_whole}
 use Rattle.unit_model.proofs.Steps.{step_frames}
 use Rattle.unit_model.proofs.Units.{SameState, SameIn, SameUnits, same_self, with_same, with_other}
-use Rattle.unit_model.specs.Feed.{Word, with_unit, queue_word, queue_words, tester_of, waits_for, released, words_of, Handles, HandlesMessage, HandlesAt, Nacks, Hears, Refuses}
+use Rattle.unit_model.specs.Feed.{Feeds, FeedsPart, Word, with_unit, queue_word, queue_words, tester_of, waits_for, released, words_of, Handles, HandlesMessage, HandlesAt, Nacks, Hears, Refuses}
 use Rattle.unit_model.specs.Step.{CanSend, UnitStep, Holds, raise_code}
 use Rattle.unit_model.specs.Unit.{ControlUnit, Counts, obedient}
 use Rattle.unit_model.specs.Vehicle.{HeldAnswer, Gateway, Vehicle, unit_at}
@@ -353,3 +353,119 @@ module _ (tester t : ℕ) (bytes : List ℕ) (l : Link) (v w : Vehicle) (c : IsC
       | inl timely ↦ timely_said h timely up_order
       | inr holds ↦ held_said h holds up_order
     ]
+
+missed_in : (plan : UnitPlan) (place : Place) (way : List Spoken) (code : ℕ) (o : Option ControlUnit) → StateIn plan place o → way ≡ Unheard code ∷ [] → AwaitsIn plan place way o
+missed_in plan place way code None state is = record { code = code; state = state; on_way = is }
+missed_in plan place way code (Some u) state is = inl (record { code = code; state = state; on_way = is })
+
+place_goes : (place : Place) → needs_request place ≡ true → is_ended place ≡ false
+place_goes (AtIdent x xs) e = refl
+place_goes AtBegin e = absurd (false≢true e)
+place_goes AtProgram e = refl
+place_goes (AtSeed level) e = refl
+place_goes (AtKey level seed) e = refl
+place_goes (AtErase c) e = refl
+place_goes (AtDownload c) e = refl
+place_goes (AtBlock c b) e = refl
+place_goes (AtExit c) e = refl
+place_goes (AtCheck c) e = refl
+place_goes AtFinish e = refl
+place_goes AtReset e = refl
+place_goes AtDone e = absurd (false≢true e)
+place_goes (AtEnd outcome) e = absurd (false≢true e)
+
+module _ (rules : LinkRules) (P : List UnitPlan) (c : Core) (R : Entry → Bool) (v v0 : Vehicle) (t0 : ℕ) (accepted : IsAccepted P) (joint : IsJoint rules P c R v v0 t0) (u : ℕ) (w : Vehicle) where
+  abbrev plan_u : UnitPlan
+  plan_u = plan_of P u
+
+  abbrev bytes_u : List ℕ
+  bytes_u = bytes_at (plan_of P u) (c.slots u).talk.place
+
+  abbrev Slot_sent : Slot
+  Slot_sent = with_talk (talk_sent c.link.ticks) (c.slots u)
+
+  can_say : (number : ℕ) → SentFacts P c u number → CanSend bytes_u
+  can_say number f = sent_can rules P c R v v0 t0 accepted joint u f.below f.request
+
+  connected : (number : ℕ) → SentFacts P c u number → IsConnected rules.tester c.link v.gateway
+  connected number f = joint.connected (open_live c.link.phase (up_open c.link.phase f.up))
+
+  live_by : (number : ℕ) → SentFacts P c u number → is_live c.link.phase ≡ true
+  live_by number f = open_live c.link.phase (up_open c.link.phase f.up)
+
+  apart : (n : ℕ) → n < count_of P → u < count_of P → (n == u) ≡ false → (plan_of P n).address ≡ (plan_of P u).address → ⊥
+  apart n lt lu e q = both_ways _ e (eq-eqb n u (accepted.addresses n u lt lu q))
+
+  -- whole
+  own_sent : (number : ℕ) (f : SentFacts P c u number) → Refused rules.tester (plan_of P u).address bytes_u c.link v w (connected number f) f.up ⊎ Heard rules.tester (plan_of P u).address bytes_u c.link v w (connected number f) f.up
+      → IsUnitJoint rules.tester (plan_of P u) c.link Slot_sent w
+  own_sent number f how = record {
+    slot = record {
+      unclaimed = λ x k. absurd (both_ways _ k f.claimed);
+      rests = λ x k i n. absurd (false≢true (sym i));
+      state = λ a i. absurd (false≢true (sym i));
+      awaits = λ x a i. awaits how;
+    };
+    order = λ x. order how;
+    held = λ x a i. holds how;
+  }
+    where
+      j : IsUnitJoint rules.tester (plan_of P u) c.link (c.slots u) v
+      j = joint.units u f.below
+
+      nothing : on_way rules.tester (plan_of P u).address c.link.inbox c.link.rest v.gateway ≡ []
+      nothing = (joint.units u f.below).slot.rests (live_by number f) f.claimed f.idle (place_goes (c.slots u).talk.place (asks_needs (plan_of P u) (c.slots u).talk.place f.request))
+
+      up_order : ascends_for rules.tester (plan_of P u).address v.gateway.tick v.gateway.later ≡ true
+      up_order = (joint.units u f.below).order (live_by number f)
+
+      state : StateIn (plan_of P u) (c.slots u).talk.place (unit_at v.units (plan_of P u).address)
+      state = (joint.units u f.below).slot.state f.slot f.idle
+
+      awaits : Refused rules.tester (plan_of P u).address bytes_u c.link v w (connected number f) f.up ⊎ Heard rules.tester (plan_of P u).address bytes_u c.link v w (connected number f) f.up → AwaitsIn (plan_of P u) (c.slots u).talk.place (on_way rules.tester (plan_of P u).address c.link.inbox c.link.rest w.gateway) (unit_at w.units (plan_of P u).address)
+      awaits (inl r) = missed_in (plan_of P u) (c.slots u).talk.place _ r.code _ (state_in_same (plan_of P u) (c.slots u).talk.place _ _ (r.same (plan_of P u).address) state)
+          (refused_way rules.tester (plan_of P u).address bytes_u c.link v w (connected number f) f.up c.link.inbox nothing r)
+      awaits (inr h) =
+          let s = said_by_unit rules.tester (plan_of P u).address bytes_u c.link v w (connected number f) f.up c.link.inbox nothing h up_order in
+          let before : StateAt (plan_of P u) (c.slots u).talk.place h.old = subst (λ (o : Option ControlUnit). StateIn (plan_of P u) (c.slots u).talk.place o) h.old_at state in
+          subst (λ (x : List Spoken × Option ControlUnit). AwaitsIn (plan_of P u) (c.slots u).talk.place x.0 x.1) (λ i. (sym s.way i, sym h.new_at i))
+          (inr (heard_it (plan_of P u) (c.slots u).talk.place h.old h.new v.gateway.tick h.replies before h.step))
+
+      order : Refused rules.tester (plan_of P u).address bytes_u c.link v w (connected number f) f.up ⊎ Heard rules.tester (plan_of P u).address bytes_u c.link v w (connected number f) f.up → ascends_for rules.tester (plan_of P u).address w.gateway.tick w.gateway.later ≡ true
+      order (inl r) = ap (λ (g : Gateway). ascends_for rules.tester (plan_of P u).address g.tick g.later) r.gateway ∙ up_order
+      order (inr h) = (said_by_unit rules.tester (plan_of P u).address bytes_u c.link v w (connected number f) f.up c.link.inbox nothing h up_order).order
+
+      holds : Refused rules.tester (plan_of P u).address bytes_u c.link v w (connected number f) f.up ⊎ Heard rules.tester (plan_of P u).address bytes_u c.link v w (connected number f) f.up → HoldsAtMost rules.tester (plan_of P u).address (sid_of bytes_u) w.gateway
+      holds (inl r) = inl (ap (λ (g : Gateway). held_of (plan_of P u).address g.held) r.gateway ∙ no_held rules.tester (plan_of P u).address bytes_u c.link v w (connected number f) f.up c.link.inbox nothing)
+      holds (inr h) = (said_by_unit rules.tester (plan_of P u).address bytes_u c.link v w (connected number f) f.up c.link.inbox nothing h up_order).holds
+
+  whole_sent : (number : ℕ) (f : SentFacts P c u number) → Feeds (message_bytes rules.tester (plan_of P u).address bytes_u) v w → (n : ℕ) → n < count_of P → IsUnitJoint rules.tester (plan_of P n) c.link (with_slot u Slot_sent c.slots n) w
+  whole_sent number f feeds n lt =
+      let at = between rules c.link v.gateway (connected number f) in
+      let h = (message_sends rules.tester (plan_of P u).address bytes_u v w (can_say number f) at feeds).handled in
+      let how = came_out rules.tester (plan_of P u).address bytes_u c.link v w (connected number f) f.up h in
+      elim (cases_Bool (n == u)) [
+        | inl e ↦ rw e (let is : n ≡ u = eqb-true n u e in subst (λ (k : ℕ). IsUnitJoint rules.tester (plan_of P k) c.link Slot_sent w) (sym is) (own_sent number f how))
+        | inr e ↦ rw e (other_unit rules.tester (plan_of P u).address bytes_u c.link v w (connected number f) f.up (plan_of P n) (c.slots n) (apart n lt f.below e) how (joint.units n lt))
+      ]
+
+  -- in part
+  part_state : (number : ℕ) (f : SentFacts P c u number) → HeardAtMost (plan_of P u).address bytes_u v.units w.units → (n : ℕ) → n < count_of P
+      → is_open_slot (with_slot u Slot_sent c.slots n) ≡ true → (with_slot u Slot_sent c.slots n).talk.awaiting ≡ false → StateIn (plan_of P n) (with_slot u Slot_sent c.slots n).talk.place (unit_at w.units (plan_of P n).address)
+  part_state number f heard n lt = elim (cases_Bool (n == u)) [
+    | inl e ↦ rw e (λ o i. absurd (false≢true (sym i)))
+    | inr e ↦ rw e (λ o i. state_in_same (plan_of P n) (c.slots n).talk.place _ _ (same e heard) ((joint.units n lt).slot.state o i))
+  ]
+    where
+      same : (n == u) ≡ false → HeardAtMost (plan_of P u).address bytes_u v.units w.units → SameIn (unit_at v.units (plan_of P n).address) (unit_at w.units (plan_of P n).address)
+      same e (inl all) = all (plan_of P n).address
+      same e (inr s) = subst (λ (o : Option ControlUnit). SameIn (unit_at v.units (plan_of P n).address) o) (sym (s.others (plan_of P n).address (apart n lt f.below e))) (same_self (unit_at v.units (plan_of P n).address))
+
+  pub sent_kept : (number : ℕ) (lost : Bool) → is_allowed P c (Sent u number lost) ≡ true → FeedsOr lost (request_frame rules P c u) v w → (n : ℕ) → n < count_of P → IsUnitJoint rules.tester (plan_of P n) (link_after rules P (Sent u number lost) c.link) ((core_after rules P (Sent u number lost) c).slots n) w
+  sent_kept number true ok did n lt =
+      let f = sent_facts P c u number true ok in
+      let heard = sent_heard rules.tester (plan_of P u).address bytes_u true v w (can_say number f) (between rules c.link v.gateway (connected number f)) did in
+      unit_after rules P c (Sent u number true) n w (inl (refl, refl)) (λ down o i k. part_state number f heard n lt o i) (λ losses. absurd (omega (arith, losses)))
+  sent_kept number false ok did n lt =
+      let f = sent_facts P c u number false ok in
+      unit_after rules P c (Sent u number false) n w (inr (refl, λ x. x)) (λ down o i k. absurd (both_ways _ (ap is_up down) f.up)) (λ losses. whole_sent number f did n lt)
