@@ -2,6 +2,7 @@ pub mod Allowed
 pub mod Collecting
 pub mod Joined
 pub mod Links
+pub mod OneStep
 pub mod Piecing
 pub mod Queueing
 pub mod Recorded
