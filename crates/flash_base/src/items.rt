@@ -41,6 +41,14 @@ impl<T> Items<T> {
         Items { inner }
     }
 
+    /// The elements, as a vector.
+    pub fn into_vec(self) -> Vec<T>
+        ensures { result.items ≡ self }
+    {
+        let Items { inner } = self;
+        inner
+    }
+
     /// The content.
     pub fn as_slice(&self) -> &[T]
         ensures { result.now ≡ self.now }
@@ -71,6 +79,14 @@ impl<T: Drop> Items<T> {
         ensures err { OnErr result (self.new ≡ self.old) }
     {
         self.inner.push(item)?;
+        Ok(())
+    }
+    /// Puts `item` before all others; where there is no memory the item is dropped.
+    pub fn push_front(&mut self, item: T) -> Result<(), NoMemory>
+        ensures ok { OnOk result (self.new ≡ item ∷ self.old) }
+        ensures err { OnErr result (self.new ≡ self.old) }
+    {
+        self.inner.insert(0, item)?;
         Ok(())
     }
 }

@@ -26,10 +26,13 @@ key_bytes Free = 0 ∷ []
 key_bytes (Xor level mask) = 1 ∷ level ∷ counted mask
 key_bytes (Digest level size secret) = 2 ∷ level ∷ size ∷ counted secret
 
+-- address, name, width with the size's digit first, check routine, key rule
+abbrev pub unit_head : UnitPlan → List ℕ
+unit_head u = big_endian 2 u.address ++ counted u.name ++ ((u.width.size * 16 + u.width.at) ∷ []) ++ big_endian 2 u.check ++ key_bytes u.key
+
 abbrev pub unit_bytes : UnitPlan → List ℕ
 unit_bytes u =
-    big_endian 2 u.address ++ counted u.name ++ ((u.width.size * 16 + u.width.at) ∷ []) ++ big_endian 2 u.check
-    ++ key_bytes u.key
+    unit_head u
     ++ (length u.idents ∷ []) ++ flat_map wanted_bytes u.idents
     ++ (length u.after ∷ []) ++ flat_map (big_endian 2) u.after
     ++ big_endian 2 (length u.segments) ++ flat_map segment_bytes u.segments

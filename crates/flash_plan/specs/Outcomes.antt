@@ -1,5 +1,5 @@
 -- Entries and outcomes, compared.
-use Rattle.std.specs.Prelude.{ℕ, Bool, true, false, ◌&&◌, ◌==◌}
+use Rattle.std.specs.Prelude.{Bool, true, false, ◌&&◌, ◌==◌}
 use Rattle.flash_plan.specs.declared.outcome.Entry.{Entry}
 use Rattle.flash_plan.specs.declared.outcome.Entry.TheVariants as entry
 use Rattle.flash_plan.specs.declared.outcome.Outcome.{Outcome}

@@ -126,6 +126,7 @@ pub record IsAcceptedUnit (u : UnitPlan) : Type 0 where
   pub fit : Each (IsFit u.width) u.segments
   pub apart : AreApart u.segments
   pub bytes : size_of u.segments ≤ 16777216
+  pub few_after : length u.after ≤ 64
   pub ascend : Ascend u.after
 
 -- unit w has to be complete before unit u is begun, through any number of steps

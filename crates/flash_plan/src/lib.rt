@@ -2,10 +2,16 @@
 //! the entries that a journal keeps of it, and the outcomes that a unit may have.
 #![tactic(auto)]
 
+mod fault;
 mod outcome;
 mod plan;
 mod unit;
+mod writing;
 
+pub use fault::{PlanFault, What};
 pub use outcome::{Entries, Entry, Outcome};
-pub use plan::Plan;
+pub use plan::{Plan, accept};
 pub use unit::{Draft, LinkRules, Segment, UnitPlan, Wanted};
+
+#[cfg(test)]
+mod tests;
