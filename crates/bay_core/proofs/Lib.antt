@@ -2,9 +2,12 @@ pub mod Allowed
 pub mod Collecting
 pub mod Joined
 pub mod Links
+pub mod OneStep
 pub mod Piecing
+pub mod Queueing
 pub mod Recorded
 pub mod Sane
+pub mod Sending
 pub mod Slots
 pub mod Sounds
 pub mod Takes

@@ -294,7 +294,7 @@ one_more_pending plan place A body (Some u) (inr h) = inr (record {
 })
 
 -- ------ one unit at a tick
-up_active : (tester : ℕ) (p : Phase) (l : Link) (g : Gateway) → is_up p ≡ true → IsByPhase tester p l g → g.active ≡ Some tester
+pub up_active : (tester : ℕ) (p : Phase) (l : Link) (g : Gateway) → is_up p ≡ true → IsByPhase tester p l g → g.active ≡ Some tester
 up_active tester Down l g up by = absurd (false≢true up)
 up_active tester Fresh l g up by = absurd (false≢true up)
 up_active tester Waits l g up by = absurd (false≢true up)
