@@ -1,0 +1,5 @@
+pub mod Judging
+pub mod Later
+pub mod Look
+pub mod Reading
+pub mod Stages
