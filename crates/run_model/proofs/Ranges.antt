@@ -35,7 +35,7 @@ in_cursor (d ∷ ds) left s a ge lt = inr (in_cursor ds left s a ge lt)
 of_cursor : (plan : UnitPlan) (c : Cursor) → IsCursor plan c → (a : ℕ) → c.now.at ≤ a → a < c.now.at + length c.now.body → IsInImage plan.segments a
 of_cursor plan c is a ge lt = subst (λ (ss : List Segment). IsInImage ss a) is (in_cursor c.done c.left c.now a ge lt)
 
-each_at : (P : Segment → Type 0) (done left : List Segment) (s : Segment) → Each P (done ++ (s ∷ left)) → P s
+pub each_at : (P : Segment → Type 0) (done left : List Segment) (s : Segment) → Each P (done ++ (s ∷ left)) → P s
 each_at P [] left s all = all.0
 each_at P (d ∷ ds) left s all = each_at P ds left s all.1
 

@@ -168,7 +168,7 @@ step_frames u w bytes tick replies step = go step.how
     go (inr (inr d)) = moved d.mid (leaves_frames u d.mid bytes d.leaves) (λ i. (d.becomes i).address) (λ i. (d.becomes i).memory)
 
 -- a departure never gives a positive answer in the form
-negative_bad : (nrc : ℕ) → is_good (negative nrc) ≡ false
+pub negative_bad : (nrc : ℕ) → is_good (negative nrc) ≡ false
 negative_bad nrc = elim (cases_Bool (nrc == 120)) [
   | inl e ↦ rw e refl
   | inr e ↦ elim (cases_Bool (nrc == 33)) [ inl f ↦ rw (e, f) refl | inr f ↦ rw (e, f) refl ]

@@ -1,0 +1,10 @@
+pub mod Allowed
+pub mod Joined
+pub mod Links
+pub mod Recorded
+pub mod Sane
+pub mod Slots
+pub mod Sounds
+pub mod Talks
+pub mod Ticking
+pub mod Ticks
