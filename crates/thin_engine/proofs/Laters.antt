@@ -1,9 +1,7 @@
 -- Link calls, one after another.
-use Rattle.std.proofs.Common.{◌≡◌, ◌≤◌, ◌∙◌, refl}
+use Rattle.std.proofs.Common.{◌∙◌, refl}
 use Rattle.shop_model.specs.History.{History}
-use Rattle.shop_model.specs.Through.{IsLater}
 use Rattle.thin_journal.proofs.Laters as laters
-use Rattle.thin_journal.specs.Later.{IsDiskLater}
 use Rattle.thin_engine.specs.Later.{IsTalkLater, IsLinkLater}
 
 pub talk_same : (a : History) → IsTalkLater a a

@@ -1,15 +1,13 @@
 -- What is seen at the front of a stream is what is cut there.
-use Rattle.std.proofs.Common.{◌≡◌, ◌⊎◌, ℕ, suc, ◌+◌, ◌-◌, ◌≤◌, ◌<◌, List, [], ◌∷◌, ◌++◌, length, get_or, take, drop, Bool, true, false, refl, sym, ap, ◌∙◌, subst, inl, inr, arith}
-use Rattle.std.specs.Prelude.{◌==◌, ◌&&◌, not, nat_lt, if◌then◌else◌}
-use Rattle.std.proofs.lemmas.Bool.{cases_Bool, cases_lt, lt-ltb, le-ltb, ltb-true}
-use Rattle.std.proofs.lemmas.Bool.Decides.{Decides-eqb, nat_tests}
-use Rattle.std.proofs.lemmas.List.{drop-drop, drop_all, get_or_append_left, length-append}
+use Rattle.std.proofs.Common.{◌≡◌, ℕ, suc, ◌+◌, ◌-◌, List, [], ◌∷◌, length, take, drop, true, false, refl, sym, ap, ◌∙◌, subst, inl, inr, arith}
+use Rattle.std.specs.Prelude.{◌==◌, nat_lt}
+use Rattle.std.proofs.lemmas.Bool.{cases_Bool, cases_lt, lt-ltb, le-ltb}
+use Rattle.std.proofs.lemmas.Bool.Decides.{Decides-eqb}
+use Rattle.std.proofs.lemmas.List.{drop-drop}
 use Rattle.flash_base.specs.Numbers.{number2, number4}
 use Rattle.doip_frame.specs.declared.frame.Bad.TheVariants.{Pattern, Length, TooLarge}
-use Rattle.thin_engine.specs.declared.reading.Look.{Look}
-use Rattle.thin_engine.specs.declared.reading.Look.TheVariants.{Part, Refused, Complete}
-use Rattle.doip_frame.specs.Frame.{Cut, cut_frame, cut_sized, is_length, Partial, Wrong, Whole}
-use Rattle.doip_frame.specs.Look.{Cuts, look_of, look_sized, two_at, four_at, missing_of}
+use Rattle.doip_frame.specs.Frame.{cut_frame, cut_sized, is_length, Whole}
+use Rattle.thin_engine.specs.Look.{Cuts, look_of, look_sized}
 
 -- a header of these eight bytes
 module _ (k1 k0 l3 l2 l1 l0 : ℕ) (rest : List ℕ) where
@@ -36,7 +34,6 @@ module _ (k1 k0 l3 l2 l1 l0 : ℕ) (rest : List ℕ) where
     ]
   ]
 
-
 one : (p : ℕ) → Cuts (look_of (p ∷ [])) (p ∷ [])
 one p = elim (cases_Bool (p == 3)) [ inl e ↦ rw e (rw e refl) | inr e ↦ rw e (Pattern, rw e refl) ]
 
@@ -56,10 +53,9 @@ more p q rest go =
       ]
     ]
 
-
 big : (k1 k0 l3 l2 l1 l0 : ℕ) (rest : List ℕ) → Cuts (look_of (3 ∷ 252 ∷ k1 ∷ k0 ∷ l3 ∷ l2 ∷ l1 ∷ l0 ∷ rest)) (3 ∷ 252 ∷ k1 ∷ k0 ∷ l3 ∷ l2 ∷ l1 ∷ l0 ∷ rest)
 big k1 k0 l3 l2 l1 l0 rest =
-    let n : ℕ = suc (suc (suc (suc (suc (suc (suc (suc (length rest))))))) ) in
+    let n : ℕ = suc (suc (suc (suc (suc (suc (suc (suc (length rest)))))))) in
     let t : nat_lt 0 n ≡ true = lt-ltb _ _ (omega arith) in
     let u : nat_lt 1 n ≡ true = lt-ltb _ _ (omega arith) in
     let v : nat_lt n 8 ≡ false = le-ltb _ _ (omega arith) in

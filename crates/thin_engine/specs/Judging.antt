@@ -1,5 +1,5 @@
 -- What the code's judgement of an answer says.
-use Rattle.std.specs.Prelude.{◌≡◌, ℕ, ◌+◌, ◌*◌, min, List, [], ◌∷◌}
+use Rattle.std.specs.Prelude.{ℕ, ◌+◌, ◌*◌, min, List, [], ◌∷◌}
 
 abbrev pub cap_after : ℕ → List ℕ → ℕ
 cap_after n [] = n

@@ -1,9 +1,9 @@
 -- What the head of a stream says, byte by byte.
-use Rattle.std.specs.Prelude.{◌≡◌, ℕ, ◌+◌, ◌-◌, ◌*◌, ◌≤◌, Bool, true, ◌&&◌, ◌==◌, not, List, length, take, drop, slice_index, nat_lt, if◌then◌else◌}
+use Rattle.std.specs.Prelude.{◌≡◌, ℕ, ◌+◌, ◌-◌, ◌*◌, ◌≤◌, true, ◌&&◌, ◌==◌, not, List, length, take, drop, slice_index, nat_lt, if◌then◌else◌}
 use Rattle.doip_frame.specs.declared.frame.Bad.{Bad}
 use Rattle.thin_engine.specs.declared.reading.Look.{Look}
 use Rattle.thin_engine.specs.declared.reading.Look.TheVariants.{Part, Refused, Complete}
-use Rattle.doip_frame.specs.Frame.{Cut, Partial, Wrong, Whole, cut_frame, is_length}
+use Rattle.doip_frame.specs.Frame.{Partial, Wrong, Whole, cut_frame, is_length}
 
 -- the numbers of two and of four bytes from a place on
 abbrev pub two_at : List ℕ → ℕ → ℕ

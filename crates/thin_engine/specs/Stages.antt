@@ -3,8 +3,8 @@ use Rattle.std.specs.Prelude.{◌≡◌, ℕ, ◌+◌, ◌-◌, ◌<◌, ◌≤�
 use Rattle.flash_base.specs.declared.unit.KeyRule.TheVariants.{Free}
 use Rattle.flash_plan.specs.declared.unit.Segment.{Segment}
 use Rattle.flash_plan.specs.declared.unit.UnitPlan.{UnitPlan}
-use Rattle.flash_plan.specs.Plan.{plan_of, count_of}
-use Rattle.run_model.specs.Script.{Cursor, Blocks, Place, AtProgram, AtErase, AtDownload, AtBlock, AtExit, AtCheck, AtFinish, AtReset, AtDone}
+use Rattle.flash_plan.specs.Plan.{IsAccepted, plan_of, count_of}
+use Rattle.run_model.specs.Script.{Cursor, Place, AtProgram, AtErase, AtDownload, AtBlock, AtExit, AtCheck, AtFinish, AtReset, AtDone}
 use Rattle.thin_engine.specs.declared.stage.Stage.{Stage}
 use Rattle.thin_engine.specs.declared.stage.Stage.TheVariants.{Program, Erase, Download, Block, Exit, Check, Finish, Reset, Done}
 
@@ -31,6 +31,7 @@ pub record IsFirst (u : UnitPlan) : Type 0 where
 
 -- a plan of one such unit
 pub record IsFirstPlan (P : List UnitPlan) : Type 0 where
+  pub accepted : IsAccepted P
   pub count : count_of P ≡ 1
   pub unit : IsFirst (plan_of P 0)
 

@@ -1,5 +1,6 @@
-ghost use Rattle.std.specs.Prelude.{◌≡◌, ◌<◌, ◌≤◌, length, IsTrue, IfOk, OnOk};
+ghost use Rattle.std.specs.Prelude.{◌≡◌, ◌<◌, ◌≤◌, length, IsTrue, IfOk, IfErr, OnOk};
 ghost use Rattle.doip_frame.specs.Frame.{message_bytes, activate_bytes};
+ghost use Rattle.thin_engine.specs.Causes.{IsMidway};
 ghost use Rattle.thin_engine.specs.Later.{IsTalkLater, IsLinkLater};
 
 use crate::reading::{Awaited, Reading, Route, read_awaited};
@@ -56,7 +57,12 @@ fn part(alloc: Global, got: &[u8], from: usize) -> Result<Vec<u8>, Trouble>
 }
 
 /// The answer to the request that was sent last.
-fn collect<S: Shop>(alloc: Global, shop: &mut S, awaited: Awaited, route: &Route) -> Result<Vec<u8>, Trouble>
+fn collect<S: Shop>(
+    alloc: Global,
+    shop: &mut S,
+    awaited: Awaited,
+    route: &Route,
+) -> Result<Vec<u8>, Trouble>
     requires { IsTrue (S.history shop.old).linked }
     ensures later { IsTalkLater (S.history shop.old) (S.history shop.new) }
 {
@@ -104,26 +110,34 @@ fn message(alloc: Global, route: &Route, body: &[u8]) -> Result<Vec<u8>, NoMemor
     let size = body.len() + 4;
     let source = route.tester;
     let target = route.unit;
-    let mut frame = Vec::from_slice(alloc, &[
-        0x03,
-        0xFC,
-        0x80,
-        0x01,
-        0,
-        0,
-        (size / 256) as u8,
-        (size % 256) as u8,
-        (source / 256) as u8,
-        (source % 256) as u8,
-        (target / 256) as u8,
-        (target % 256) as u8,
-    ])?;
+    let mut frame = Vec::from_slice(
+        alloc,
+        &[
+            0x03,
+            0xFC,
+            0x80,
+            0x01,
+            0,
+            0,
+            (size / 256) as u8,
+            (size % 256) as u8,
+            (source / 256) as u8,
+            (source % 256) as u8,
+            (target / 256) as u8,
+            (target % 256) as u8,
+        ],
+    )?;
     frame.extend_from_slice(body)?;
     Ok(frame)
 }
 
 /// Sends a request to the unit, and gives the body of its answer.
-pub fn ask<S: Shop>(alloc: Global, shop: &mut S, route: &Route, body: &[u8]) -> Result<Vec<u8>, Trouble>
+pub fn ask<S: Shop>(
+    alloc: Global,
+    shop: &mut S,
+    route: &Route,
+    body: &[u8],
+) -> Result<Vec<u8>, Trouble>
     requires linked { IsTrue (S.history shop.old).linked }
     requires few { length body.now ≤ 300 }
     ensures later { IsTalkLater (S.history shop.old) (S.history shop.new) }
@@ -175,6 +189,7 @@ fn activation(tester: u16) -> [u8; 15]
 pub fn activate<S: Shop>(alloc: Global, shop: &mut S, route: &Route) -> Result<(), Outcome>
     ensures later { IsLinkLater (S.history shop.old) (S.history shop.new) }
     ensures linked { OnOk result (IsTrue (S.history shop.new).linked) }
+    ensures outcome { IfErr result IsMidway }
 {
     if !dial(shop) {
         return Err(Outcome::LinkLost { times: 1 });

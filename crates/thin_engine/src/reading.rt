@@ -60,7 +60,10 @@ fn sized(kind: u16, said: u32, have: usize) -> Look
     if have < said as usize {
         return Look::Part;
     }
-    Look::Complete { kind, size: said as usize }
+    Look::Complete {
+        kind,
+        size: said as usize,
+    }
 }
 
 fn seen(stream: &[u8]) -> Look

@@ -1,4 +1,4 @@
-ghost use Rattle.std.specs.Prelude.{◌≡◌, ◌≤◌, ◌<◌, ◌-◌, ◌/◌, ◌%◌, ◌++◌, ◌∷◌, [], length, take, drop, IfOk};
+ghost use Rattle.std.specs.Prelude.{◌≡◌, ◌≤◌, ◌<◌, ◌+◌, ◌-◌, ◌/◌, ◌%◌, ◌++◌, ◌∷◌, [], length, take, drop, IfOk};
 ghost use Rattle.sha2.specs.Sha256.{sha256};
 ghost use Rattle.run_model.specs.Script.{bytes_at, range_record};
 ghost use Rattle.thin_engine.specs.Stages.{IsFirst, IsStage, place_at, segment_of};
@@ -20,7 +20,8 @@ pub fn segment(unit: &UnitPlan) -> &Segment
 /// Some bytes, and the segment's range behind them.
 fn ranged(alloc: Global, head: &[u8], unit: &UnitPlan) -> Result<Vec<u8>, NoMemory>
     requires { IsFirst unit.now }
-    ensures { IfOk result (λ v. v.items ≡ head.now ++ range_record unit.now (segment_of unit.now)) }
+    ensures is { IfOk result (λ v. v.items ≡ head.now ++ range_record unit.now (segment_of unit.now)) }
+    ensures size { IfOk result (λ v. length v.items ≡ length head.now + 9) }
 {
     let segment = segment(unit);
     let at = segment.at as u32;
@@ -40,7 +41,13 @@ fn ranged(alloc: Global, head: &[u8], unit: &UnitPlan) -> Result<Vec<u8>, NoMemo
     Ok(v)
 }
 
-fn block(alloc: Global, body: &[u8], sent: usize, counter: u8, limit: usize) -> Result<Vec<u8>, NoMemory>
+fn block(
+    alloc: Global,
+    body: &[u8],
+    sent: usize,
+    counter: u8,
+    limit: usize,
+) -> Result<Vec<u8>, NoMemory>
     requires sent { sent < length body.now }
     requires few { length body.now ≤ 256 }
     requires low { 3 ≤ limit }
@@ -55,11 +62,16 @@ fn block(alloc: Global, body: &[u8], sent: usize, counter: u8, limit: usize) -> 
 
 fn check(alloc: Global, unit: &UnitPlan) -> Result<Vec<u8>, NoMemory>
     requires { IsFirst unit.now }
-    ensures { IfOk result (λ v. v.items ≡ ((49 ∷ 1 ∷ (unit.now.check / 256) ∷ (unit.now.check % 256) ∷ []) ++ range_record unit.now (segment_of unit.now)) ++ sha256 (segment_of unit.now).body) }
+    ensures size { IfOk result (λ v. length v.items ≤ 50) }
+    ensures is { IfOk result (λ v. v.items ≡ ((49 ∷ 1 ∷ (unit.now.check / 256) ∷ (unit.now.check % 256) ∷ []) ++ range_record unit.now (segment_of unit.now)) ++ sha256 (segment_of unit.now).body) }
 {
     let digest = Sha256::digest(segment(unit).body.as_slice());
     let id = unit.check;
-    let mut v = ranged(alloc, &[0x31, 0x01, (id / 0x100) as u8, (id % 0x100) as u8], unit)?;
+    let mut v = ranged(
+        alloc,
+        &[0x31, 0x01, (id / 0x100) as u8, (id % 0x100) as u8],
+        unit,
+    )?;
     v.extend_from_slice(&digest)?;
     Ok(v)
 }
@@ -75,9 +87,11 @@ pub fn request(alloc: Global, unit: &UnitPlan, stage: Stage) -> Result<Vec<u8>, 
         Stage::Program => Ok(Vec::from_slice(alloc, &[0x10, 0x02])?),
         Stage::Erase => ranged(alloc, &[0x31, 0x01, 0xFF, 0x00], unit),
         Stage::Download => ranged(alloc, &[0x34, 0x00], unit),
-        Stage::Block { sent, counter, limit } => {
-            block(alloc, segment(unit).body.as_slice(), sent, counter, limit)
-        }
+        Stage::Block {
+            sent,
+            counter,
+            limit,
+        } => { block(alloc, segment(unit).body.as_slice(), sent, counter, limit) }
         Stage::Exit => Ok(Vec::from_slice(alloc, &[0x37])?),
         Stage::Check => check(alloc, unit),
         Stage::Finish => Ok(Vec::from_slice(alloc, &[0x31, 0x01, 0xFF, 0x01])?),

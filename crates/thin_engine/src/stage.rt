@@ -5,7 +5,11 @@ pub enum Stage {
     Erase,
     Download,
     /// So many bytes of the segment were accepted; the counter and the length limit of the next block's request.
-    Block { sent: usize, counter: u8, limit: usize },
+    Block {
+        sent: usize,
+        counter: u8,
+        limit: usize,
+    },
     Exit,
     Check,
     Finish,

@@ -1,12 +1,12 @@
 -- The two entries of a journal of one unit.
-use Rattle.std.proofs.Common.{◌≡◌, ◌⊎◌, inl, inr, ℕ, zero, suc, ◌+◌, ◌*◌, ◌/◌, ◌%◌, ◌<◌, ◌≤◌, true, false, List, [], ◌∷◌, length, slice_index, refl, sym, ◌∙◌, ap, subst, arith}
+use Rattle.std.proofs.Common.{◌≡◌, inl, inr, ℕ, ◌/◌, ◌%◌, true, false, List, slice_index, refl, sym, ◌∙◌, ap, arith}
 use Rattle.std.specs.Prelude.{Bool, ◌==◌, ◌&&◌, ◌||◌}
-use Rattle.std.proofs.lemmas.Bool.{cases_Bool, cases_eq, and_left, and_right, ne_eqb, eq-eqb, both_ways, eqb-true}
-use Rattle.disk_model.specs.Disk.{DiskState, IsCrashImage, IsSettled}
+use Rattle.std.proofs.lemmas.Bool.{cases_Bool, cases_eq, ne_eqb, eq-eqb, both_ways, eqb-true}
+use Rattle.disk_model.specs.Disk.{DiskState}
 use Rattle.flash_plan.specs.declared.outcome.Entry.{Entry}
 use Rattle.flash_plan.specs.declared.outcome.Entry.TheVariants.{Begun, Complete}
-use Rattle.journal_model.specs.Records.{Label, each_below, slots_of, body_of, records, is_journal, has, is_open}
-use Rattle.thin_journal.specs.Append.{CanAppend, HasAdded, Records, is_entry}
+use Rattle.journal_model.specs.Records.{Label, slots_of, body_of, has}
+use Rattle.thin_journal.specs.Append.{CanAppend, HasAdded, is_entry}
 use Rattle.thin_journal.specs.Entries.{begun_alone, both, HasBegun, HasBoth, is_both, RecordsBoth}
 use Rattle.thin_journal.specs.Make.{IsNew, no_entry}
 use Rattle.thin_journal.proofs.Slots.{below_at}
@@ -60,7 +60,7 @@ begun_is : (u : ℕ) → is_entry (Begun 0) (Begun u) ≡ (u == 0)
 begun_is u = elim (cases_eq u 0) [
   | inl e ↦ ap (λ (n : ℕ). is_entry (Begun 0) (Begun n)) e ∙ sym (eq-eqb u 0 e)
   | inr ne ↦ elim (cases_Bool (is_entry (Begun 0) (Begun u))) [
-    | inr no ↦ no ∙ sym (ne_eqb u 0 ne)
+    | inr isnt ↦ isnt ∙ sym (ne_eqb u 0 ne)
     | inl is ↦
         let hi : 0 ≡ u / 256 = eqb-true _ _ (below_at 16 (λ j. slice_index (body_of (Begun 0)) j == slice_index (body_of (Begun u)) j) is 2 (omega arith)) in
         let lo : 0 ≡ u % 256 = eqb-true _ _ (below_at 16 (λ j. slice_index (body_of (Begun 0)) j == slice_index (body_of (Begun u)) j) is 3 (omega arith)) in
@@ -72,7 +72,7 @@ complete_is : (u : ℕ) → is_entry (Complete 0) (Complete u) ≡ (u == 0)
 complete_is u = elim (cases_eq u 0) [
   | inl e ↦ ap (λ (n : ℕ). is_entry (Complete 0) (Complete n)) e ∙ sym (eq-eqb u 0 e)
   | inr ne ↦ elim (cases_Bool (is_entry (Complete 0) (Complete u))) [
-    | inr no ↦ no ∙ sym (ne_eqb u 0 ne)
+    | inr isnt ↦ isnt ∙ sym (ne_eqb u 0 ne)
     | inl is ↦
         let hi : 0 ≡ u / 256 = eqb-true _ _ (below_at 16 (λ j. slice_index (body_of (Complete 0)) j == slice_index (body_of (Complete u)) j) is 2 (omega arith)) in
         let lo : 0 ≡ u % 256 = eqb-true _ _ (below_at 16 (λ j. slice_index (body_of (Complete 0)) j == slice_index (body_of (Complete u)) j) is 3 (omega arith)) in
@@ -82,13 +82,13 @@ complete_is u = elim (cases_eq u 0) [
 
 not_kind : (u : ℕ) → is_entry (Complete 0) (Begun u) ≡ false
 not_kind u = elim (cases_Bool (is_entry (Complete 0) (Begun u))) [
-  | inr no ↦ no
+  | inr isnt ↦ isnt
   | inl is ↦ absurd (both_ways _ refl (below_at 16 (λ j. slice_index (body_of (Complete 0)) j == slice_index (body_of (Begun u)) j) is 0 (omega arith)))
 ]
 
 not_begun : (u : ℕ) → is_entry (Begun 0) (Complete u) ≡ false
 not_begun u = elim (cases_Bool (is_entry (Begun 0) (Complete u))) [
-  | inr no ↦ no
+  | inr isnt ↦ isnt
   | inl is ↦ absurd (both_ways _ refl (below_at 16 (λ j. slice_index (body_of (Begun 0)) j == slice_index (body_of (Complete u)) j) is 0 (omega arith)))
 ]
 

@@ -1,6 +1,6 @@
 -- What a call has done to the disk, whatever it answered.
 use Rattle.std.proofs.Common.{◌≡◌, ◌⊎◌, inl, inr, ℕ, List, length, Result, Ok, Err}
-use Rattle.disk_model.specs.Disk.{DiskState, Wrote, MissedWrite, Synced}
+use Rattle.disk_model.specs.Disk.{DiskState, MissedWrite, Synced}
 use Rattle.disk_model.specs.declared.device.DeviceFault.{DeviceFault}
 use Rattle.thin_journal.proofs.Images.{wrote_missed}
 use Rattle.shop_model.specs.History.{WroteOrMissed, SyncedOrNot}

@@ -1,9 +1,9 @@
 -- The bytes of a new journal.
-use Rattle.std.proofs.Common.{◌≡◌, ℕ, ◌+◌, ◌*◌, ◌-◌, ◌/◌, ◌%◌, ◌<◌, ◌≤◌, true, List, [], ◌∷◌, ◌++◌, length, get_or, refl, sym, ◌∙◌, ap, subst, arith, length-append}
+use Rattle.std.proofs.Common.{◌≡◌, ℕ, ◌+◌, ◌*◌, ◌-◌, ◌<◌, true, List, [], ◌∷◌, ◌++◌, length, get_or, refl, sym, ◌∙◌, ap, subst, arith, length-append}
 use Rattle.std.specs.Prelude.{◌==◌, slice_index, replicate}
 use Rattle.std.proofs.lemmas.Bool.{eq-eqb}
 use Rattle.std.proofs.lemmas.List.{get_or_append_left, get_or-append_right, get_or-replicate, length-replicate}
-use Rattle.journal_model.specs.Records.{Label, slots_of, magic_and_version, number4, stands_at}
+use Rattle.journal_model.specs.Records.{Label, slots_of, number4, stands_at}
 use Rattle.thin_journal.specs.File.{front16, new_bytes}
 use Rattle.thin_journal.specs.Make.{IsMade}
 use Rattle.thin_journal.proofs.Slots.{below_from}

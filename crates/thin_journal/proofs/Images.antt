@@ -1,6 +1,6 @@
 -- What the images of a disk hold, by what was done to it since it was settled.
-use Rattle.std.proofs.Common.{◌≡◌, ◌⊎◌, inl, inr, ℕ, ◌+◌, ◌<◌, ◌≤◌, max, List, [], ◌∷◌, length, slice_index, refl, sym, ◌∙◌, subst, arith}
-use Rattle.disk_model.specs.Disk.{DiskState, IsListed, IsCrashImage, IsSettled, SameOutside, Wrote, MissedWrite, Synced}
+use Rattle.std.proofs.Common.{◌≡◌, ◌⊎◌, inl, inr, ℕ, ◌+◌, ◌<◌, ◌≤◌, List, [], ◌∷◌, length, slice_index, sym, ◌∙◌, subst, arith}
+use Rattle.disk_model.specs.Disk.{DiskState, IsListed, IsCrashImage, IsSettled, Wrote, MissedWrite, Synced}
 
 -- an image of a settled disk has its bytes
 pub settled_image : (disk : DiskState) (image : List ℕ) → IsSettled disk → IsCrashImage disk image → (i : ℕ) → i < length disk.bytes → slice_index image i ≡ slice_index disk.bytes i

@@ -1,11 +1,11 @@
 -- How a fact about each moment goes on over a call, and over two parts of a run.
-use Rattle.std.proofs.Common.{◌≡◌, ◌⊎◌, inl, inr, ℕ, ◌+◌, ◌<◌, ◌≤◌, ◌^◌, min, refl, sym, ◌∙◌, subst, arith, Result}
+use Rattle.std.proofs.Common.{◌≡◌, ◌⊎◌, inl, inr, ℕ, ◌+◌, ◌<◌, ◌≤◌, ◌^◌, min, sym, ◌∙◌, subst, arith, Result}
 use Rattle.disk_model.specs.Disk.{DiskState}
 use Rattle.disk_model.specs.declared.device.DeviceFault.{DeviceFault}
 use Rattle.unit_model.specs.Vehicle.{Vehicle}
 use Rattle.shop_model.specs.History.{History, Call, LAST, Passes, DiskCall, disk_now, vehicle_now}
 use Rattle.shop_model.specs.Through.{IsLater, HoldsThrough}
-use Rattle.thin_journal.specs.Later.{IsDiskLater, Stays}
+use Rattle.thin_journal.specs.Later.{Stays}
 use Rattle.thin_journal.proofs.Laters.{later_same, later_then, disk_later}
 
 -- a number up to n + 1 is up to n, or it

@@ -1,12 +1,12 @@
 -- What the images record after each call of an append.
-use Rattle.std.proofs.Common.{◌≡◌, ◌⊎◌, inl, inr, ℕ, zero, suc, ◌+◌, ◌*◌, ◌<◌, ◌≤◌, true, false, List, [], ◌∷◌, length, slice_index, refl, sym, ◌∙◌, ap, subst, arith}
+use Rattle.std.proofs.Common.{◌≡◌, ◌⊎◌, inl, inr, ℕ, ◌+◌, ◌*◌, ◌<◌, ◌≤◌, true, false, List, [], ◌∷◌, length, slice_index, refl, sym, ◌∙◌, ap, subst, arith}
 use Rattle.std.specs.Prelude.{◌==◌, Bool, nat_le}
 use Rattle.std.proofs.lemmas.Bool.{cases_Bool, cases_eq, cases_lt, and_parts, eq-eqb, leb-true, both_ways}
 use Rattle.disk_model.specs.Disk.{DiskState, IsCrashImage, IsSettled, Wrote, MissedWrite, Synced}
-use Rattle.thin_journal.proofs.Images.{LeavesOutside, settled_image, settled_length, missed_image, synced_settled}
+use Rattle.thin_journal.proofs.Images.{settled_image, settled_length, missed_image, synced_settled}
 use Rattle.flash_plan.specs.declared.outcome.Entry.{Entry}
 use Rattle.flash_plan.specs.declared.outcome.Entry.TheVariants.{Begun, Complete}
-use Rattle.journal_model.specs.Records.{Label, slots_of, is_open, is_journal, body_of, records}
+use Rattle.journal_model.specs.Records.{Label, slots_of, is_open, is_journal, body_of}
 use Rattle.thin_journal.specs.Append.{CanAppend, HasAdded, Records, and_entry, AddsAtMost}
 use Rattle.thin_journal.proofs.Same.{Agrees, journal_same, has_same}
 use Rattle.thin_journal.proofs.More.{journal_more}

@@ -1,9 +1,9 @@
 -- What an append does to the records of the images.
-use Rattle.std.specs.Prelude.{◌≡◌, ◌⊎◌, ℕ, ◌+◌, ◌*◌, ◌<◌, ◌≤◌, Bool, true, false, ◌||◌, ◌&&◌, ◌==◌, List, length, slice_index}
+use Rattle.std.specs.Prelude.{◌≡◌, ◌⊎◌, ℕ, ◌<◌, Bool, true, false, ◌||◌, ◌==◌, List, slice_index}
 use Rattle.disk_model.specs.Disk.{DiskState, IsCrashImage, IsSettled}
 use Rattle.flash_plan.specs.declared.outcome.Entry.{Entry}
 use Rattle.flash_plan.specs.declared.outcome.Entry.TheVariants.{Begun, Complete}
-use Rattle.journal_model.specs.Records.{Label, each_below, some_below, slots_of, unit_of, body_of, has, is_journal, is_open, records}
+use Rattle.journal_model.specs.Records.{Label, each_below, slots_of, unit_of, body_of, has, is_journal, is_open}
 
 -- the two entries have one spelling
 abbrev pub is_entry : Entry → Entry → Bool

@@ -1,5 +1,5 @@
 -- Disk calls that went by.
-use Rattle.std.specs.Prelude.{◌≡◌, ℕ}
+use Rattle.std.specs.Prelude.{◌≡◌}
 use Rattle.disk_model.specs.Disk.{DiskState}
 use Rattle.unit_model.specs.Vehicle.{Vehicle}
 use Rattle.shop_model.specs.History.{History, vehicle_now}

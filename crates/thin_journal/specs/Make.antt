@@ -1,8 +1,8 @@
 -- How a file is made.
-use Rattle.std.specs.Prelude.{◌≡◌, ◌⊎◌, ℕ, ◌+◌, ◌*◌, ◌<◌, ◌≤◌, Bool, true, false, ◌||◌, List, length, slice_index, replicate}
+use Rattle.std.specs.Prelude.{◌≡◌, ◌⊎◌, ℕ, ◌+◌, ◌*◌, ◌<◌, ◌≤◌, Bool, true, false, List, length, slice_index, replicate}
 use Rattle.disk_model.specs.Disk.{DiskState, IsCrashImage, IsSettled}
 use Rattle.flash_plan.specs.declared.outcome.Entry.{Entry}
-use Rattle.journal_model.specs.Records.{Label, slots_of, magic, magic_and_version, number4, stands_at, says_digest, is_fresh, is_journal, records}
+use Rattle.journal_model.specs.Records.{Label, slots_of, magic, magic_and_version, number4, stands_at, says_digest, is_fresh}
 use Rattle.thin_journal.specs.Append.{Records}
 
 abbrev pub no_entry : Entry → Bool

@@ -16,7 +16,10 @@ pub fn new_file(alloc: Global, digest: &[u8; 32]) -> Result<Vec<u8>, NoMemory>
     ensures is { IfOk result (λ v. v.items ≡ new_bytes (record { digest = digest.now; units = 1 })) }
     ensures size { IfOk result (λ v. length v.items ≡ 98) }
 {
-    let mut file = Vec::from_slice(alloc, &[0, 79, 68, 88, 70, 74, 78, 76, 1, 0, 0, 0, 0, 0, 0, 2])?;
+    let mut file = Vec::from_slice(
+        alloc,
+        &[0, 79, 68, 88, 70, 74, 78, 76, 1, 0, 0, 0, 0, 0, 0, 2],
+    )?;
     file.extend_from_slice(digest)?;
     file.extend_from_slice(&[0; 50])?;
     Ok(file)

@@ -6,7 +6,7 @@ use Rattle.thin_engine.proofs.driving.program.Given as goal
 abbrev pub invariant-script : goal.invariant-script
 invariant-script g l = record {
   later : IsTalkLater (g.S.Shop.history l.initial.shop) (g.S.Shop.history l.shop);
-  stage : IsStage l.unit l.stage
+  stage : IsStage l.unit l.stage;
 }
 
 abbrev pub decreases-script : goal.decreases-script

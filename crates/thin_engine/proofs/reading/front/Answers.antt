@@ -1,4 +1,4 @@
-use Rattle.std.proofs.Common.{◌≡◌, sym, subst}
+use Rattle.std.proofs.Common.{sym, subst}
 use Rattle.thin_engine.specs.declared.reading.Look.{Look}
 use Rattle.thin_engine.specs.Look.{Cuts}
 use Rattle.thin_engine.proofs.Looks.{cuts}

@@ -1,4 +1,4 @@
-use Rattle.std.proofs.Common.{◌≡◌, ◌≤◌, [], length, ap, sym, ◌∙◌, subst, arith, refl}
+use Rattle.std.proofs.Common.{◌≡◌, [], length, ap, ◌∙◌, subst, arith}
 use Rattle.disk_model.specs.Disk.{DiskState, IsSettled}
 use Rattle.unit_model.specs.Vehicle.{Vehicle}
 use Rattle.shop_model.specs.History.{History, disk_now, vehicle_now}
@@ -7,7 +7,7 @@ use Rattle.journal_model.specs.Records.{Label}
 use Rattle.thin_journal.specs.Later.{Stays}
 use Rattle.thin_journal.specs.Make.{Starts, IsShort}
 use Rattle.thin_journal.proofs.Laters.{disk_then}
-use Rattle.thin_journal.proofs.Moments.{starts, joins}
+use Rattle.thin_journal.proofs.Moments.{joins}
 use Rattle.thin_journal.proofs.Ways.{can_make}
 use Rattle.thin_journal.proofs.opening.make.Goals as goal
 
@@ -49,7 +49,7 @@ returns-in_err-fill-clause-any_moment g c = λ told P making before.
     let zeroed = c.in_ok-clear_first.ensures.zeroed told short in
     let can = can_make P (disk_now h2) 1 c.args.file.now c.behind_gate.result.now zeroed.0 making.made making.size zeroed.1 (omega arith) c.behind_gate.ensures.is in
     let to2 = joins (Starts P) (vehicle_now h0) h0 h1 h2 (c.settle.ensures.any_moment told P before)
-        (from_before P (vehicle_now h0) (vehicle_now h1) h1 h2 c.settle.ensures.later.vehicle (c.clear_first.ensures.any_moment told P short)) in
+    (from_before P (vehicle_now h0) (vehicle_now h1) h1 h2 c.settle.ensures.later.vehicle (c.clear_first.ensures.any_moment told P short)) in
     joins (Starts P) (vehicle_now h0) h0 h2 h3 to2
     (from_before P (vehicle_now h0) (vehicle_now h2) h2 h3 (c.clear_first.ensures.later.vehicle ∙ c.settle.ensures.later.vehicle) (c.fill.ensures.any_moment told P can))
 
@@ -67,7 +67,7 @@ returns-clause-any_moment g c = λ told P making before.
     let zeroed = c.in_ok-clear_first.ensures.zeroed told short in
     let can = can_make P (disk_now h2) 1 c.args.file.now c.behind_gate.result.now zeroed.0 making.made making.size zeroed.1 (omega arith) c.behind_gate.ensures.is in
     let to2 = joins (Starts P) (vehicle_now h0) h0 h1 h2 (c.settle.ensures.any_moment told P before)
-        (from_before P (vehicle_now h0) (vehicle_now h1) h1 h2 c.settle.ensures.later.vehicle (c.clear_first.ensures.any_moment told P short)) in
+    (from_before P (vehicle_now h0) (vehicle_now h1) h1 h2 c.settle.ensures.later.vehicle (c.clear_first.ensures.any_moment told P short)) in
     joins (Starts P) (vehicle_now h0) h0 h2 h3 to2
     (from_before P (vehicle_now h0) (vehicle_now h2) h2 h3 (c.clear_first.ensures.later.vehicle ∙ c.settle.ensures.later.vehicle) (c.fill.ensures.any_moment told P can))
 
