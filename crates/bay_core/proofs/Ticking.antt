@@ -13,7 +13,7 @@ use Rattle.run_model.proofs.Connected.{alive_part, pending_part, pending_can, du
 use Rattle.run_model.proofs.Moving.{due_words}
 use Rattle.run_model.proofs.Whole.{stream_more, whole_append, message_whole, message_frames, alive_whole}
 use Rattle.run_model.proofs.Words.{words_more}
-use Rattle.run_model.specs.Connected.{IsConnected}
+use Rattle.run_model.specs.Connected.{IsByPhase, IsConnected}
 use Rattle.run_model.specs.Link.{Link, Phase, Down, Fresh, Waits, Up, Denied, is_live, is_up, quiet_link}
 use Rattle.run_model.specs.Script.{Place, bytes_at}
 use Rattle.run_model.specs.Ways.{Spoken, Reply, Unheard, IsWhole, words_from, words_in, words_later, words_held, on_way, ascends_for, is_empty_words, pending_words, final_word, HeardIt, MissedIt, AwaitsIn}
@@ -292,3 +292,63 @@ one_more_pending plan place A body (Some u) (inr h) = inr (record {
   step = h.step;
   on_way = before_last (sid_of (bytes_at plan place)) h.said A (Reply body) h.pending h.on_way;
 })
+
+-- ------ one unit at a tick
+pub up_active : (tester : ℕ) (p : Phase) (l : Link) (g : Gateway) → is_up p ≡ true → IsByPhase tester p l g → g.active ≡ Some tester
+up_active tester Down l g up by = absurd (false≢true up)
+up_active tester Fresh l g up by = absurd (false≢true up)
+up_active tester Waits l g up by = absurd (false≢true up)
+up_active tester Up l g up by = by
+up_active tester (Denied code) l g up by = absurd (false≢true up)
+
+pub up_tester : (tester : ℕ) (l : Link) (g : Gateway) → IsConnected tester l g → is_up l.phase ≡ true → tester_of g ≡ tester
+up_tester tester l g c up = ap (λ (o : Option ℕ). unwrap_or o 0) (up_active tester l.phase l g up c.phase)
+
+module _ (tester : ℕ) (plan : UnitPlan) (l : Link) (s : Slot) (v : Vehicle) (c : IsConnected tester l v.gateway) (live : is_live l.phase ≡ true) (none : v.gateway.ready ≡ []) (j : IsUnitJoint tester plan l s v) where
+  same_units : SameIn (unit_at v.units plan.address) (unit_at (ticked v).units plan.address)
+  same_units = raised_same (v.gateway.tick + 1) v.gateway.held v.units plan.address
+
+  abbrev old_way : List Spoken
+  old_way = on_way tester plan.address l.inbox l.rest v.gateway
+
+  abbrev new_way : List Spoken
+  new_way = on_way tester plan.address l.inbox l.rest (ticked v).gateway
+
+  ordered : ascends_for tester plan.address v.gateway.tick v.gateway.later ≡ true
+  ordered = j.order live
+
+  still_none : old_way ≡ [] → new_way ≡ []
+  still_none e = way_none tester plan.address l.inbox l v.gateway c none ordered (way_holds_none tester plan.address l.inbox l.rest v.gateway e).0 ∙ e
+
+  awaited : AwaitsIn plan s.talk.place old_way (unit_at v.units plan.address) → tester_of v.gateway ≡ tester → HoldsAtMost tester plan.address (sid_of (bytes_at plan s.talk.place)) v.gateway → AwaitsIn plan s.talk.place new_way (unit_at (ticked v).units plan.address)
+  awaited a is (inl empty) = awaits_same plan s.talk.place old_way new_way _ _ (way_none tester plan.address l.inbox l v.gateway c none ordered empty) same_units a
+  awaited a is (inr lone) =
+      let w = way_lone tester plan.address l.inbox l v.gateway c none ordered lone.one is lone.held lone.later in
+      let A : List Spoken = words_from plan.address l.inbox ++ words_in tester plan.address (stream_of l.rest).frames in
+      let was : AwaitsIn plan s.talk.place ((words_from plan.address l.inbox ++ words_in tester plan.address (stream_of l.rest).frames) ++ (Reply lone.one.body ∷ [])) (unit_at v.units plan.address) = subst (λ (ws : List Spoken). AwaitsIn plan s.talk.place ws (unit_at v.units plan.address)) w.1 a in
+      awaits_same plan s.talk.place _ new_way _ _ w.0 same_units (elim (cases_Bool (is_turn (v.gateway.tick + 1) lone.one)) [
+        | inr e ↦ rw e was
+        | inl e ↦ rw e (subst (λ (k : ℕ). AwaitsIn plan s.talk.place ((words_from plan.address l.inbox ++ words_in tester plan.address (stream_of l.rest).frames) ++ (Reply (pending_bytes k) ∷ Reply lone.one.body ∷ [])) (unit_at v.units plan.address)) (sym lone.service)
+            (one_more_pending plan s.talk.place (words_from plan.address l.inbox ++ words_in tester plan.address (stream_of l.rest).frames) lone.one.body (unit_at v.units plan.address) was))
+      ])
+
+  holds_on : HoldsAtMost tester plan.address (sid_of (bytes_at plan s.talk.place)) v.gateway → tester_of v.gateway ≡ tester → HoldsAtMost tester plan.address (sid_of (bytes_at plan s.talk.place)) (ticked v).gateway
+  holds_on (inl empty) is = inl (on_none plan.address (v.gateway.tick + 1) v.gateway.held empty)
+  holds_on (inr lone) is = inr (record {
+    one = turned (v.gateway.tick + 1) lone.one;
+    held = on_one plan.address (v.gateway.tick + 1) v.gateway.held lone.one lone.held;
+    service = (turned_keeps (v.gateway.tick + 1) lone.one).1 ∙ lone.service;
+    later = (way_lone tester plan.address l.inbox l v.gateway c none ordered lone.one is lone.held lone.later).2;
+  })
+
+  pub tick_unit : (is_open_slot s ≡ true → s.talk.awaiting ≡ true → is_up l.phase ≡ true) → IsUnitJoint tester plan (quiet_link l) s (ticked v)
+  tick_unit up = record {
+    slot = record {
+      unclaimed = λ l k. still_none (j.slot.unclaimed l k);
+      rests = λ l k i e. still_none (j.slot.rests l k i e);
+      state = λ o i. state_in_same plan s.talk.place _ _ same_units (j.slot.state o i);
+      awaits = λ alive o a. awaited (j.slot.awaits alive o a) (up_tester tester l v.gateway c (up o a)) (j.held alive o a);
+    };
+    order = λ alive. order_on tester plan.address (v.gateway.tick + 1) v.gateway.tick (v.gateway.tick + 1) v.gateway.later (inr (omega arith)) ordered;
+    held = λ alive o a. holds_on (j.held alive o a) (up_tester tester l v.gateway c (up o a));
+  }

@@ -10,5 +10,7 @@
 #![tactic(auto)]
 
 mod event;
+mod laws;
 
 pub use event::{Event, Events, Heard, Tend};
+pub use laws::{each_event_keeps_the_joint_state, each_legal_list_keeps_the_joint_state};

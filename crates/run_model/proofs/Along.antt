@@ -1,13 +1,13 @@
 -- Each place of a script has a request that can be said, and a positive answer leads to the next one.
-use Rattle.std.proofs.Common.{◌≡◌, ◌⊎◌, inl, inr, ℕ, zero, suc, ◌+◌, ◌-◌, ◌*◌, ◌/◌, ◌%◌, ◌<◌, ◌≤◌, true, false, List, [], ◌∷◌, ◌++◌, length, take, drop, Some, None, refl, sym, ◌∙◌, ap, subst, arith, length-take, length-append, append_assoc}
-use Rattle.std.specs.Prelude.{Bool, Option, ◌==◌, ◌&&◌, ◌||◌, not, is_some, nat_lt, nat_le, min, if◌then◌else◌, unwrap_or}
+use Rattle.std.proofs.Common.{◌≡◌, inl, inr, ℕ, suc, ◌+◌, ◌-◌, ◌/◌, ◌%◌, ◌<◌, ◌≤◌, true, false, List, [], ◌∷◌, ◌++◌, length, take, drop, Some, refl, sym, ◌∙◌, ap, subst, arith, length-take, length-append, append_assoc}
+use Rattle.std.specs.Prelude.{Bool, Option, ◌==◌, ◌&&◌, ◌||◌, is_some, nat_lt, nat_le, min, if◌then◌else◌, unwrap_or}
 use Rattle.std.proofs.lemmas.Bool.{cases_Bool, false≢true, both_ways, and_parts, eq-eqb, eqb-true, ne_eqb, le-leb, leb-true, le-ltb}
 use Rattle.std.proofs.lemmas.List.{append-nil, take-append-drop}
 use Rattle.flash_base.specs.Lists.{Each}
 use Rattle.flash_base.specs.Numbers.{number2, number_of, big_endian}
 use Rattle.flash_base.specs.declared.unit.KeyRule.{KeyRule}
 use Rattle.flash_base.specs.declared.unit.KeyRule.TheVariants.{Free, Xor, Digest}
-use Rattle.flash_plan.specs.Plan.{IsAcceptedUnit, IsWanted, IsFit, IsLevel, IsKeyRule}
+use Rattle.flash_plan.specs.Plan.{IsAcceptedUnit, IsWanted, IsLevel, IsKeyRule}
 use Rattle.flash_plan.specs.declared.outcome.Outcome.TheVariants.{IdentMismatch}
 use Rattle.flash_plan.specs.declared.unit.Segment.{Segment}
 use Rattle.flash_plan.specs.declared.unit.UnitPlan.{UnitPlan}
@@ -17,13 +17,13 @@ use Rattle.sha2.specs.Sha256.{sha256}
 use Rattle.uds_codec.proofs.Numbers.{big_length}
 use Rattle.uds_codec.specs.Answer.{Verdict, Good, Strange, judge, negative_of, form_of, form_in, after_one, seed_form, block_form}
 use Rattle.uds_codec.specs.Key.{key_of, level_of, all_zero, xor_from}
-use Rattle.uds_codec.specs.Request.{Range, range_of, download_in, request_of, sid_of, spelled}
+use Rattle.uds_codec.specs.Request.{range_of, download_in, request_of, sid_of, spelled}
 use Rattle.uds_codec.specs.declared.request.Request.{Request}
-use Rattle.uds_codec.specs.declared.request.Request.TheVariants.{Session, Reset, ReadId, Seed, Key, Routine, Download, Transfer, Exit}
+use Rattle.uds_codec.specs.declared.request.Request.TheVariants.{ReadId, Seed, Key, Routine, Download}
 use Rattle.unit_model.proofs.Steps.{negative_bad}
 use Rattle.unit_model.specs.Step.{CanSend, is_good}
-use Rattle.run_model.proofs.Ranges.{each_at, cursor_reads}
-use Rattle.run_model.specs.Places.{IsPlace, IsAsked, IsCursor, IsBlocks, needs_begun, needs_request}
+use Rattle.run_model.proofs.Ranges.{cursor_reads}
+use Rattle.run_model.specs.Places.{IsPlace, IsAsked, IsCursor, needs_begun, needs_request}
 use Rattle.run_model.specs.Script.{Cursor, Blocks, Place, AtIdent, AtBegin, AtProgram, AtSeed, AtKey, AtErase, AtDownload, AtBlock, AtExit, AtCheck, AtFinish, AtReset, AtDone, AtEnd, request_at, bytes_at, range_record, block_of, is_empty, place_next, after_block, more_blocks, segments_from, idents_from, after_program, start_place, has_value}
 
 -- the request of a place has 1 to 65,535 bytes, and these spell it
