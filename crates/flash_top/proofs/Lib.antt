@@ -1,0 +1,4 @@
+pub mod Closes
+pub mod Firsts
+pub mod Pieces
+pub mod Steps

@@ -1,0 +1,4 @@
+pub mod Building
+pub mod Orders
+pub mod Printing
+pub mod Words

@@ -1,0 +1,121 @@
+ghost use Rattle.std.specs.Prelude.{◌≡◌, ◌≢◌, ◌⊎◌, ◌≤◌, ◌++◌, ◌∷◌, [], IsTrue, IfOk, codes};
+ghost use Rattle.flash_shelf.specs.Outside.{Rises};
+ghost use Rattle.flash_plan.specs.Plan.{count_of};
+ghost use Rattle.run_report.specs.Report.{report_text};
+ghost use Rattle.flash_top.specs.Printing.{line_of, status_of, IsBefore, IsFinished, Prints, Says};
+
+use crate::building::BuildFault;
+use crate::status::Status;
+use flash_base::{Bytes, Items, NoMemory};
+use flash_plan::{Outcome, Plan};
+use flash_shelf::Sink;
+use run_report::report;
+use std::alloc::Global;
+use thin_engine::Ended;
+
+/// Prints a line of three pieces, up to the first that cannot be written.
+pub fn say<K: Sink>(out: &mut K, head: &[u8], name: &[u8], tail: &[u8])
+    ensures never_falls { K.faults out.old ≤ K.faults out.new }
+    ensures said { Says K.tells (K.written out.old) (K.written out.new) (K.faults out.old) (K.faults out.new) (head.now ++ name.now ++ tail.now) }
+{
+    let Ok(()) = out.write(head) else {
+        return;
+    };
+    let Ok(()) = out.write(name) else {
+        return;
+    };
+    let Ok(()) = out.write(tail) else {
+        return;
+    };
+}
+
+/// Prints why there is no plan.
+pub fn refuse<K: Sink>(out: &mut K, order: &str, fault: &BuildFault) -> Status
+    ensures never_falls { K.faults out.old ≤ K.faults out.new }
+    ensures status { result ≡ status_of fault.now }
+    ensures said { Says K.tells (K.written out.old) (K.written out.new) (K.faults out.old) (K.faults out.new) (line_of order.now fault.now) }
+{
+    match fault {
+        BuildFault::Missing { name } => {
+            say(out, b"shelf ", name.as_str().as_bytes(), b" missing\n");
+            Status::Shelf
+        }
+        BuildFault::TooLarge { name } => {
+            say(out, b"shelf ", name.as_str().as_bytes(), b" too large\n");
+            Status::Shelf
+        }
+        BuildFault::Failed { name } => {
+            say(out, b"shelf ", name.as_str().as_bytes(), b" failed\n");
+            Status::Shelf
+        }
+        BuildFault::NotYet => {
+            say(out, b"input ", order.as_bytes(), b" not yet\n");
+            Status::Input
+        }
+        BuildFault::NoMemory => Status::NoMemory,
+    }
+}
+
+/// The report of a plan with one unit.
+fn one_report(alloc: Global, plan: &Plan, outcome: Outcome) -> Result<Bytes, NoMemory>
+    requires { count_of plan.now ≡ 1 }
+    ensures { IfOk result (λ b. b ≡ report_text plan.now (outcome ∷ [])) }
+{
+    let mut outcomes = Items::new(alloc);
+    outcomes.push(outcome)?;
+    report(alloc, plan, &outcomes)
+}
+
+/// Prints the report of a run, and tells how the run ended.
+fn print_report<K: Sink>(alloc: Global, out: &mut K, plan: &Plan, outcome: Outcome) -> Status
+    requires { count_of plan.now ≡ 1 }
+    ensures never_falls { K.faults out.old ≤ K.faults out.new }
+    ensures before { ¬ IsBefore result }
+    ensures disk { result ≡ Status.Disk → outcome ≡ Outcome.DiskFault }
+    ensures sink { result ≡ Status.Sink → Rises (K.faults out.old) (K.faults out.new) }
+    ensures done { result ≡ Status.Done → outcome ≡ Outcome.Complete }
+    ensures units { result ≡ Status.Units → outcome ≢ Outcome.Complete }
+    ensures starved { outcome ≡ Outcome.NoMemory → result ≡ Status.NoMemory }
+    ensures complete { outcome ≡ Outcome.Complete → (result ≡ Status.NoMemory) ⊎ (result ≡ Status.Sink) ⊎ (result ≡ Status.Done) }
+    ensures printed { Prints K.tells (K.written out.old) (K.written out.new) (K.faults out.old) (K.faults out.new) (report_text plan.now (outcome ∷ [])) result }
+{
+    let Ok(text) = one_report(alloc, plan, outcome) else {
+        return Status::NoMemory;
+    };
+    let written = out.write(text.as_slice()).is_ok();
+    match outcome {
+        Outcome::NoMemory => Status::NoMemory,
+        Outcome::DiskFault => Status::Disk,
+        Outcome::Complete => { if written { Status::Done } else { Status::Sink } }
+        _ => { if written { Status::Units } else { Status::Sink } }
+    }
+}
+
+/// Prints how the work on the shop ended.
+pub fn finish<K: Sink>(alloc: Global, out: &mut K, plan: &Plan, ended: Ended) -> Status
+    requires { count_of plan.now ≡ 1 }
+    ensures never_falls { K.faults out.old ≤ K.faults out.new }
+    ensures before { IsBefore result → (result ≡ Status.Journal) × (ended ≡ Ended.NotEmpty) }
+    ensures disk { result ≡ Status.Disk → (ended ≡ Ended.Disk) ⊎ (ended ≡ Ended.Ran Outcome.DiskFault) }
+    ensures sink { result ≡ Status.Sink → Rises (K.faults out.old) (K.faults out.new) }
+    ensures done { result ≡ Status.Done → ended ≡ Ended.Ran Outcome.Complete }
+    ensures units { result ≡ Status.Units → ended ≢ Ended.Ran Outcome.Complete }
+    ensures starved { ended ≡ Ended.Ran Outcome.NoMemory → result ≡ Status.NoMemory }
+    ensures complete { ended ≡ Ended.Ran Outcome.Complete → (result ≡ Status.NoMemory) ⊎ (result ≡ Status.Sink) ⊎ (result ≡ Status.Done) }
+    ensures journal { ended ≡ Ended.NotEmpty → result ≡ Status.Journal }
+    ensures no_memory { ended ≡ Ended.NoMemory → result ≡ Status.NoMemory }
+    ensures printed { IsFinished K.tells (K.written out.old) (K.written out.new) (K.faults out.old) (K.faults out.new) plan.now ended result }
+{
+    match ended {
+        Ended::NotEmpty => {
+            say(out, b"journal not yet\n", b"", b"");
+            Status::Journal
+        }
+        Ended::Disk => {
+            say(out, b"disk fault\n", b"", b"");
+            Status::Disk
+        }
+        Ended::NoMemory => Status::NoMemory,
+        Ended::Ran(outcome) => print_report(alloc, out, plan, outcome),
+    }
+}
