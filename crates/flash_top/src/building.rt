@@ -91,7 +91,8 @@ fn draft_of(alloc: Global, order: Order, body: Bytes) -> Result<Draft, NoMemory>
 
 fn plan_of(alloc: Global, draft: Draft) -> Result<Plan, BuildFault>
     requires { IsPlain draft }
-    ensures { (result ≡ Err BuildFault.NoMemory) ⊎ (result ≡ Ok (numbered draft ∷ [])) }
+    ensures is { (result ≡ Err BuildFault.NoMemory) ⊎ (result ≡ Ok (numbered draft ∷ [])) }
+    ensures gives { IfOk result (λ plan. plan ≡ numbered draft ∷ []) }
 {
     let mut drafts = Items::new(alloc);
     drafts.push(draft)?;
@@ -107,10 +108,14 @@ fn plan_from(alloc: Global, order: Order, body: Bytes) -> Result<Built, BuildFau
     ensures is { (result ≡ Err BuildFault.NoMemory) ⊎ (result ≡ planned order body) }
     ensures first { IfOk result (λ b. IsFirstPlan b.plan) }
 {
-    let fits = body.len() >= 1
-        && body.len() <= 256
-        && order.at + body.len() as u64 <= 4_294_967_296;
-    if !fits {
+    let size = body.len();
+    if size == 0 {
+        return Err(BuildFault::NotYet);
+    }
+    if size > 256 {
+        return Err(BuildFault::NotYet);
+    }
+    if order.at + size as u64 > 4_294_967_296 {
         return Err(BuildFault::NotYet);
     }
     let rules = LinkRules {

