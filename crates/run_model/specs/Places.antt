@@ -1,18 +1,10 @@
 -- What is asked of the places of a script.
-<<<<<<< HEAD
-use Rattle.std.specs.Prelude.{◌≡◌, ℕ, ◌≤◌, Bool, true, false, List, [], ◌∷◌, ◌++◌, length, Some}
-=======
 use Rattle.std.specs.Prelude.{◌≡◌, ◌≤◌, Bool, true, false, ◌∷◌, ◌++◌, length, Some}
->>>>>>> 291a63df90ed911e2b43439ead5e07980ff238bc
 use Rattle.flash_base.specs.Lists.{Each}
 use Rattle.flash_plan.specs.Plan.{IsWanted}
 use Rattle.flash_plan.specs.declared.unit.UnitPlan.{UnitPlan}
 use Rattle.uds_codec.specs.Key.{level_of}
-<<<<<<< HEAD
-use Rattle.run_model.specs.Script.{Cursor, Blocks, Place, AtIdent, AtBegin, AtProgram, AtSeed, AtKey, AtErase, AtDownload, AtBlock, AtExit, AtCheck, AtFinish, AtReset, AtDone, AtEnd}
-=======
 use Rattle.run_model.specs.Script.{Cursor, Blocks, Place, AtIdent, AtBegin, AtProgram, AtSeed, AtKey, AtErase, AtDownload, AtBlock, AtExit, AtCheck, AtDone, AtEnd}
->>>>>>> 291a63df90ed911e2b43439ead5e07980ff238bc
 
 -- nothing was answered yet that speaks of the unit's state
 abbrev pub is_free : Place → Bool
