@@ -1,0 +1,4 @@
+pub mod Below
+pub mod Places
+pub mod Tree
+pub mod Laws
