@@ -1,5 +1,5 @@
 -- The refusal of a value is its first place in document order.
-use Rattle.std.proofs.Common.{◌≡◌, ◌∙◌, refl, ap, ℕ, suc, List, [], ◌∷◌, ◌++◌, map, codes, Bool, true, false, cond, ◌&&◌, Option, Some, None, Result, Ok, Err, Less, Equal, Greater}
+use Rattle.std.proofs.Common.{◌≡◌, ◌∙◌, refl, ℕ, suc, List, [], ◌∷◌, ◌++◌, map, codes, Bool, true, false, cond, ◌&&◌, Option, Some, None, Result, Ok, Err, Less, Equal, Greater}
 use Rattle.std.specs.Ordering.{nat_cmp, match_ordering}
 use Rattle.std.specs.Cmp.Lexicographic.{slice_cmp}
 use Rattle.serde_json.specs.Data.{Data, null, boolean, number, string, array, object, Items, no_items, item, Members, no_members, member}
@@ -7,9 +7,8 @@ use Rattle.serde_json.specs.Find.{get_member}
 use Rattle.odx_tree.specs.declared.element.Element.{Element, roll-Element}
 use Rattle.odx_tree.specs.declared.fault.TreeFault.{TreeFault}
 use Rattle.odx_tree.specs.declared.fault.TreeFault.TheVariants.{TooLarge, NotJson, NotTree, NoMemory}
-use Rattle.odx_tree.specs.Below.{below}
-use Rattle.odx_tree.specs.Tree.{◌>>=◌, not_tree, tag_of, text_of, attrs_of, attributes, in_kid, kids_in, kids_of, element, elements}
-use Rattle.odx_tree.specs.Places.{Place, here, is_text, is_filled_text, are_texts, is_texts, if_there, is_there, own_form, misplaced, misplaced_kids, misplaced_list, misplaced_items}
+use Rattle.odx_tree.specs.Tree.{◌>>=◌, tag_of, text_of, attrs_of, attributes, in_kid, kids_in, kids_of, element, elements}
+use Rattle.odx_tree.specs.Places.{Place, here, is_text, is_filled_text, are_texts, is_texts, if_there, is_there, misplaced, misplaced_kids, misplaced_list, misplaced_items}
 use Rattle.odx_tree.specs.Laws.{refusal_of, first_refusal}
 
 abbrev unless : Bool → List Place
