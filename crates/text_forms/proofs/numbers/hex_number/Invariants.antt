@@ -1,0 +1,9 @@
+use Rattle.std.proofs.Common.{◌≡◌, ◌<◌, ◌^◌, drop}
+use Rattle.text_forms.specs.Numbers.{hex_digit, value_after, hex_value, if_below}
+use Rattle.text_forms.proofs.numbers.hex_number.Given as goal
+
+abbrev pub invariant-loop-c : goal.invariant-loop-c
+invariant-loop-c l = record {
+  small : l.number < 2 ^ 64;
+  rest : if_below (2 ^ 64) (hex_value l.text) ≡ if_below (2 ^ 64) (value_after hex_digit 16 l.number (drop l.c-index l.text));
+}

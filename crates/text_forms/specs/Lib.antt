@@ -1,0 +1,4 @@
+pub mod Bytes
+pub mod FileNames
+pub mod Numbers
+pub mod Trim
