@@ -1,6 +1,16 @@
 //! DoIP frames (ISO 13400-2:2019): how they are written, and how a stream is cut into them.
 #![tactic(auto)]
 
+mod cut;
+mod deframer;
 mod frame;
+mod laws;
+mod payload;
+#[cfg(test)]
+mod tests;
+mod write;
 
+pub use deframer::{Deframer, Fed};
 pub use frame::{Bad, Frame, Frames};
+pub use laws::{any_pieces, ignores_reserved, only_one, read_again};
+pub use write::encode;

@@ -1,11 +1,17 @@
 pub mod Alike
+pub mod Along
 pub mod Answers
+pub mod Connected
 pub mod Finals
 pub mod Gateway
 pub mod Hearing
+pub mod Moving
+pub mod Pieces
 pub mod Ranges
 pub mod Replies
+pub mod Sees
 pub mod Sends
+pub mod Sounds
 pub mod States
 pub mod Whole
 pub mod Words

@@ -1,4 +1,6 @@
+pub mod Connected
 pub mod Entries
+pub mod Link
 pub mod Places
 pub mod Script
 pub mod Sound

@@ -1,0 +1,7 @@
+pub mod Records
+pub mod Shapes
+pub mod Bases
+pub mod Adds
+pub mod Whole
+pub mod Back
+pub mod Cuts

@@ -1,0 +1,9 @@
+use Rattle.hex_rec.proofs.Whole.{whole_text}
+use Rattle.hex_rec.proofs.Back.{read_whole}
+use Rattle.hex_rec.proofs.reading.text_law.Goals as goal
+
+pub returns-clause-read : goal.returns-clause-read
+returns-clause-read c = whole_text
+
+pub returns-clause-is : goal.returns-clause-is
+returns-clause-is c = read_whole

@@ -1,0 +1,29 @@
+use Rattle.std.proofs.Common.{◌%◌, ◌/◌, ◌++◌, ◌∷◌, [], ◌∙◌, ℕ, List, length, take, nat_eq, ap, arith, append_assoc}
+use Rattle.std.specs.Prelude.{if◌then◌else◌}
+use Rattle.span_store.proofs.Maps.{held_some}
+use Rattle.hex_rec.specs.Writing.{line_of, base_line}
+use Rattle.hex_rec.proofs.Cuts.{begun, advanced, finished}
+use Rattle.hex_rec.proofs.writing.write.Goals as goal
+
+pub loop-at-init : goal.loop-at-init
+loop-at-init c = begun c.args.spans.now c.new-text.result c.new-text.ensures
+
+pub cut_front-n-requires-clause-first : goal.cut_front-n-requires-clause-first
+cut_front-n-requires-clause-first c =
+    let p = c.in-Some.ensures in
+    let some = p.1 in
+    held_some c.args.spans.now c.in-Some.at c.in-Some.field-0-1.now p.4 c.in-Some.at (omega arith) (omega arith)
+
+pub loop-at-preserved : goal.loop-at-preserved
+loop-at-preserved c =
+    let p = c.in-Some.ensures in
+    let at : ℕ = c.in-Some.at in
+    let bs : List ℕ = take c.cut_front-n.result c.cut_front-n.new.line in
+    let base : List ℕ = if nat_eq (at / 65536) c.loop-at.upper then [] else base_line (at / 65536) in
+    advanced c.args.spans.now c.loop-at.here c.loop-at.upper c.loop-at.text c.push_data.new.text at c.cut_front-n.result bs c.loop-at.invariant p.0 p.3 c.cut_front-n.ensures.holds c.cut_front-n.ensures.cut c.cut_front-n.ensures.within c.cut_front-n.ensures.size
+    (c.in_ok-push_data.ensures
+    ∙ ap (λ t. t ++ line_of (length bs ∷ at % 65536 / 256 ∷ at % 256 ∷ 0 ∷ bs)) c.in_ok-push_base.ensures
+    ∙ append_assoc c.loop-at.text base (line_of (length bs ∷ at % 65536 / 256 ∷ at % 256 ∷ 0 ∷ bs)))
+
+pub returns : goal.returns
+returns c = finished c.args.spans.now c.loop-at.here c.loop-at.upper c.loop-at.text c.push_line.new.text c.loop-at.invariant c.in_default.ensures c.in_ok-push_line.ensures

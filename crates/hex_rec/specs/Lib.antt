@@ -1,0 +1,5 @@
+pub mod Base
+pub mod HexText
+pub mod Reading
+pub mod Record
+pub mod Writing

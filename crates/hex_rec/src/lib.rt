@@ -1,0 +1,14 @@
+//! Intel HEX texts.
+#![tactic(auto)]
+
+mod base;
+mod line;
+mod reading;
+mod writing;
+
+pub use reading::{read, text_law};
+pub use rec_text::RecFault;
+pub use writing::write;
+
+#[cfg(test)]
+mod tests;

@@ -1,0 +1,130 @@
+ghost use Rattle.std.specs.Prelude.{◌≡◌, ℕ, ◌+◌, ◌-◌, ◌^◌, ◌≤◌, ◌<◌, take, drop, length, ◌⊎◌, Ok, Err, IfOk, slice_index, true, List};
+ghost use Rattle.hex_rec.specs.Base.{IsBase};
+ghost use Rattle.span_store.specs.ByteMap.{ByteMap};
+ghost use Rattle.hex_rec.specs.HexText.{IsHexText};
+ghost use Rattle.hex_rec.specs.Record.{is_kind};
+ghost use Rattle.hex_rec.specs.Reading.{put_line, applied, step, reading_of, with_map};
+ghost use Rattle.rec_text.specs.declared.fault.RecFault.{RecFault};
+
+use crate::base::Base;
+use crate::line::record;
+use rec_text::{RecFault, SPELLED, first_line, put_in};
+use span_store::Spans;
+use std::alloc::Global;
+
+/// What the lines so far gave.
+#[derive(Debug, Drop)]
+pub struct State {
+    pub base: Base,
+    pub ended: bool,
+    pub spans: Spans,
+}
+
+/// Puts the bytes of one line.
+fn put_data(spans: Spans, base: Base, offset: u64, bytes: &[u8]) -> Result<Spans, RecFault>
+    requires offset { offset < 2 ^ 16 }
+    requires size { length bytes.now < 2 ^ 8 }
+    requires base { IsBase base }
+    ensures { (result ≡ Err RecFault.NoMemory) ⊎ (result ≡ put_line spans base offset bytes.now) }
+{
+    match base {
+        Base::Linear(base) => {
+            let first = (base + offset) % 0x1_0000_0000;
+            put_in(spans, 0, first, 0x1_0000_0000 - first, bytes)
+        }
+        Base::Segment(base) => put_in(spans, base, base + offset, 0x1_0000 - offset, bytes),
+    }
+}
+
+/// What one record does.
+fn apply(state: State, bytes: &[u8]) -> Result<State, RecFault>
+    requires length { length bytes.now ≡ slice_index bytes.now 0 + 5 }
+    requires kind { is_kind (slice_index bytes.now 3) (slice_index bytes.now 0) ≡ true }
+    requires base { IsBase state.base }
+    ensures applied { (result ≡ Err RecFault.NoMemory) ⊎ (result ≡ applied state bytes.now) }
+    ensures base { IfOk result (λ s. IsBase s.base) }
+{
+    let State { base, ended, spans } = state;
+    let count = bytes[0] as usize;
+    match bytes[3] {
+        0 => {
+            let offset = u64::from(bytes[1]) * 256 + u64::from(bytes[2]);
+            let spans = put_data(spans, base, offset, &bytes[4..4 + count])?;
+            Ok(State { base, ended, spans })
+        }
+        1 => Ok(State {
+            base,
+            ended: true,
+            spans,
+        }),
+        2 => {
+            let value = u64::from(bytes[4]) * 256 + u64::from(bytes[5]);
+            Ok(State {
+                base: Base::Segment(value * 16),
+                ended,
+                spans,
+            })
+        }
+        4 => {
+            let value = u64::from(bytes[4]) * 256 + u64::from(bytes[5]);
+            Ok(State {
+                base: Base::Linear(value * 65536),
+                ended,
+                spans,
+            })
+        }
+        _ => Ok(State { base, ended, spans }),
+    }
+}
+
+/// What line n does.
+fn next(state: State, n: usize, line: &[u8], buffer: &mut [u8; SPELLED]) -> Result<State, RecFault>
+    requires base { IsBase state.base }
+    ensures step { (result ≡ Err RecFault.NoMemory) ⊎ (result ≡ step state n line.now) }
+    ensures base { IfOk result (λ s. IsBase s.base) }
+{
+    if line.is_empty() {
+        return Ok(state);
+    }
+    if state.ended {
+        return Err(RecFault::AfterEnd { n });
+    }
+    let size = record(n, line, buffer)?;
+    apply(state, &buffer[..size])
+}
+
+/// The bytes of an Intel HEX text.
+///
+/// Lines end with LF or CR LF; empty ones are skipped. The first line with a refusal decides.
+/// The address limit of the format is 2^32: addresses of a kind 04 base carry and go round there,
+/// offsets of a kind 02 base go round within 64 KiB.
+pub fn read(alloc: Global, text: &[u8]) -> Result<Spans, RecFault>
+    ensures { (result ≡ Err RecFault.NoMemory) ⊎ (result ≡ reading_of text.now) }
+{
+    let mut state = State {
+        base: Base::Linear(0),
+        ended: false,
+        spans: Spans::new(alloc),
+    };
+    let mut buffer = [0u8; SPELLED];
+    let mut at = 0;
+    let mut n = 0;
+    while at < text.len() {
+        let (line, size) = first_line(&text[at..]);
+        n += 1;
+        state = next(state, n, line, &mut buffer)?;
+        at += size;
+    }
+    if state.ended {
+        Ok(state.spans)
+    } else {
+        Err(RecFault::NoEnd)
+    }
+}
+
+/// A text is read exactly where it is records, one end, and nothing behind it, and its map is the
+/// union of what its data lines give.
+pub fn text_law()
+    ensures read { (text : List ℕ) (m : ByteMap) → reading_of text ≡ Ok m → IsHexText text m }
+    ensures is { (text : List ℕ) (m : ByteMap) → IsHexText text m → reading_of text ≡ Ok m }
+{}

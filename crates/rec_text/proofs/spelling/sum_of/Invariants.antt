@@ -1,0 +1,5 @@
+use Rattle.std.proofs.Common.{◌≡◌, ◌*◌, ◌≤◌, take, sum}
+use Rattle.rec_text.proofs.spelling.sum_of.Given as goal
+
+abbrev pub invariant-loop-b : goal.invariant-loop-b
+invariant-loop-b l = (l.total ≡ sum (take l.b-index l.bytes)) × (l.total ≤ 255 * l.b-index)

@@ -1,0 +1,14 @@
+//! What texts of records share: lines, digits and the putting of their bytes.
+#![tactic(auto)]
+
+mod cutting;
+mod fault;
+mod line;
+mod putting;
+mod spelling;
+
+pub use cutting::{DATA, cut_front};
+pub use fault::RecFault;
+pub use line::{SPELLED, first_line, parse};
+pub use putting::{put, put_in};
+pub use spelling::{push_both, push_digits, sum_both};

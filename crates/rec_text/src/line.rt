@@ -1,0 +1,82 @@
+ghost use Rattle.std.specs.Prelude.{◌≡◌, ℕ, List, ◌+◌, ◌-◌, ◌*◌, ◌≤◌, ◌<◌, take, drop, length, sum, IfSome, MatchOption, Some, ◌∷◌};
+ghost use Rattle.rec_text.specs.Digits.{digit_of, byte_of, bytes_of};
+ghost use Rattle.rec_text.specs.Lines.{lines, without_return};
+
+/// The most bytes that a line of either format spells.
+pub const SPELLED: usize = 260;
+
+/// The value of a hexadecimal digit.
+#[inline]
+fn digit(c: u8) -> Option<u8>
+    ensures value { result ≡ digit_of c }
+    ensures below { IfSome result (λ d. d < 16) }
+{
+    match c {
+        b'0'..=b'9' => Some(c - b'0'),
+        b'A'..=b'F' => Some(c - b'A' + 10),
+        b'a'..=b'f' => Some(c - b'a' + 10),
+        _ => None,
+    }
+}
+
+/// The byte of two digits.
+#[inline]
+fn pair(high: u8, low: u8) -> Option<u8>
+    ensures { result ≡ byte_of (digit_of high) (digit_of low) }
+{
+    let high = digit(high)?;
+    let low = digit(low)?;
+    Some(high * 16 + low)
+}
+
+/// The bytes that pairs of digits spell, at the front of `out`: how many, and their sum.
+pub fn parse(digits: &[u8], out: &mut [u8; SPELLED]) -> Option<(usize, u32)>
+    ensures { MatchOption result ((bytes : List ℕ) → bytes_of digits.now ≡ Some bytes → 260 < length bytes) (λ p. (bytes_of digits.now ≡ Some (take p.0 out.new)) × (p.0 ≤ 260) × (p.1 ≡ sum (take p.0 out.new)) × (length digits.now ≡ 2 * p.0)) }
+{
+    let size = digits.len() / 2;
+    if digits.len() % 2 != 0 {
+        return None;
+    }
+    if size > SPELLED {
+        return None;
+    }
+    let mut total = 0u32;
+    for k in 0..size {
+        let Some(byte) = pair(digits[2 * k], digits[2 * k + 1]) else {
+            return None;
+        };
+        total += u32::from(byte);
+        out[k] = byte;
+    }
+    Some((size, total))
+}
+
+/// Without one carriage return at the end.
+fn without_return(line: &[u8]) -> &[u8]
+    ensures { result.now ≡ without_return line.now }
+{
+    let n = line.len();
+    if n == 0 {
+        return line;
+    }
+    if line[n - 1] == b'\r' {
+        return &line[..n - 1];
+    }
+    line
+}
+
+/// The first line, and how many bytes it takes with its end.
+pub fn first_line(text: &[u8]) -> (&[u8], usize)
+    requires { 0 < length text.now }
+    ensures lines { lines text.now ≡ result.0.now ∷ lines (drop result.1 text.now) }
+    ensures within { (0 < result.1) × (result.1 ≤ length text.now) }
+{
+    let mut i = 0;
+    while i < text.len() {
+        if text[i] == b'\n' {
+            return (without_return(&text[..i]), i + 1);
+        }
+        i += 1;
+    }
+    (text, text.len())
+}

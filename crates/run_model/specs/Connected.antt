@@ -1,0 +1,54 @@
+-- Link and gateway speak of the same connection.
+use Rattle.std.specs.Prelude.{◌≡◌, ℕ, Bool, false, ◌||◌, ◌==◌, MatchOption, List, [], ◌∷◌, ◌++◌, Some, None, IsTrue}
+use Rattle.doip_frame.specs.Frame.{stream_of}
+use Rattle.doip_frame.specs.declared.frame.Frame.{Frame}
+use Rattle.doip_frame.specs.declared.frame.Frame.TheVariants.{HeaderNack, Activate, Activated, AliveAsk, AliveSay, Message, Ack, Nack, Other}
+use Rattle.flash_base.specs.Lists.{Each}
+use Rattle.unit_model.specs.Step.{CanSend}
+use Rattle.unit_model.specs.Vehicle.{Gateway}
+use Rattle.run_model.specs.Link.{Link, Phase, Down, Fresh, Waits, Up, Denied}
+use Rattle.run_model.specs.Ways.{IsWhole}
+
+-- a frame says that the activation was accepted
+abbrev pub accepts : List Frame → Bool
+accepts [] = false
+accepts (Activated t entity code oem ∷ fs) = code == 16 || accepts fs
+accepts (HeaderNack code ∷ fs) = accepts fs
+accepts (Activate source kind oem ∷ fs) = accepts fs
+accepts (AliveAsk ∷ fs) = accepts fs
+accepts (AliveSay source ∷ fs) = accepts fs
+accepts (Message s t body ∷ fs) = accepts fs
+accepts (Ack s t code old ∷ fs) = accepts fs
+accepts (Nack s t code old ∷ fs) = accepts fs
+accepts (Other kind payload ∷ fs) = accepts fs
+
+abbrev pub accepts_later : List (ℕ × List ℕ) → Bool
+accepts_later [] = false
+accepts_later (q ∷ qs) = accepts (stream_of q.1).frames || accepts_later qs
+
+-- such a frame is on the way
+abbrev pub will_accept : Link → Gateway → Bool
+will_accept l g = accepts (stream_of (l.rest ++ g.ready)).frames || accepts_later g.later
+
+-- A new connection has carried nothing. Where an answer that accepts the activation has come or is on the way, the gateway
+-- is activated for the tester.
+abbrev pub IsByPhase : ℕ → Phase → Link → Gateway → Type 0
+IsByPhase tester Down l g = Unit {0}
+IsByPhase tester Fresh l g = (g.active ≡ None) × (g.ready ≡ []) × (g.later ≡ []) × (g.held ≡ []) × (l.got ≡ []) × (l.rest ≡ []) × (l.inbox ≡ [])
+IsByPhase tester Waits l g = IsTrue (will_accept l g) → g.active ≡ Some tester
+IsByPhase tester Up l g = g.active ≡ Some tester
+IsByPhase tester (Denied code) l g = Unit {0}
+
+-- The gateway is between frames; what it has carried is what the link got, without a refusal; what it has queued spells
+-- whole frames; and it is activated, if at all, for the tester.
+pub record IsConnected (tester : ℕ) (l : Link) (g : Gateway) : Type 0 where
+  pub hears : g.deaf ≡ false
+  pub unfinished : g.unfinished ≡ []
+  pub carried : g.carried ≡ l.got
+  pub rest : (stream_of l.got).rest ≡ l.rest
+  pub bad : (stream_of l.got).bad ≡ None
+  pub ready : IsWhole (l.rest ++ g.ready)
+  pub later : Each (λ q. IsWhole q.1) g.later
+  pub held : Each (λ h. CanSend h.body) g.held
+  pub active : MatchOption g.active (Unit {0}) (λ a. a ≡ tester)
+  pub phase : IsByPhase tester l.phase l g

@@ -1,0 +1,15 @@
+//! Bytes by address, in extents.
+#![tactic(auto)]
+
+mod clash;
+mod fault;
+mod runs;
+mod spans;
+mod store;
+
+pub use clash::Clash;
+pub use fault::PutFault;
+pub use spans::{Spans, TOP};
+
+#[cfg(test)]
+mod tests;

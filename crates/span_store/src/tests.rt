@@ -1,0 +1,64 @@
+use crate::{PutFault, Spans, TOP};
+use std::alloc::Global;
+
+/// Starts and sizes of bytes that depend on their address alone, and the maximal runs that they leave.
+#[test]
+fn runs_after_puts(rt: HostRuntime) {
+    let table: [(&[(u64, usize)], &[(u64, u64)]); 6] = [
+        (&[(16, 4), (20, 4)], &[(16, 8)]),
+        (&[(20, 4), (16, 4)], &[(16, 8)]),
+        (&[(16, 8), (18, 0), (16, 2)], &[(16, 8)]),
+        (&[(16, 1), (20, 1), (18, 1), (16, 8)], &[(16, 8)]),
+        (&[(0, 1), (TOP - 1, 1)], &[(0, 1), (TOP - 1, 1)]),
+        (&[(0, 0)], &[]),
+    ];
+    for (puts, runs) in table {
+        let mut spans = Spans::new(rt.alloc());
+        for (at, size) in puts {
+            let mut same = [0u8; 8];
+            for (i, b) in same.iter_mut().enumerate() {
+                *b = (at % 128) as u8 + i as u8 % 8;
+            }
+            if *size <= 8 && *at <= TOP - *size as u64 {
+                assert!(rt; spans.put(*at, &same[..*size]).is_ok());
+            }
+        }
+        assert_eq!(rt; spans.extents(), runs.len() as u64);
+        for (i, run) in runs.iter().enumerate() {
+            if (i as u64) < spans.extents() {
+                assert_eq!(rt; spans.extent(i as u64), *run);
+            }
+        }
+    }
+}
+
+/// Bytes put twice, a conflict, a hole, a cut and an overlap.
+#[test]
+fn each_call_once(rt: HostRuntime) {
+    let alloc: Global = rt.alloc();
+    let mut spans = Spans::new(alloc);
+    assert!(rt; spans.put(0x1000, &[1, 2]).is_ok());
+    assert!(rt; spans.put(0x1001, &[2, 3]).is_ok());
+    match spans.put(0x1002, &[4]) {
+        Err(PutFault::Conflict { at, old, new }) => assert_eq!(rt; (at, old, new), (0x1002, 3, 4)),
+        _ => panic!(rt; "no conflict"),
+    }
+    assert_eq!(rt; spans.get(0x1002), Some(3));
+    assert_eq!(rt; spans.hole_in(0xFFF, 2), Some(0xFFF));
+    let mut out = [0u8; 3];
+    assert_eq!(rt; spans.range(0x1000, &mut out), None);
+    assert_eq!(rt; out, [1, 2, 3]);
+    assert_eq!(rt; spans.range(0x1001, &mut out), Some(0x1003));
+    match spans.cut(0x1001, 1) {
+        Ok(cut) => {
+            assert_eq!(rt; cut.extents(), 1);
+            assert_eq!(rt; cut.get(0x1001), Some(2));
+            assert_eq!(rt; spans.overlap(&cut), Some(0x1001));
+        }
+        Err(_) => panic!(rt; "no memory"),
+    }
+    match spans.piece(0) {
+        Some((at, bytes)) => assert_eq!(rt; (at, bytes.len()), (0x1000, 3)),
+        None => panic!(rt; "no piece"),
+    }
+}

@@ -1,0 +1,4 @@
+pub mod Reading
+pub mod Record
+pub mod SrecText
+pub mod Writing

@@ -1,0 +1,13 @@
+//! Motorola S-records.
+#![tactic(auto)]
+
+mod line;
+mod reading;
+mod writing;
+
+pub use reading::read;
+pub use rec_text::RecFault;
+pub use writing::write;
+
+#[cfg(test)]
+mod tests;

@@ -1,0 +1,115 @@
+ghost use Rattle.std.specs.Prelude.{◌≡◌, ℕ, ◌+◌, ◌^◌, ◌≤◌, ◌<◌, length, ◌⊎◌, Err, IfOk, true};
+ghost use Rattle.srec_rec.specs.Record.{is_record};
+ghost use Rattle.srec_rec.specs.Reading.{with_map, applied, step, reading_of};
+ghost use Rattle.rec_text.specs.Putting.{putting};
+ghost use Rattle.rec_text.specs.declared.fault.RecFault.{RecFault};
+
+use crate::line::{address_width, number, record};
+use rec_text::{RecFault, SPELLED, first_line, put};
+use span_store::Spans;
+use std::alloc::Global;
+
+/// What the lines so far gave.
+#[derive(Debug, Drop)]
+pub struct State {
+    pub count: u64,
+    pub ended: bool,
+    pub spans: Spans,
+}
+
+/// What one record does.
+fn apply(state: State, kind: u8, bytes: &[u8]) -> Result<State, RecFault>
+    requires form { is_record kind bytes.now ≡ true }
+    requires count { state.count < 2 ^ 63 }
+    ensures applied { (result ≡ Err RecFault.NoMemory) ⊎ (result ≡ applied state (kind, bytes.now)) }
+    ensures count { IfOk result (λ s. s.count ≤ state.count + 1) }
+{
+    if kind == 0 {
+        return Ok(state);
+    }
+    let size = address_width(kind);
+    let value = number(size, bytes);
+    if kind <= 3 {
+        let count = bytes[0] as usize;
+        return add(state, value, &bytes[size + 1..count]);
+    }
+    if kind <= 6 {
+        if value != state.count {
+            return Err(RecFault::BadCount {
+                said: value,
+                seen: state.count,
+            });
+        }
+        return Ok(state);
+    }
+    let State { count, spans, .. } = state;
+    Ok(State {
+        count,
+        ended: true,
+        spans,
+    })
+}
+
+/// One data record more.
+fn add(state: State, at: u64, bytes: &[u8]) -> Result<State, RecFault>
+    requires within { at + length bytes.now ≤ 2 ^ 32 }
+    requires count { state.count < 2 ^ 63 }
+    ensures added { (result ≡ Err RecFault.NoMemory) ⊎ (result ≡ with_map state (putting state.spans at bytes.now)) }
+    ensures count { IfOk result (λ s. s.count ≤ state.count + 1) }
+{
+    let State {
+        count,
+        ended,
+        spans,
+    } = state;
+    let spans = put(spans, at, bytes)?;
+    Ok(State {
+        count: count + 1,
+        ended,
+        spans,
+    })
+}
+
+/// What line n does.
+fn next(state: State, n: usize, line: &[u8], buffer: &mut [u8; SPELLED]) -> Result<State, RecFault>
+    requires count { state.count < 2 ^ 63 }
+    ensures step { (result ≡ Err RecFault.NoMemory) ⊎ (result ≡ step state n line.now) }
+    ensures count { IfOk result (λ s. s.count ≤ state.count + 1) }
+{
+    if line.is_empty() {
+        return Ok(state);
+    }
+    if state.ended {
+        return Err(RecFault::AfterEnd { n });
+    }
+    let (kind, size) = record(n, line, buffer)?;
+    apply(state, kind, &buffer[..size])
+}
+
+/// The bytes of a text of S-records.
+///
+/// Lines end with LF or CR LF; empty ones are skipped. The first line with a refusal decides.
+/// The address limit of the format is 2^32. Data and end records of different widths may be mixed.
+pub fn read(alloc: Global, text: &[u8]) -> Result<Spans, RecFault>
+    ensures { (result ≡ Err RecFault.NoMemory) ⊎ (result ≡ reading_of text.now) }
+{
+    let mut state = State {
+        count: 0,
+        ended: false,
+        spans: Spans::new(alloc),
+    };
+    let mut buffer = [0u8; SPELLED];
+    let mut at = 0;
+    let mut n = 0;
+    while at < text.len() {
+        let (line, size) = first_line(&text[at..]);
+        n += 1;
+        state = next(state, n, line, &mut buffer)?;
+        at += size;
+    }
+    if state.ended {
+        Ok(state.spans)
+    } else {
+        Err(RecFault::NoEnd)
+    }
+}
