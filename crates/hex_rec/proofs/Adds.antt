@@ -1,9 +1,9 @@
 -- What bytes put into a map add to it.
-use Rattle.std.proofs.Common.{zero, suc, ◌≡◌, ℕ, ◌+◌, ◌-◌, ◌*◌, ◌%◌, ◌^◌, ◌<◌, ◌≤◌, ◌⊎◌, List, [], ◌∷◌, length, take, drop, min, cond, true, false, Option, Some, None, Result, Ok, Err, refl, sym, ap, ◌∙◌, subst, inl, inr, arith, length-take, length-drop}
+use Rattle.std.proofs.Common.{zero, suc, ◌≡◌, ℕ, ◌+◌, ◌-◌, ◌%◌, ◌^◌, ◌<◌, ◌≤◌, ◌⊎◌, List, [], ◌∷◌, length, take, drop, min, cond, Option, Some, None, Ok, refl, sym, ap, ◌∙◌, subst, inl, inr, arith, length-take, length-drop}
 use Rattle.std.proofs.lemmas.Bool.{cases_lt, le-leb, lt-leb}
 use Rattle.std.proofs.lemmas.Option.{none-some}
 use Rattle.std.specs.List.{slice_get}
-use Rattle.std.specs.Prelude.{IsSome, nat_le}
+use Rattle.std.specs.Prelude.{IsSome}
 use Rattle.std.specs.FinMap.{get}
 use Rattle.span_store.specs.ByteMap.{ByteMap, over, clash}
 use Rattle.span_store.specs.declared.clash.Clash.{Clash}
@@ -11,7 +11,6 @@ use Rattle.span_store.proofs.Lookups.{reads, get-over, reads_hit, reads_other, c
 use Rattle.span_store.proofs.Pieces.{slice_get-drop}
 use Rattle.span_store.proofs.Settled.{stands, slice_get-take}
 use Rattle.rec_text.specs.Putting.{◌>>=◌, putting, put_unless, put_round}
-use Rattle.rec_text.specs.declared.fault.RecFault.{RecFault}
 use Rattle.hex_rec.specs.Reading.{put_line}
 use Rattle.hex_rec.specs.HexText.{address}
 use Rattle.hex_rec.specs.Base.{IsBase}
