@@ -42,7 +42,7 @@ next_in stream used kind size w =
     let l8 : length (drop (used + 8) stream) ≡ length stream - (used + 8) = length-drop (used + 8) stream in
     let lt : length (take size (drop (used + 8) stream)) ≡ size = length-take-le size (drop (used + 8) stream) (omega arith) in
     let cuts : cut_frame (drop used stream) ≡ Whole kind (take size (drop (used + 8) stream)) (drop (used + 8 + size) stream) =
-        w.cuts ∙ ap (λ l. Whole kind (take size l) (drop (8 + size) (drop used stream))) d ∙ ap (λ l. Whole kind (take size (drop (used + 8) stream)) l) t in
+    w.cuts ∙ ap (λ l. Whole kind (take size l) (drop (8 + size) (drop used stream))) d ∙ ap (λ l. Whole kind (take size (drop (used + 8) stream)) l) t in
     let lr : length (drop (used + 8 + size) stream) ≡ length stream - (used + 8 + size) = length-drop (used + 8 + size) stream in
     record {
       within = omega arith;

@@ -37,7 +37,6 @@ module _ (k1 k0 l3 l2 l1 l0 : ℕ) (rest : List ℕ) where
     ]
   ]
 
-
 one : (p : ℕ) → Cuts (look_of (p ∷ [])) (p ∷ [])
 one p = elim (cases_Bool (p == 3)) [ inl e ↦ rw e (rw e refl) | inr e ↦ rw e (rw e refl) ]
 
@@ -57,10 +56,9 @@ more p q rest go =
       ]
     ]
 
-
 big : (k1 k0 l3 l2 l1 l0 : ℕ) (rest : List ℕ) → Cuts (look_of (3 ∷ 252 ∷ k1 ∷ k0 ∷ l3 ∷ l2 ∷ l1 ∷ l0 ∷ rest)) (3 ∷ 252 ∷ k1 ∷ k0 ∷ l3 ∷ l2 ∷ l1 ∷ l0 ∷ rest)
 big k1 k0 l3 l2 l1 l0 rest =
-    let n : ℕ = suc (suc (suc (suc (suc (suc (suc (suc (length rest))))))) ) in
+    let n : ℕ = suc (suc (suc (suc (suc (suc (suc (suc (length rest)))))))) in
     let t : nat_lt 0 n ≡ true = lt-ltb _ _ (omega arith) in
     let u : nat_lt 1 n ≡ true = lt-ltb _ _ (omega arith) in
     let v : nat_lt n 8 ≡ false = le-ltb _ _ (omega arith) in
@@ -145,26 +143,26 @@ part_seen s e = go (look_of s) (cuts s)
 -- no more than is missing is no more than a frame
 pub missing_ends : (s xs : List ℕ) → cut_frame s ≡ Partial → length xs ≤ missing_of s → EndsThere (cut_frame (s ++ xs))
 missing_ends s xs e few = ends_there (s ++ xs) (λ kind size is.
-  let l : length (s ++ xs) ≡ length s + length xs = length-append s xs in
-  elim (cases_lt (length s) 8) [
-    | inl lt ↦
-        let t : nat_lt (length s) 8 ≡ true = lt-ltb _ _ lt in
-        let m : missing_of s ≡ 8 - length s = rw t refl in
-        omega (arith, l, m, few, lt)
-    | inr ge ↦
-        let t : nat_lt (length s) 8 ≡ false = le-ltb _ _ ge in
-        let m : missing_of s ≡ 8 + four_at s 4 - length s = rw t refl in
-        let n : size ≡ four_at (s ++ xs) 4 = (complete_size (s ++ xs) kind size is).1 in
-        let b4 : get_or (s ++ xs) 4 0 ≡ get_or s 4 0 = get_or_append_left s xs 0 4 (omega (arith, ge)) in
-        let b5 : get_or (s ++ xs) 5 0 ≡ get_or s 5 0 = get_or_append_left s xs 0 5 (omega (arith, ge)) in
-        let b6 : get_or (s ++ xs) 6 0 ≡ get_or s 6 0 = get_or_append_left s xs 0 6 (omega (arith, ge)) in
-        let b7 : get_or (s ++ xs) 7 0 ≡ get_or s 7 0 = get_or_append_left s xs 0 7 (omega (arith, ge)) in
-        let same : four_at (s ++ xs) 4 ≡ four_at s 4 = rw (b4, b5, b6, b7) refl in
-        elim (part_size s (part_seen s e)) [
-          | inl lt ↦ absurd (omega (arith, lt, ge))
-          | inr lt ↦ omega (arith, l, m, n, same, few, lt)
-        ]
-  ])
+    let l : length (s ++ xs) ≡ length s + length xs = length-append s xs in
+    elim (cases_lt (length s) 8) [
+      | inl lt ↦
+          let t : nat_lt (length s) 8 ≡ true = lt-ltb _ _ lt in
+          let m : missing_of s ≡ 8 - length s = rw t refl in
+          omega (arith, l, m, few, lt)
+      | inr ge ↦
+          let t : nat_lt (length s) 8 ≡ false = le-ltb _ _ ge in
+          let m : missing_of s ≡ 8 + four_at s 4 - length s = rw t refl in
+          let n : size ≡ four_at (s ++ xs) 4 = (complete_size (s ++ xs) kind size is).1 in
+          let b4 : get_or (s ++ xs) 4 0 ≡ get_or s 4 0 = get_or_append_left s xs 0 4 (omega (arith, ge)) in
+          let b5 : get_or (s ++ xs) 5 0 ≡ get_or s 5 0 = get_or_append_left s xs 0 5 (omega (arith, ge)) in
+          let b6 : get_or (s ++ xs) 6 0 ≡ get_or s 6 0 = get_or_append_left s xs 0 6 (omega (arith, ge)) in
+          let b7 : get_or (s ++ xs) 7 0 ≡ get_or s 7 0 = get_or_append_left s xs 0 7 (omega (arith, ge)) in
+          let same : four_at (s ++ xs) 4 ≡ four_at s 4 = rw (b4, b5, b6, b7) refl in
+          elim (part_size s (part_seen s e)) [
+            | inl lt ↦ absurd (omega (arith, lt, ge))
+            | inr lt ↦ omega (arith, l, m, n, same, few, lt)
+          ]
+    ])
 
 pub missing_some : (s : List ℕ) → cut_frame s ≡ Partial → 1 ≤ missing_of s
 missing_some s e = elim (cases_lt (length s) 8) [

@@ -11,10 +11,7 @@ pub enum Look {
     Part,
     Refused(Bad),
     /// A header, and behind it all that it says.
-    Complete {
-        kind: u16,
-        size: usize,
-    },
+    Complete { kind: u16, size: usize },
 }
 
 /// The number of the two bytes from `i` on.

@@ -4,9 +4,13 @@
 mod cut;
 mod deframer;
 mod frame;
+mod laws;
 mod payload;
+#[cfg(test)]
+mod tests;
 mod write;
 
 pub use deframer::{Deframer, Fed};
 pub use frame::{Bad, Frame, Frames};
+pub use laws::{any_pieces, ignores_reserved, only_one, read_again};
 pub use write::encode;

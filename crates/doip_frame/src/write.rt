@@ -27,7 +27,9 @@ fn framed(alloc: Global, kind: u16, head: &[u8], body: &[u8]) -> Result<Bytes, N
     let mut bytes = Vec::with_capacity(alloc, 8 + size)?;
     let kind = [(kind / 0x100) as u8, (kind % 0x100) as u8];
     let said = four_bytes(size as u32);
-    bytes.extend_from_slice(&[0x03, 0xfc, kind[0], kind[1], said[0], said[1], said[2], said[3]])?;
+    bytes.extend_from_slice(&[
+        0x03, 0xfc, kind[0], kind[1], said[0], said[1], said[2], said[3],
+    ])?;
     bytes.extend_from_slice(head)?;
     bytes.extend_from_slice(body)?;
     Ok(Bytes::from_vec(bytes))
@@ -90,7 +92,12 @@ pub fn encode(alloc: Global, frame: &Frame) -> Result<Bytes, NoMemory>
             oem,
         } => {
             let a = addresses(*tester, *entity);
-            optional(alloc, 0x0006, &[a[0], a[1], a[2], a[3], *code, 0, 0, 0, 0], *oem)
+            optional(
+                alloc,
+                0x0006,
+                &[a[0], a[1], a[2], a[3], *code, 0, 0, 0, 0],
+                *oem,
+            )
         }
         Frame::AliveAsk => framed(alloc, 0x0007, &[], &[]),
         Frame::AliveSay { source } => {

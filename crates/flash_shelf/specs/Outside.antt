@@ -1,5 +1,5 @@
 -- What a read of a file and a write of text may answer.
-use Rattle.std.specs.Prelude.{◌≡◌, ◌<◌, ◌≤◌, ◌+◌, ◌-◌, ◌^◌, ℕ, min, Bool, List, ◌++◌, length, take, Option, Some, None, Result, Ok, Err, IsTrue, MatchBool, MatchOption}
+use Rattle.std.specs.Prelude.{◌≡◌, ◌<◌, ◌≤◌, ◌+◌, ◌-◌, ◌^◌, ℕ, min, Bool, List, ◌++◌, length, take, Some, None, Result, Ok, Err, IsTrue, MatchBool, MatchOption}
 use Rattle.flash_base.specs.Files.{first_of}
 use Rattle.flash_shelf.specs.declared.shelf.ShelfFault.{ShelfFault}
 use Rattle.flash_shelf.specs.declared.shelf.ShelfFault.TheVariants.{Missing, TooLarge, Failed, NoMemory}

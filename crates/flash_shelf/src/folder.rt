@@ -69,7 +69,12 @@ fn cause(e: &io::Error) -> ShelfFault {
 }
 
 /// The file's bytes, of which no more are read than show that it is too large.
-fn whole<R: FileSystem + AllocGlobal>(rt: &R, alloc: Global, folder: &Text, name: &str) -> Result<Bytes, ShelfFault>
+fn whole<R: FileSystem + AllocGlobal>(
+    rt: &R,
+    alloc: Global,
+    folder: &Text,
+    name: &str,
+) -> Result<Bytes, ShelfFault>
     ensures { IfOk result (λ b. length b ≤ LIMIT) }
 {
     let path = path_of(alloc, folder, name)?;

@@ -14,3 +14,5 @@ pub use shelf::{LIMIT, Shelf, ShelfFault};
 pub use sink::{Sink, SinkFault};
 pub use stream::StreamSink;
 
+#[cfg(test)]
+mod tests;

@@ -1,5 +1,5 @@
 -- A unit's state stays that of its place where only counts change.
-use Rattle.std.proofs.Common.{◌≡◌, ◌⊎◌, inl, inr, ℕ, ◌+◌, ◌<◌, true, List, [], ◌∷◌, length, Some, None, refl, sym, ◌∙◌, ap, subst}
+use Rattle.std.proofs.Common.{◌≡◌, inl, inr, ℕ, ◌+◌, List, length, Some, None, sym, ◌∙◌, ap, subst}
 use Rattle.std.specs.Prelude.{Option, is_some}
 use Rattle.flash_base.specs.ByteMaps.{byte_at}
 use Rattle.flash_base.specs.Lists.{Each}
@@ -7,11 +7,11 @@ use Rattle.flash_plan.specs.declared.unit.Segment.{Segment}
 use Rattle.flash_plan.specs.declared.unit.UnitPlan.{UnitPlan}
 use Rattle.uds_codec.specs.Key.{all_zero}
 use Rattle.unit_model.proofs.Units.{SameState, SameIn}
-use Rattle.unit_model.specs.Unit.{ControlUnit, OpenTransfer}
+use Rattle.unit_model.specs.Unit.{ControlUnit}
 use Rattle.run_model.proofs.Ranges.{each_map}
-use Rattle.run_model.specs.Script.{Cursor, Blocks, Place, AtIdent, AtBegin, AtProgram, AtSeed, AtKey, AtErase, AtDownload, AtBlock, AtExit, AtCheck, AtFinish, AtReset, AtDone, AtEnd}
+use Rattle.run_model.specs.Script.{Place, AtIdent, AtBegin, AtProgram, AtSeed, AtKey, AtErase, AtDownload, AtBlock, AtExit, AtCheck, AtFinish, AtReset, AtDone, AtEnd}
 use Rattle.run_model.specs.Sound.{HasSegment, HoldsBytes, has_range}
-use Rattle.run_model.specs.States.{StateAt, StateIn, HasTransfer, HasFilled, SameButCounts, Opened, Obeyed, Departed}
+use Rattle.run_model.specs.States.{StateAt, StateIn, SameButCounts, Opened}
 use Rattle.run_model.specs.Ways.{Spoken, HeardIt, MissedIt, AwaitsIn}
 
 counts_only : (u w : ControlUnit) → SameButCounts u w → (ss : List Segment) → Each (HasSegment u) ss → Each (HasSegment w) ss

@@ -1,26 +1,23 @@
 -- A word that is taken brings the conversation on, and the unit's state with it.
-use Rattle.std.proofs.Common.{◌≡◌, ◌⊎◌, inl, inr, ℕ, zero, suc, ◌+◌, ◌-◌, ◌<◌, ◌≤◌, true, false, List, [], ◌∷◌, ◌++◌, length, take, Some, None, refl, sym, ◌∙◌, ap, subst, arith, length-take, length-append}
-use Rattle.std.specs.Prelude.{Bool, Option, ◌==◌, ◌&&◌, is_some, if◌then◌else◌, slice_index, unwrap_or, map}
-use Rattle.std.proofs.lemmas.Bool.{cases_Bool, cases_lt, false≢true, both_ways, eq-eqb, ne_eqb}
+use Rattle.std.proofs.Common.{◌≡◌, ◌⊎◌, inl, inr, ℕ, ◌+◌, true, false, List, [], ◌∷◌, length, Some, None, refl, sym, ◌∙◌, ap, subst, arith}
+use Rattle.std.specs.Prelude.{Bool, Option, ◌==◌, is_some, if◌then◌else◌, unwrap_or}
+use Rattle.std.proofs.lemmas.Bool.{cases_Bool, false≢true, both_ways, eq-eqb, ne_eqb}
 use Rattle.std.proofs.lemmas.List.{append-nil}
 use Rattle.flash_base.specs.Lists.{Each}
-use Rattle.flash_base.specs.ByteMaps.{ByteMap, byte_at, SameOutside}
-use Rattle.uds_codec.specs.declared.request.Request.{Request}
+use Rattle.flash_base.specs.ByteMaps.{SameOutside}
 use Rattle.uds_codec.specs.declared.request.Request.TheVariants.{Routine, Transfer}
-use Rattle.uds_codec.specs.Request.{Range, range_of, request_of, sid_of}
+use Rattle.uds_codec.specs.Request.{range_of, request_of, sid_of}
 use Rattle.uds_codec.specs.Answer.{Verdict, Later, Again, Refusal, Good, Bad_status, Strange, judge}
 use Rattle.unit_model.specs.Unit.{ControlUnit, OpenTransfer, obey, obedient, apart}
-use Rattle.unit_model.specs.Step.{Spoil, Spoiled, Leaves, spoil_in, erase_range, block_range, Departure, Refuses, Odd, Fails, Mutes, Busies, IsDeparture, said_by, pending_bytes, is_good, is_accepted}
+use Rattle.unit_model.specs.Step.{Spoil, Spoiled, Leaves, spoil_in, erase_range, block_range, Departure, Refuses, Odd, Fails, Mutes, Busies, IsDeparture, said_by, is_good, is_accepted}
 use Rattle.unit_model.proofs.Steps.{departs_bad}
 use Rattle.flash_plan.specs.declared.unit.UnitPlan.{UnitPlan}
 use Rattle.flash_plan.specs.declared.unit.Segment.{Segment}
 use Rattle.flash_plan.specs.Plan.{IsAcceptedUnit, IsApart}
-use Rattle.run_model.specs.Ways.{Spoken, Reply, Unheard, HeardIt, MissedIt, AwaitsIn, pending_words, final_word}
 use Rattle.run_model.specs.Script.{Cursor, Blocks, Place, AtIdent, AtBegin, AtProgram, AtSeed, AtKey, AtErase, AtDownload, AtBlock, AtExit, AtCheck, AtFinish, AtReset, AtDone, AtEnd, request_at, bytes_at, range_record, block_of, place_next, place_judged}
-use Rattle.run_model.specs.Talk.{Talk, talk_hears, talk_judged, talk_final, end_talk, sid_at}
-use Rattle.run_model.specs.Sound.{HasSegment, HoldsBytes}
-use Rattle.run_model.specs.States.{StateAt, StateIn, HasTransfer, SameButCounts, Opened, Obeyed, Departed}
-use Rattle.run_model.specs.Places.{IsPlace, IsCursor, IsBlocks, is_ended, is_free}
+use Rattle.run_model.specs.Talk.{Talk, talk_judged}
+use Rattle.run_model.specs.States.{StateAt, SameButCounts, Opened, Obeyed, Departed}
+use Rattle.run_model.specs.Places.{IsPlace, IsCursor, IsBlocks}
 use Rattle.run_model.proofs.Ranges.{cursor_reads}
 use Rattle.run_model.proofs.States.{state_next, cursor_apart, kept_each, block_size}
 use Rattle.run_model.proofs.Alike.{state_same, opened_kept}

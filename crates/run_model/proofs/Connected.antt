@@ -1,22 +1,22 @@
 -- Link and gateway stay together: where frames are queued, at a tick, and where a piece is received.
-use Rattle.std.proofs.Common.{◌≡◌, ◌⊎◌, inl, inr, ℕ, zero, suc, ◌+◌, ◌<◌, ◌≤◌, true, false, List, [], ◌∷◌, ◌++◌, length, Some, None, refl, sym, ◌∙◌, ap, subst, arith, append_assoc}
-use Rattle.std.specs.Prelude.{Bool, Option, ◌==◌, ◌&&◌, ◌||◌, not, nat_le, MatchBool, MatchOption, IsTrue, if◌then◌else◌, filter, map, is_some}
+use Rattle.std.proofs.Common.{◌≡◌, ◌⊎◌, inl, inr, ℕ, ◌+◌, true, false, List, [], ◌∷◌, ◌++◌, Some, None, refl, sym, ◌∙◌, ap, subst, arith, append_assoc}
+use Rattle.std.specs.Prelude.{Bool, Option, ◌==◌, ◌&&◌, ◌||◌, not, nat_le, MatchOption, is_some}
 use Rattle.std.proofs.lemmas.Bool.{cases_Bool, false≢true, both_ways, eqb-true}
 use Rattle.std.proofs.lemmas.List.{append-nil}
 use Rattle.flash_base.specs.Lists.{Each}
-use Rattle.doip_frame.specs.Frame.{Stream, stream_of, activated_bytes, activate_bytes, alive_say_bytes, message_bytes, alive_ask_bytes}
+use Rattle.doip_frame.specs.Frame.{Stream, stream_of, activated_bytes, message_bytes}
 use Rattle.doip_frame.specs.declared.frame.Bad.{Bad}
 use Rattle.doip_frame.specs.declared.frame.Frame.{Frame}
 use Rattle.doip_frame.specs.declared.frame.Frame.TheVariants.{HeaderNack, Activate, Activated, AliveAsk, AliveSay, Message, Ack, Nack, Other}
 use Rattle.doip_frame.proofs.Streams.{split, joined}
 use Rattle.unit_model.specs.Step.{CanSend, pending_bytes}
-use Rattle.unit_model.specs.Vehicle.{HeldAnswer, Gateway, Vehicle, redialed}
-use Rattle.unit_model.specs.Feed.{Word, queue_words, Handles, Activates, Activation, Accepts, Denies, Delays, Ignores, IsActivation, activation, Feeds, tester_of}
-use Rattle.unit_model.specs.Poll.{Ticks, IsShown, IsPlain, IsSeen, Carries, bytes_due, not_due, has_tick, alive_bytes, is_turn, pending_of, held_on, ticked_gateway}
+use Rattle.unit_model.specs.Vehicle.{HeldAnswer, Gateway, Vehicle}
+use Rattle.unit_model.specs.Feed.{queue_words, Activates, Activation, Accepts, Denies, Delays, Ignores, IsActivation, activation, tester_of}
+use Rattle.unit_model.specs.Poll.{IsShown, IsPlain, IsSeen, bytes_due, not_due, has_tick, alive_bytes, is_turn, pending_of, held_on, ticked_gateway}
 use Rattle.run_model.specs.Connected.{accepts, accepts_later, will_accept, IsByPhase, IsConnected}
 use Rattle.run_model.specs.Link.{Link, Phase, Down, Fresh, Waits, Up, Denied, is_up, is_fresh, is_live, is_open, quiet_link, hear_piece}
 use Rattle.run_model.specs.Ways.{IsWhole}
-use Rattle.run_model.proofs.Whole.{whole_append, whole_none, message_whole, message_frames, alive_whole, stream_more, stream_one}
+use Rattle.run_model.proofs.Whole.{whole_append, whole_none, message_whole, message_frames, alive_whole, stream_more}
 use Rattle.run_model.proofs.Gateway.{Queues, AllHeld, KeepsHeld, each_filter}
 use Rattle.run_model.proofs.Sees.{PieceKeeps, piece_keeps, piece_lives, Lives}
 use Rattle.run_model.proofs.Sends.{Sends}
@@ -56,10 +56,10 @@ told tester f l l2 v v2 c s k up got rest phase =
     (subst (λ (p : Phase). IsByPhase tester p l2 v2.gateway) (sym phase) (up_phase tester l.phase l l2 v.gateway v2.gateway up c.phase kept.active))
 
 -- the activation request
-abbrev FreshParts : Link → Gateway → Type 0
+abbrev pub FreshParts : Link → Gateway → Type 0
 FreshParts l g = (g.active ≡ None) × (g.ready ≡ []) × (g.later ≡ []) × (g.held ≡ []) × (l.got ≡ []) × (l.rest ≡ []) × (l.inbox ≡ [])
 
-fresh_parts : (tester : ℕ) (p : Phase) (l : Link) (g : Gateway) → is_fresh p ≡ true → IsByPhase tester p l g → FreshParts l g
+pub fresh_parts : (tester : ℕ) (p : Phase) (l : Link) (g : Gateway) → is_fresh p ≡ true → IsByPhase tester p l g → FreshParts l g
 fresh_parts tester Down l g is by = absurd (false≢true is)
 fresh_parts tester Fresh l g is by = by
 fresh_parts tester Waits l g is by = absurd (false≢true is)

@@ -1,7 +1,7 @@
 -- The answer of an obedient step asks neither for waiting nor for repeating.
-use Rattle.std.proofs.Common.{◌≡◌, ◌⊎◌, inl, inr, ℕ, zero, suc, ◌+◌, true, false, List, [], ◌∷◌, ◌++◌, length, Some, None, refl, sym, ◌∙◌, ap, subst}
-use Rattle.std.specs.Prelude.{Bool, Option, ◌==◌, ◌&&◌, ◌||◌, not, if◌then◌else◌, nat_lt, nat_le}
-use Rattle.std.proofs.lemmas.Bool.{cases_Bool, false≢true}
+use Rattle.std.proofs.Common.{◌≡◌, inl, inr, ℕ, ◌+◌, true, false, List, [], ◌∷◌, ◌++◌, length, Some, None, refl}
+use Rattle.std.specs.Prelude.{Bool, Option, ◌==◌, ◌&&◌, ◌||◌, not, if◌then◌else◌, nat_lt}
+use Rattle.std.proofs.lemmas.Bool.{cases_Bool}
 use Rattle.flash_base.specs.ByteMaps.{has_each, bytes_of}
 use Rattle.flash_base.specs.Numbers.{big_endian, number2}
 use Rattle.flash_base.specs.Lists.{same_bytes}
@@ -9,9 +9,9 @@ use Rattle.sha2.specs.Sha256.{sha256}
 use Rattle.uds_codec.specs.declared.request.Request.{Request}
 use Rattle.uds_codec.specs.declared.request.Request.TheVariants.{Session, Reset, ReadId, Seed, Key, Routine, Download, Transfer, Exit}
 use Rattle.uds_codec.specs.Request.{Range, range_of, request_of, sid_of, is_service}
-use Rattle.uds_codec.specs.Answer.{Verdict, Later, Again, Refusal, Good, Bad_status, Strange, judge, after_one, seed_form, status_form, routine_form, id_form, block_form, form_of, form_in, negative_of, negative}
+use Rattle.uds_codec.specs.Answer.{Verdict, Good, Bad_status, Strange, judge, after_one, seed_form, status_form, routine_form, id_form, block_form, form_of, form_in}
 use Rattle.uds_codec.specs.Key.{key_of}
-use Rattle.unit_model.specs.Unit.{ControlUnit, OpenTransfer, obey, obey_in, obedient, refuse, answer, programming, routine, erase_in, check_in, finish_in, exit_in, receive, receive_in, key_in, give_seed, has_level, read_in, ident_of, is_locked, download, downloading, written, erased, next_counter, in_session}
+use Rattle.unit_model.specs.Unit.{ControlUnit, OpenTransfer, obey, obey_in, refuse, answer, programming, routine, erase_in, check_in, finish_in, exit_in, receive_in, key_in, give_seed, has_level, read_in, ident_of, is_locked, download, written, erased, next_counter}
 use Rattle.run_model.proofs.Answers.{IsFinal, is_later, is_again}
 
 pub record IsPlain (v : Verdict) : Type 0 where

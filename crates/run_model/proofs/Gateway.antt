@@ -1,19 +1,19 @@
 -- What handling one frame of the tester does to the gateway.
-use Rattle.std.proofs.Common.{◌≡◌, ◌⊎◌, inl, inr, ℕ, zero, suc, ◌+◌, ◌<◌, ◌≤◌, true, false, List, [], ◌∷◌, ◌++◌, length, Some, None, refl, sym, ◌∙◌, ap, subst, arith, append_assoc}
-use Rattle.std.specs.Prelude.{Bool, Option, MatchOption, ◌==◌, nat_le, if◌then◌else◌, filter, map, not, ⊤}
+use Rattle.std.proofs.Common.{◌≡◌, inl, inr, ℕ, ◌+◌, List, [], ◌∷◌, ◌++◌, Some, None, refl, sym, ◌∙◌, ap, subst, append_assoc}
+use Rattle.std.specs.Prelude.{Bool, Option, nat_le, filter, not}
 use Rattle.std.proofs.lemmas.List.{append-nil}
 use Rattle.std.proofs.lemmas.Bool.{cases_Bool}
 use Rattle.flash_base.specs.Lists.{Each}
 use Rattle.doip_frame.specs.declared.frame.Frame.{Frame}
 use Rattle.doip_frame.specs.declared.frame.Frame.TheVariants.{HeaderNack, Activate, Activated, AliveAsk, AliveSay, Message, Ack, Nack, Other}
-use Rattle.doip_frame.specs.Frame.{message_bytes, ack_bytes, nack_bytes, activated_bytes}
+use Rattle.doip_frame.specs.Frame.{message_bytes, activated_bytes}
 use Rattle.unit_model.specs.Unit.{ControlUnit}
 use Rattle.unit_model.specs.declared.reply.Due.{Due}
 use Rattle.unit_model.specs.declared.reply.Due.TheVariants.{At, Held}
 use Rattle.unit_model.specs.declared.reply.UnitReply.{UnitReply}
-use Rattle.unit_model.specs.Step.{CanSend, UnitStep}
-use Rattle.unit_model.specs.Vehicle.{HeldAnswer, Gateway, Vehicle, unit_at, redialed}
-use Rattle.unit_model.specs.Feed.{Word, enqueue, queue_word, queue_words, tester_of, Handles, HandlesMessage, HandlesAt, Nacks, Hears, Refuses, Nothing, Activates, Activation, Accepts, Denies, Delays, Ignores, activation, waits_for, released, words_of}
+use Rattle.unit_model.specs.Step.{CanSend}
+use Rattle.unit_model.specs.Vehicle.{HeldAnswer, Gateway, Vehicle, unit_at}
+use Rattle.unit_model.specs.Feed.{Word, enqueue, queue_word, queue_words, tester_of, Handles, HandlesMessage, HandlesAt, Refuses, Nothing, Activation, Accepts, Denies, Delays, Ignores, activation, waits_for, released, words_of}
 use Rattle.run_model.specs.Ways.{IsWhole}
 use Rattle.run_model.proofs.Whole.{message_whole, ack_whole, nack_whole, activated_whole, whole_append, whole_none}
 

@@ -1,4 +1,5 @@
 pub mod Alike
+pub mod Along
 pub mod Answers
 pub mod Connected
 pub mod Finals

@@ -1,20 +1,18 @@
 -- The range that a request of the script may write lies in the image.
-use Rattle.std.proofs.Common.{◌≡◌, ◌⊎◌, inl, inr, ℕ, zero, suc, ◌+◌, ◌-◌, ◌*◌, ◌<◌, ◌≤◌, true, false, List, [], ◌∷◌, ◌++◌, length, take, Some, None, refl, sym, ◌∙◌, ap, subst, arith, length-take, length-append}
-use Rattle.std.specs.Prelude.{Bool, Option, ◌==◌, ◌&&◌, ◌||◌, MatchOption, is_some, if◌then◌else◌}
-use Rattle.std.proofs.lemmas.Bool.{cases_Bool, cases_lt, eqb-true, ne_eqb, false≢true}
+use Rattle.std.proofs.Common.{◌≡◌, inl, inr, ℕ, ◌+◌, ◌-◌, ◌<◌, ◌≤◌, true, false, List, [], ◌∷◌, ◌++◌, length, Some, None, refl, sym, ◌∙◌, ap, subst, arith, length-take, length-append}
+use Rattle.std.specs.Prelude.{Bool, Option, ◌==◌, MatchOption, is_some, if◌then◌else◌}
+use Rattle.std.proofs.lemmas.Bool.{cases_lt, ne_eqb, false≢true}
 use Rattle.std.proofs.lemmas.List.{append-nil}
-use Rattle.flash_base.specs.ByteMaps.{ByteMap, byte_at, SameOutside}
+use Rattle.flash_base.specs.ByteMaps.{ByteMap, byte_at}
 use Rattle.flash_base.specs.Lists.{Each}
-use Rattle.flash_base.specs.Numbers.{pow256}
 use Rattle.flash_plan.specs.Plan.{IsInImage, IsAcceptedUnit, IsFit}
 use Rattle.flash_plan.specs.declared.unit.Segment.{Segment}
 use Rattle.flash_plan.specs.declared.unit.UnitPlan.{UnitPlan}
 use Rattle.uds_codec.proofs.Numbers.{range_read}
 use Rattle.uds_codec.specs.Request.{Range, range_of}
-use Rattle.uds_codec.specs.declared.request.Request.{Request}
 use Rattle.uds_codec.specs.declared.request.Request.TheVariants.{Routine, Transfer}
-use Rattle.unit_model.proofs.Steps.{Frames, KeepsMemory}
-use Rattle.unit_model.specs.Step.{Spoil, spoil_of, spoil_in, erase_range, block_range, is_accepted}
+use Rattle.unit_model.proofs.Steps.{Frames}
+use Rattle.unit_model.specs.Step.{Spoil, spoil_in, erase_range, block_range, is_accepted}
 use Rattle.unit_model.specs.Unit.{ControlUnit, OpenTransfer, obey}
 use Rattle.run_model.specs.Places.{IsPlace, IsCursor, IsBlocks, needs_begun}
 use Rattle.run_model.specs.Script.{Cursor, Blocks, Place, AtIdent, AtBegin, AtProgram, AtSeed, AtKey, AtErase, AtDownload, AtBlock, AtExit, AtCheck, AtFinish, AtReset, AtDone, AtEnd, request_at, range_record, block_of}
@@ -35,7 +33,7 @@ in_cursor (d ∷ ds) left s a ge lt = inr (in_cursor ds left s a ge lt)
 of_cursor : (plan : UnitPlan) (c : Cursor) → IsCursor plan c → (a : ℕ) → c.now.at ≤ a → a < c.now.at + length c.now.body → IsInImage plan.segments a
 of_cursor plan c is a ge lt = subst (λ (ss : List Segment). IsInImage ss a) is (in_cursor c.done c.left c.now a ge lt)
 
-each_at : (P : Segment → Type 0) (done left : List Segment) (s : Segment) → Each P (done ++ (s ∷ left)) → P s
+pub each_at : (P : Segment → Type 0) (done left : List Segment) (s : Segment) → Each P (done ++ (s ∷ left)) → P s
 each_at P [] left s all = all.0
 each_at P (d ∷ ds) left s all = each_at P ds left s all.1
 

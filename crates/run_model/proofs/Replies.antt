@@ -1,23 +1,21 @@
 -- The replies of a unit that had nothing on the way are on the way in their order.
-use Rattle.std.proofs.Common.{◌≡◌, ◌⊎◌, inl, inr, ℕ, zero, suc, ◌+◌, ◌<◌, ◌≤◌, true, false, List, [], ◌∷◌, ◌++◌, length, Some, None, refl, sym, ◌∙◌, ap, subst, arith, append_assoc}
-use Rattle.std.specs.Prelude.{Bool, Option, ◌==◌, ◌&&◌, nat_le, if◌then◌else◌, unwrap_or}
-use Rattle.std.proofs.lemmas.Bool.{cases_Bool, cases_lt, false≢true, both_ways, eq-eqb, le-leb, lt-leb, leb-true, and_parts}
+use Rattle.std.proofs.Common.{◌≡◌, ◌⊎◌, inl, inr, ℕ, ◌<◌, ◌≤◌, true, false, List, [], ◌∷◌, ◌++◌, length, Some, None, refl, sym, ◌∙◌, ap, subst, arith, append_assoc}
+use Rattle.std.specs.Prelude.{Option, ◌&&◌, nat_le, if◌then◌else◌, unwrap_or}
+use Rattle.std.proofs.lemmas.Bool.{cases_lt, eq-eqb, le-leb, lt-leb, leb-true, and_parts}
 use Rattle.std.proofs.lemmas.List.{append-nil}
-use Rattle.doip_frame.specs.declared.frame.Frame.{Frame}
-use Rattle.doip_frame.specs.declared.frame.Frame.TheVariants.{Message}
 use Rattle.doip_frame.specs.Frame.{Stream, stream_of, message_bytes}
 use Rattle.flash_base.specs.Lists.{Each}
 use Rattle.uds_codec.specs.Request.{sid_of}
 use Rattle.unit_model.specs.Unit.{ControlUnit, Counts, obedient}
 use Rattle.unit_model.specs.declared.reply.Due.{Due}
-use Rattle.unit_model.specs.declared.reply.Due.TheVariants.{At, Held}
+use Rattle.unit_model.specs.declared.reply.Due.TheVariants.{At}
 use Rattle.unit_model.specs.declared.reply.UnitReply.{UnitReply}
 use Rattle.unit_model.specs.Step.{CanSend, UnitStep, Obeys, Holds, Departs, pendings, last_replies, last_tick, ascends, said_by, pending_bytes}
-use Rattle.unit_model.specs.Vehicle.{HeldAnswer, Gateway, Vehicle}
-use Rattle.unit_model.specs.Feed.{Word, enqueue, queue_word, queue_words, tester_of, words_of}
+use Rattle.unit_model.specs.Vehicle.{Gateway}
+use Rattle.unit_model.specs.Feed.{queue_word, queue_words, tester_of, words_of}
 use Rattle.flash_plan.specs.declared.unit.UnitPlan.{UnitPlan}
 use Rattle.run_model.specs.Script.{Place, bytes_at}
-use Rattle.run_model.specs.Ways.{Spoken, Reply, Unheard, words_from, IsWhole, word_in, words_in, words_later, words_held, on_way, pending_words, final_word, HeardIt}
+use Rattle.run_model.specs.Ways.{Spoken, Reply, words_from, IsWhole, words_in, words_later, words_held, on_way, pending_words, final_word, HeardIt}
 use Rattle.run_model.specs.States.{StateAt, SameButCounts}
 use Rattle.run_model.proofs.Whole.{stream_more, whole_append, message_whole, message_frames}
 use Rattle.run_model.proofs.Words.{words_more}

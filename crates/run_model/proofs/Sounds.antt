@@ -1,9 +1,9 @@
 -- Records and vehicle stay sound: where only counts change, where an entry comes, where a unit hears its request.
-use Rattle.std.proofs.Common.{◌≡◌, ◌⊎◌, inl, inr, ℕ, ◌+◌, ◌<◌, ◌≤◌, true, false, List, [], ◌∷◌, Some, None, refl, sym, ◌∙◌, ap, subst}
+use Rattle.std.proofs.Common.{◌≡◌, ◌⊎◌, inl, inr, ℕ, ◌<◌, ◌≤◌, true, false, List, Some, None, refl, sym, ◌∙◌, ap, subst}
 use Rattle.std.specs.Prelude.{Bool, Option, ◌==◌, ◌||◌, MatchOption, IsTrue, is_some}
 use Rattle.std.proofs.lemmas.Bool.{cases_Bool, cases_eq, both_ways, eqb-true, false≢true}
 use Rattle.flash_base.specs.ByteMaps.{ByteMap, byte_at}
-use Rattle.flash_plan.specs.Plan.{IsInImage, IsAccepted, plan_of, count_of}
+use Rattle.flash_plan.specs.Plan.{IsAccepted, plan_of, count_of}
 use Rattle.flash_plan.specs.declared.outcome.Entry.{Entry}
 use Rattle.flash_plan.specs.declared.outcome.Entry.TheVariants.{Begun, Complete}
 use Rattle.flash_plan.specs.declared.unit.UnitPlan.{UnitPlan}

@@ -1,13 +1,13 @@
 -- A positive answer brings a unit from one place of the script to the next.
-use Rattle.std.proofs.Common.{◌≡◌, ◌⊎◌, inl, inr, ℕ, zero, suc, ◌+◌, ◌-◌, ◌*◌, ◌/◌, ◌%◌, ◌<◌, ◌≤◌, true, false, List, [], ◌∷◌, ◌++◌, length, take, drop, Some, None, refl, sym, ◌∙◌, ap, subst, arith, length-take, length-drop, length-append, append_assoc}
-use Rattle.std.specs.Prelude.{Bool, Option, ◌==◌, ◌&&◌, ◌||◌, not, IsTrue, is_some, nat_lt, nat_le, slice_index, if◌then◌else◌, filter, min}
-use Rattle.std.proofs.lemmas.Bool.{cases_Bool, cases_eq, cases_lt, both_ways, eqb-true, eq-eqb, ne_eqb, false≢true, or_right, and_parts, and_from, and_left, and_right, lt-ltb, le-ltb, le-leb, lt-leb}
+use Rattle.std.proofs.Common.{◌≡◌, ◌⊎◌, inl, inr, ℕ, zero, suc, ◌+◌, ◌-◌, ◌/◌, ◌%◌, ◌<◌, ◌≤◌, true, false, List, [], ◌∷◌, ◌++◌, length, take, drop, Some, None, refl, sym, ◌∙◌, ap, subst, arith, length-take, length-drop, length-append, append_assoc}
+use Rattle.std.specs.Prelude.{Bool, Option, ◌==◌, ◌&&◌, ◌||◌, not, IsTrue, is_some, nat_lt, nat_le, slice_index, if◌then◌else◌, min}
+use Rattle.std.proofs.lemmas.Bool.{cases_Bool, cases_lt, both_ways, eqb-true, eq-eqb, ne_eqb, false≢true, or_right, and_parts, and_from, and_left, and_right, lt-ltb, le-ltb, le-leb}
 use Rattle.std.proofs.lemmas.List.{append-nil, get_or_append_left, get_or-append_right, take-append-drop}
-use Rattle.flash_base.specs.ByteMaps.{ByteMap, byte_at, fill, put, is_in, has_each, SameOutside, bytes_of}
+use Rattle.flash_base.specs.ByteMaps.{ByteMap, byte_at, put, is_in, has_each, SameOutside, bytes_of}
 use Rattle.flash_base.specs.Lists.{Each, same_bytes}
 use Rattle.flash_base.specs.Numbers.{big_endian, number_of, number2}
 use Rattle.uds_codec.specs.declared.request.Request.{Request}
-use Rattle.uds_codec.specs.declared.request.Request.TheVariants.{Session, Reset, ReadId, Seed, Key, Routine, Download, Transfer, Exit}
+use Rattle.uds_codec.specs.declared.request.Request.TheVariants.{Session, Reset, Seed, Key, Routine, Download, Transfer, Exit}
 use Rattle.uds_codec.specs.Request.{Range, range_of, request_of, sid_of, is_service}
 use Rattle.uds_codec.specs.Answer.{Verdict, Later, Again, Refusal, Good, Bad_status, Strange, judge}
 use Rattle.flash_base.specs.declared.unit.KeyRule.{KeyRule}
@@ -22,9 +22,9 @@ use Rattle.flash_plan.specs.declared.unit.Wanted.{Wanted}
 use Rattle.flash_plan.specs.declared.outcome.Outcome.TheVariants.{IdentMismatch}
 use Rattle.flash_plan.specs.declared.unit.UnitPlan.{UnitPlan}
 use Rattle.flash_plan.specs.Plan.{IsAcceptedUnit, IsApart, AreApart}
-use Rattle.run_model.specs.Script.{Cursor, Blocks, Place, AtIdent, AtBegin, AtProgram, AtSeed, AtKey, AtErase, AtDownload, AtBlock, AtExit, AtCheck, AtFinish, AtReset, AtDone, AtEnd, request_at, bytes_at, range_record, block_of, is_empty, place_next, after_block, more_blocks, segments_from, idents_from, after_program, has_value}
+use Rattle.run_model.specs.Script.{Cursor, Blocks, Place, AtIdent, AtBegin, AtProgram, AtSeed, AtKey, AtErase, AtDownload, AtBlock, AtExit, AtCheck, AtFinish, AtReset, AtDone, AtEnd, request_at, range_record, block_of, is_empty, place_next, after_block, more_blocks, segments_from, idents_from, after_program, has_value}
 use Rattle.run_model.specs.Sound.{HoldsBytes, HasSegment, has_range}
-use Rattle.run_model.specs.States.{StateAt, HasTransfer, HasFilled, HasRoom, SameButCounts, Programs, Opened}
+use Rattle.run_model.specs.States.{StateAt, HasTransfer, Programs, Opened}
 use Rattle.run_model.specs.Places.{IsPlace, IsCursor, IsBlocks}
 use Rattle.run_model.proofs.Ranges.{each_map, cursor_reads}
 

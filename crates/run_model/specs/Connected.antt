@@ -1,11 +1,11 @@
 -- Link and gateway speak of the same connection.
-use Rattle.std.specs.Prelude.{◌≡◌, ℕ, Bool, true, false, ◌||◌, ◌==◌, MatchOption, List, [], ◌∷◌, ◌++◌, Option, Some, None, IsTrue}
-use Rattle.doip_frame.specs.Frame.{Stream, stream_of}
+use Rattle.std.specs.Prelude.{◌≡◌, ℕ, Bool, false, ◌||◌, ◌==◌, MatchOption, List, [], ◌∷◌, ◌++◌, Some, None, IsTrue}
+use Rattle.doip_frame.specs.Frame.{stream_of}
 use Rattle.doip_frame.specs.declared.frame.Frame.{Frame}
 use Rattle.doip_frame.specs.declared.frame.Frame.TheVariants.{HeaderNack, Activate, Activated, AliveAsk, AliveSay, Message, Ack, Nack, Other}
 use Rattle.flash_base.specs.Lists.{Each}
 use Rattle.unit_model.specs.Step.{CanSend}
-use Rattle.unit_model.specs.Vehicle.{HeldAnswer, Gateway}
+use Rattle.unit_model.specs.Vehicle.{Gateway}
 use Rattle.run_model.specs.Link.{Link, Phase, Down, Fresh, Waits, Up, Denied}
 use Rattle.run_model.specs.Ways.{IsWhole}
 

@@ -1,7 +1,10 @@
 -- What is asked of the places of a script.
-use Rattle.std.specs.Prelude.{◌≡◌, ℕ, ◌≤◌, Bool, true, false, List, [], ◌∷◌, ◌++◌, length}
+use Rattle.std.specs.Prelude.{◌≡◌, ◌≤◌, Bool, true, false, ◌∷◌, ◌++◌, length, Some}
+use Rattle.flash_base.specs.Lists.{Each}
+use Rattle.flash_plan.specs.Plan.{IsWanted}
 use Rattle.flash_plan.specs.declared.unit.UnitPlan.{UnitPlan}
-use Rattle.run_model.specs.Script.{Cursor, Blocks, Place, AtIdent, AtBegin, AtProgram, AtSeed, AtKey, AtErase, AtDownload, AtBlock, AtExit, AtCheck, AtFinish, AtReset, AtDone, AtEnd}
+use Rattle.uds_codec.specs.Key.{level_of}
+use Rattle.run_model.specs.Script.{Cursor, Blocks, Place, AtIdent, AtBegin, AtProgram, AtSeed, AtKey, AtErase, AtDownload, AtBlock, AtExit, AtCheck, AtDone, AtEnd}
 
 -- nothing was answered yet that speaks of the unit's state
 abbrev pub is_free : Place → Bool
@@ -48,3 +51,11 @@ IsPlace plan (AtBlock c b) = IsCursor plan c × IsBlocks c b
 IsPlace plan (AtExit c) = IsCursor plan c
 IsPlace plan (AtCheck c) = IsCursor plan c
 IsPlace plan place = Unit {0}
+
+-- what the place carries from the plan and from answers is in its range, so that its request can be said
+abbrev pub IsAsked : UnitPlan → Place → Type 0
+IsAsked plan (AtIdent w ws) = IsWanted w × Each IsWanted ws
+IsAsked plan (AtSeed level) = level_of plan.key ≡ Some level
+IsAsked plan (AtKey level seed) = (level_of plan.key ≡ Some level) × (1 ≤ length seed) × (length seed ≤ 32)
+IsAsked plan (AtBlock c b) = b.limit ≤ 65535
+IsAsked plan place = Unit {0}

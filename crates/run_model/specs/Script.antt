@@ -1,5 +1,5 @@
 -- The script of a unit: the request at each place, and the place after each answer.
-use Rattle.std.specs.Prelude.{ℕ, ◌+◌, ◌-◌, min, Bool, true, false, ◌||◌, ◌==◌, List, [], ◌∷◌, ◌++◌, length, take, drop, Option, Some, None, if◌then◌else◌}
+use Rattle.std.specs.Prelude.{ℕ, ◌-◌, min, Bool, true, false, ◌||◌, List, [], ◌∷◌, ◌++◌, length, take, drop, Option, Some, None, if◌then◌else◌}
 use Rattle.sha2.specs.Sha256.{sha256}
 use Rattle.flash_base.specs.Lists.{same_bytes}
 use Rattle.flash_base.specs.Numbers.{number_of}

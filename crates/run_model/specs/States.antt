@@ -1,5 +1,5 @@
 -- What a unit's state is at each place of the script, and what one step of it may have been.
-use Rattle.std.specs.Prelude.{◌≡◌, ◌⊎◌, ℕ, ◌+◌, ◌<◌, Bool, true, not, List, length, Option, Some, None, IsTrue, is_some}
+use Rattle.std.specs.Prelude.{◌≡◌, ◌⊎◌, ℕ, ◌+◌, ◌<◌, true, not, List, length, Option, Some, None, IsTrue, is_some}
 use Rattle.flash_base.specs.ByteMaps.{byte_at}
 use Rattle.flash_base.specs.Lists.{Each}
 use Rattle.flash_plan.specs.declared.unit.Segment.{Segment}

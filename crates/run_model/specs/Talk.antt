@@ -1,12 +1,12 @@
 -- The conversation with one unit.
-use Rattle.std.specs.Prelude.{◌≡◌, ℕ, zero, suc, ◌+◌, Bool, true, false, ◌&&◌, ◌||◌, ◌==◌, not, nat_le, nat_lt, List, [], ◌∷◌, Option, Some, None, if◌then◌else◌}
+use Rattle.std.specs.Prelude.{ℕ, ◌+◌, Bool, true, false, ◌==◌, nat_le, Option, Some, None, if◌then◌else◌}
 use Rattle.uds_codec.specs.Request.{sid_of}
 use Rattle.uds_codec.specs.Answer.{Verdict, Later, Again, Refusal, Good, Bad_status, Strange, judge}
 use Rattle.flash_plan.specs.declared.unit.UnitPlan.{UnitPlan}
 use Rattle.flash_plan.specs.declared.outcome.Outcome.{Outcome}
 use Rattle.flash_plan.specs.declared.outcome.Outcome.TheVariants.{PendingLimit, BusyLimit, NoAnswer, Undelivered}
 use Rattle.run_model.specs.Ways.{Spoken, Reply, Unheard}
-use Rattle.run_model.specs.Script.{Place, AtIdent, AtBegin, AtProgram, AtSeed, AtKey, AtErase, AtDownload, AtBlock, AtExit, AtCheck, AtFinish, AtReset, AtDone, AtEnd, start_place, place_judged, bytes_at}
+use Rattle.run_model.specs.Script.{Place, AtBegin, AtDone, AtEnd, start_place, place_judged, bytes_at}
 
 -- number: how many final answers this attempt has
 pub record Talk : Type 0 where

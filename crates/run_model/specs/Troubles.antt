@@ -2,7 +2,7 @@
 use Rattle.std.specs.Prelude.{◌≡◌, ℕ, ◌-◌, ◌==◌, Option, Some, None, if◌then◌else◌}
 use Rattle.shop_model.specs.History.{History, vehicle_now}
 use Rattle.unit_model.specs.Unit.{ControlUnit, Counts, LAST_COUNT}
-use Rattle.unit_model.specs.Vehicle.{Gateway, Vehicle, unit_at}
+use Rattle.unit_model.specs.Vehicle.{Vehicle, unit_at}
 
 -- how much a count rose; one that stands at its last value rose
 abbrev pub trouble : ℕ → ℕ → ℕ

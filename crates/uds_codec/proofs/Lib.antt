@@ -1,2 +1,6 @@
+pub mod Decodes
+pub mod Found
 pub mod Numbers
+pub mod Onward
 mod Rows
+pub mod Written

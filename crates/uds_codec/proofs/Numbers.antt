@@ -1,7 +1,8 @@
 -- Numbers and ranges are read as they were written.
-use Rattle.std.proofs.Common.{◌≡◌, ℕ, zero, suc, ◌+◌, ◌*◌, ◌/◌, ◌%◌, ◌^◌, ◌<◌, ◌≤◌, true, List, [], ◌∷◌, ◌++◌, length, take, drop, Some, refl, ◌∙◌, ap, arith, length-append, append_assoc}
+use Rattle.std.proofs.Common.{◌≡◌, ℕ, zero, suc, ◌+◌, ◌-◌, ◌*◌, ◌/◌, ◌%◌, ◌^◌, ◌<◌, ◌≤◌, true, List, [], ◌∷◌, ◌++◌, length, take, drop, Some, refl, sym, ◌∙◌, ap, arith, length-append, append_assoc}
 use Rattle.std.specs.Prelude.{Bool, nat_le, ◌&&◌}
 use Rattle.std.proofs.lemmas.Bool.{le-leb}
+use Rattle.std.proofs.Math.ListN.{set}
 use Rattle.flash_base.specs.Numbers.{big_endian, number_after, number_of, pow256}
 use Rattle.uds_codec.specs.Request.{range_of, range_bytes, is_width}
 
@@ -63,3 +64,21 @@ small_power (suc zero) n h l = omega arith
 small_power (suc (suc zero)) n h l = omega arith
 small_power (suc (suc (suc zero))) n h l = omega arith
 small_power (suc (suc (suc (suc i)))) n h l = absurd (omega arith)
+
+-- one byte more is written
+pub one_written : (j rest : ℕ) (bytes : List ℕ) → j < length bytes → big_endian (suc j) rest ++ drop (suc j) bytes ≡ big_endian j (rest / 256) ++ drop j (set bytes j (rest % 256))
+one_written j rest bytes lt =
+    append_assoc (big_endian j (rest / 256)) (rest % 256 ∷ []) (drop (suc j) bytes)
+    ∙ ap (λ (l : List ℕ). big_endian j (rest / 256) ++ l) (sym (drop_set bytes j (rest % 256) lt))
+  where
+    drop_set : (xs : List ℕ) (i x : ℕ) → i < length xs → drop i (set xs i x) ≡ x ∷ drop (suc i) xs
+    drop_set [] i x h = absurd (omega (arith, h))
+    drop_set (y ∷ xs) zero x h = refl
+    drop_set (y ∷ xs) (suc i) x h = drop_set xs i x (omega (arith, h))
+
+pub written_before : (i n value rest : ℕ) (bytes : List ℕ) → 0 < i → i ≤ length bytes → big_endian n value ≡ big_endian i rest ++ drop i bytes
+    → big_endian n value ≡ big_endian (i - 1) (rest / 256) ++ drop (i - 1) (set bytes (i - 1) (rest % 256))
+written_before zero n value rest bytes some le e = absurd (omega (arith, some))
+written_before (suc j) n value rest bytes some le e =
+    let k : suc j - 1 ≡ j = omega arith in
+    rw k (e ∙ one_written j rest bytes (omega (arith, le)))

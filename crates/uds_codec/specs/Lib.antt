@@ -1,3 +1,7 @@
 pub mod Answer
+pub mod Decoding
+pub mod Form
+pub mod Grammar
 pub mod Key
+pub mod Laws
 pub mod Request

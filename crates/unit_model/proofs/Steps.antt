@@ -1,17 +1,15 @@
 -- What a step of a unit changes, and what a positive answer says.
-use Rattle.std.proofs.Common.{◌≡◌, ◌⊎◌, inl, inr, ℕ, zero, suc, ◌+◌, ◌<◌, ◌≤◌, true, false, List, [], ◌∷◌, ◌++◌, length, take, Some, None, refl, sym, ◌∙◌, ap, subst, arith}
-use Rattle.std.specs.Prelude.{Bool, Option, MatchOption, ◌==◌, ◌&&◌, ◌||◌, not, nat_lt, nat_le, if◌then◌else◌, is_some, IsTrue, slice_index, unwrap_or}
-use Rattle.std.proofs.lemmas.Bool.{cases_Bool, cases_cond, false≢true, and_parts, and_left, and_right, eqb-true, lt-leb, le-ltb, lt-ltb, le-leb, cases_lt}
+use Rattle.std.proofs.Common.{◌≡◌, ◌⊎◌, inl, inr, ℕ, ◌+◌, ◌<◌, ◌≤◌, true, false, List, [], ◌∷◌, length, Some, None, refl, sym, ◌∙◌, ap, subst}
+use Rattle.std.specs.Prelude.{Bool, Option, ◌==◌, ◌&&◌, ◌||◌, not, nat_lt, if◌then◌else◌, is_some, unwrap_or}
+use Rattle.std.proofs.lemmas.Bool.{cases_Bool, false≢true, and_left, and_right, eqb-true, lt-leb, le-ltb}
 use Rattle.flash_base.specs.ByteMaps.{ByteMap, byte_at, is_in, fill, put, has_each, SameOutside}
 use Rattle.uds_codec.specs.declared.request.Request.{Request}
 use Rattle.uds_codec.specs.declared.request.Request.TheVariants.{Session, Reset, ReadId, Seed, Key, Routine, Download, Transfer, Exit}
 use Rattle.uds_codec.specs.Request.{Range, range_of, request_of, sid_of}
-use Rattle.uds_codec.specs.Answer.{Verdict, Later, Again, Refusal, Good, Bad_status, Strange, judge, negative, negative_of}
-use Rattle.flash_base.specs.declared.unit.KeyRule.{KeyRule}
-use Rattle.flash_base.specs.declared.unit.KeyRule.TheVariants.{Free, Xor, Digest}
-use Rattle.unit_model.specs.Unit.{ControlUnit, OpenTransfer, Counts, obey, obey_in, obedient, heard_one, read_in, key_in, give_seed, has_level, erase_in, check_in, finish_in, receive, receive_in, exit_in, routine, download, programming, is_locked, refuse, answer, erased, apart, written, ident_of, seed_given, next_counter}
+use Rattle.uds_codec.specs.Answer.{judge, negative}
+use Rattle.unit_model.specs.Unit.{ControlUnit, OpenTransfer, obey, obey_in, obedient, read_in, key_in, has_level, erase_in, check_in, finish_in, receive_in, exit_in, routine, programming, is_locked, refuse, answer, written, ident_of, next_counter}
 use Rattle.unit_model.specs.declared.reply.UnitReply.{UnitReply}
-use Rattle.unit_model.specs.Step.{Spoil, Spoiled, Leaves, spoil_of, spoil_in, erase_range, block_range, is_accepted, Departure, Refuses, Odd, Fails, Mutes, Busies, IsDeparture, Departs, Obeys, Holds, UnitStep, timed, said_by, is_good}
+use Rattle.unit_model.specs.Step.{Spoil, Leaves, spoil_of, spoil_in, erase_range, block_range, is_accepted, Departure, Refuses, Odd, Fails, Mutes, Busies, IsDeparture, Departs, Obeys, Holds, UnitStep, said_by, is_good}
 
 pub not_in : (at size a : ℕ) → (a < at) ⊎ (at + size ≤ a) → is_in at size a ≡ false
 not_in at size a (inl lt) = and_left _ _ (lt-leb _ _ lt)
@@ -168,7 +166,7 @@ step_frames u w bytes tick replies step = go step.how
     go (inr (inr d)) = moved d.mid (leaves_frames u d.mid bytes d.leaves) (λ i. (d.becomes i).address) (λ i. (d.becomes i).memory)
 
 -- a departure never gives a positive answer in the form
-negative_bad : (nrc : ℕ) → is_good (negative nrc) ≡ false
+pub negative_bad : (nrc : ℕ) → is_good (negative nrc) ≡ false
 negative_bad nrc = elim (cases_Bool (nrc == 120)) [
   | inl e ↦ rw e refl
   | inr e ↦ elim (cases_Bool (nrc == 33)) [ inl f ↦ rw (e, f) refl | inr f ↦ rw (e, f) refl ]

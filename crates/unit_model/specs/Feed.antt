@@ -1,14 +1,14 @@
 -- What bytes that are sent to the gateway do to the vehicle (ISO 13400-2:2019, section 9).
-use Rattle.std.specs.Prelude.{◌≡◌, ◌⊎◌, ℕ, zero, suc, ◌+◌, ◌-◌, ◌%◌, ◌≤◌, Bool, true, false, ◌&&◌, ◌||◌, ◌==◌, not, nat_le, nat_lt, List, [], ◌∷◌, ◌++◌, length, take, map, filter, Option, Some, None, if◌then◌else◌, MatchOption, MatchBool, IsTrue, unwrap_or}
+use Rattle.std.specs.Prelude.{◌≡◌, ◌⊎◌, ℕ, zero, suc, ◌+◌, Bool, true, ◌&&◌, ◌==◌, not, nat_le, List, [], ◌∷◌, ◌++◌, length, take, map, filter, Option, Some, None, if◌then◌else◌, MatchBool, unwrap_or}
 use Rattle.uds_codec.specs.Request.{sid_of}
 use Rattle.doip_frame.specs.declared.frame.Frame.{Frame}
 use Rattle.doip_frame.specs.declared.frame.Frame.TheVariants.{HeaderNack, Activate, Activated, AliveAsk, AliveSay, Message, Ack, Nack, Other}
 use Rattle.doip_frame.specs.Frame.{Cut, Partial, Wrong, Whole, cut_frame, frame_of, nack_code, activated_bytes, message_bytes, ack_bytes, nack_bytes, header_nack_bytes}
-use Rattle.unit_model.specs.Unit.{ControlUnit, Counts, one_more}
+use Rattle.unit_model.specs.Unit.{ControlUnit, one_more}
 use Rattle.unit_model.specs.declared.reply.Due.{Due}
 use Rattle.unit_model.specs.declared.reply.Due.TheVariants.{At, Held}
 use Rattle.unit_model.specs.declared.reply.UnitReply.{UnitReply}
-use Rattle.unit_model.specs.Step.{UnitStep, raise_code, raise_if, pending_bytes}
+use Rattle.unit_model.specs.Step.{UnitStep, raise_code}
 use Rattle.unit_model.specs.Vehicle.{HeldAnswer, Gateway, Vehicle, unit_at, redialed}
 
 -- the units with this one in place of the one with its address

@@ -1,5 +1,10 @@
 pub mod Feed
+pub mod Idents
 pub mod Poll
+pub mod RegionMaps
+pub mod Regions
+pub mod RegionTests
+pub mod Running
 pub mod Step
 pub mod Unit
 pub mod Vehicle

@@ -1,8 +1,8 @@
 -- What a receive carries, and what a tick does. A tick is a receive at which no byte was due; there is no other clock.
-use Rattle.std.specs.Prelude.{◌≡◌, ◌⊎◌, ℕ, zero, suc, ◌+◌, ◌-◌, ◌%◌, ◌<◌, ◌≤◌, Bool, true, false, not, ◌&&◌, ◌||◌, ◌==◌, nat_le, List, [], ◌∷◌, ◌++◌, length, map, filter, Option, Some, None, is_some, if◌then◌else◌, IsTrue}
+use Rattle.std.specs.Prelude.{◌≡◌, ◌⊎◌, ℕ, ◌+◌, ◌-◌, ◌%◌, Bool, false, not, ◌&&◌, ◌||◌, ◌==◌, nat_le, List, [], ◌∷◌, ◌++◌, map, filter, None, is_some, if◌then◌else◌, IsTrue}
 use Rattle.flash_base.specs.Lists.{BeginsWith}
-use Rattle.doip_frame.specs.Frame.{Stream, stream_of, message_bytes, alive_ask_bytes}
-use Rattle.unit_model.specs.Unit.{ControlUnit, Counts, one_more}
+use Rattle.doip_frame.specs.Frame.{stream_of, message_bytes, alive_ask_bytes}
+use Rattle.unit_model.specs.Unit.{ControlUnit}
 use Rattle.unit_model.specs.Step.{raise_if, pending_bytes}
 use Rattle.unit_model.specs.Vehicle.{HeldAnswer, Gateway, Vehicle}
 use Rattle.unit_model.specs.Feed.{tester_of}

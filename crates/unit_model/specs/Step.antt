@@ -1,12 +1,11 @@
 -- One step of a unit: obedient, or one of the departures.
-use Rattle.std.specs.Prelude.{◌≡◌, ◌⊎◌, ℕ, zero, suc, ◌+◌, ◌≤◌, ◌<◌, ◌≢◌, Bool, true, false, ◌&&◌, ◌||◌, ◌==◌, nat_lt, nat_le, not, List, [], ◌∷◌, ◌++◌, length, Option, Some, None, if◌then◌else◌, MatchOption, IsTrue, is_some}
+use Rattle.std.specs.Prelude.{◌≡◌, ◌⊎◌, ℕ, ◌+◌, ◌≤◌, Bool, true, false, ◌&&◌, ◌||◌, ◌==◌, nat_lt, nat_le, not, List, [], ◌∷◌, ◌++◌, length, Option, Some, None, if◌then◌else◌, IsTrue, is_some}
 use Rattle.flash_base.specs.ByteMaps.{byte_at, SameOutside}
 use Rattle.flash_base.specs.Lists.{Each}
 use Rattle.uds_codec.specs.declared.request.Request.{Request}
 use Rattle.uds_codec.specs.declared.request.Request.TheVariants.{Session, Reset, ReadId, Seed, Key, Routine, Download, Transfer, Exit}
 use Rattle.uds_codec.specs.Request.{Range, range_of, request_of, sid_of}
 use Rattle.uds_codec.specs.Answer.{Verdict, Later, Again, Refusal, Good, Bad_status, Strange, judge}
-use Rattle.unit_model.specs.declared.reply.Due.{Due}
 use Rattle.unit_model.specs.declared.reply.Due.TheVariants.{At, Held}
 use Rattle.unit_model.specs.declared.reply.UnitReply.{UnitReply}
 use Rattle.unit_model.specs.Unit.{ControlUnit, Counts, OpenTransfer, obedient, obey, heard_one, one_more, apart}

@@ -1,8 +1,8 @@
 -- A control unit, and the step of a unit that obeys (ISO 14229-1; the options of the routines are this project's own).
-use Rattle.std.specs.Prelude.{◌≡◌, ℕ, zero, suc, ◌+◌, ◌*◌, ◌-◌, ◌/◌, ◌%◌, ◌^◌, min, Bool, true, false, ◌&&◌, ◌||◌, ◌==◌, nat_lt, nat_le, not, List, [], ◌∷◌, ◌++◌, length, take, replicate, filter, Option, Some, None, if◌then◌else◌}
+use Rattle.std.specs.Prelude.{ℕ, ◌+◌, ◌-◌, ◌^◌, min, Bool, true, false, ◌&&◌, ◌||◌, ◌==◌, nat_lt, not, List, [], ◌∷◌, ◌++◌, length, replicate, filter, Option, Some, None, if◌then◌else◌}
 use Rattle.sha2.specs.Sha256.{sha256}
 use Rattle.flash_base.specs.Numbers.{big_endian}
-use Rattle.flash_base.specs.ByteMaps.{ByteMap, byte_at, fill, put, has_each, bytes_of}
+use Rattle.flash_base.specs.ByteMaps.{ByteMap, fill, put, has_each, bytes_of}
 use Rattle.flash_base.specs.Lists.{same_bytes}
 use Rattle.flash_base.specs.declared.unit.KeyRule.{KeyRule}
 use Rattle.flash_base.specs.declared.unit.KeyRule.TheVariants.{Free, Xor, Digest}

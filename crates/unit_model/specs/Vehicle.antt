@@ -1,5 +1,5 @@
 -- The vehicle: one gateway (ISO 13400-2:2019) and its units.
-use Rattle.std.specs.Prelude.{◌≡◌, ℕ, zero, suc, ◌+◌, Bool, true, false, ◌==◌, List, [], ◌∷◌, ◌++◌, Option, Some, None, if◌then◌else◌}
+use Rattle.std.specs.Prelude.{ℕ, Bool, false, ◌==◌, List, [], ◌∷◌, Option, Some, None, if◌then◌else◌}
 use Rattle.flash_base.specs.ByteMaps.{byte_at}
 use Rattle.unit_model.specs.Unit.{ControlUnit}
 

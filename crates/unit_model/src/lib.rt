@@ -8,6 +8,13 @@
 //! - `Poll`: what a receive carries, and what a tick does.
 #![tactic(auto)]
 
+mod making;
+mod memory;
 mod reply;
+mod spec;
+mod unit;
 
+pub use memory::Memory;
 pub use reply::{Due, Got, UnitReply};
+pub use spec::{PatchSpec, RegionSpec, UnitSpec};
+pub use unit::{Transfer, Unit};

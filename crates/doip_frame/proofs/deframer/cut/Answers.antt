@@ -25,9 +25,9 @@ loop-bad-preserved c =
     let next = next_in s u k n (subst (CutsWhole k n) (take_rest s u) c.in-Complete.ensures) in
     let span : u + 8 + n - (u + 8) ≡ n = omega arith in
     let frame : c.in_ok-frame-in-Complete.frame ≡ frame_of k (take n (drop (u + 8) s)) =
-        c.in_ok-frame-in-Complete.ensures ∙ ap (λ (j : ℕ). frame_of k (take j (drop (u + 8) s))) span in
+    c.in_ok-frame-in-Complete.ensures ∙ ap (λ (j : ℕ). frame_of k (take j (drop (u + 8) s))) span in
     let pushed : c.push.new.self ≡ c.loop-bad.frames ++ frame_of k (take n (drop (u + 8) s)) ∷ [] =
-        c.in_ok-push-in-Complete.ensures.ok ∙ ap (λ (f : Frame). c.loop-bad.frames ++ f ∷ []) frame in
+    c.in_ok-push-in-Complete.ensures.ok ∙ ap (λ (f : Frame). c.loop-bad.frames ++ f ∷ []) frame in
     let after : Stream = stream_of (drop (u + 8 + n) s) in
     record {
       within = next.within;

@@ -30,11 +30,11 @@ loop-used-preserved c =
     let left : length (drop u p) ≡ length p - u = length-drop u p in
     let taken : length (take n (drop u p)) ≡ n = length-take-le n (drop u p) (omega (arith, least, left)) in
     let items : c.extend_from_slice.new.self.items ≡ h ++ take n (drop u p) =
-        c.in_ok-extend_from_slice.ensures.items ∙ ap (λ (j : ℕ). h ++ take j (drop u p)) span in
+    c.in_ok-extend_from_slice.ensures.items ∙ ap (λ (j : ℕ). h ++ take j (drop u p)) span in
     let all : h ++ take n (drop u p) ≡ c.args.held.now.items ++ take (u + n) p =
-        ap (λ (l : List ℕ). l ++ take n (drop u p)) c.loop-used.invariant.held
-        ∙ append_assoc c.args.held.now.items (take u p) (take n (drop u p))
-        ∙ ap (λ (l : List ℕ). c.args.held.now.items ++ l) (sym (take-add u n p)) in
+    ap (λ (l : List ℕ). l ++ take n (drop u p)) c.loop-used.invariant.held
+    ∙ append_assoc c.args.held.now.items (take u p) (take n (drop u p))
+    ∙ ap (λ (l : List ℕ). c.args.held.now.items ++ l) (sym (take-add u n p)) in
     record {
       within = omega (arith, least, c.loop-used-test.true);
       held = items ∙ all;

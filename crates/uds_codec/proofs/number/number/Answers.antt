@@ -1,4 +1,4 @@
-use Rattle.std.proofs.Common.{◌<◌, arith}
+use Rattle.std.proofs.Common.{arith}
 use Rattle.uds_codec.proofs.Numbers.{small_power}
 use Rattle.uds_codec.proofs.number.number.Goals as goal
 

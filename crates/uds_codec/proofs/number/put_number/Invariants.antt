@@ -6,6 +6,7 @@ use Rattle.uds_codec.proofs.number.put_number.Given as goal
 abbrev pub invariant-loop-i : goal.invariant-loop-i
 invariant-loop-i g l = record {
   within : l.i ≤ g.row.N;
+  size : length l.bytes ≡ g.row.N;
   whole : big_endian g.row.N l.fn.value ≡ big_endian l.i l.rest ++ drop l.i l.bytes;
 }
 

@@ -1,0 +1,17 @@
+pub mod Allowed
+pub mod Collecting
+pub mod Joined
+pub mod Links
+pub mod OneStep
+pub mod Piecing
+pub mod Queueing
+pub mod Recorded
+pub mod Sane
+pub mod Sending
+pub mod Slots
+pub mod Sounds
+pub mod Takes
+pub mod Talks
+pub mod Tending
+pub mod Ticking
+pub mod Ticks

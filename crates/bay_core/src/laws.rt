@@ -1,0 +1,16 @@
+//! Theorems about the core of a run: functions with nothing to run.
+
+ghost use Rattle.bay_core.specs.Law.{StepLaw, CoreLaw};
+
+/// One allowed event keeps records, soundness, link, ticks and each unit's conversation together
+/// with the vehicle, whatever the event does to vehicle and records within `Moves`.
+pub fn each_event_keeps_the_joint_state()
+    ensures step { StepLaw }
+{}
+
+/// For every legal list of events of an accepted plan, from records that fit the vehicle: after
+/// each prefix records and vehicle are sound and each unit's state agrees with its conversation,
+/// whatever vehicle and records move with the list.
+pub fn each_legal_list_keeps_the_joint_state()
+    ensures lists { CoreLaw }
+{}

@@ -1,0 +1,16 @@
+//! The core of a run, without a device: the events of a run, which lists of them are legal, what
+//! they make of link, units and records, and the law that they keep all of these together with
+//! the vehicle.
+//!
+//! The definitions are in `specs`:
+//! - `Core`: what a list of events makes of a run.
+//! - `Legal`: which event is allowed after those before it.
+//! - `Moves`: what one event does to the vehicle and to the records.
+//! - `Joint`: what each event keeps. `Law`: the law over every legal list.
+#![tactic(auto)]
+
+mod event;
+mod laws;
+
+pub use event::{Event, Events, Heard, Tend};
+pub use laws::{each_event_keeps_the_joint_state, each_legal_list_keeps_the_joint_state};

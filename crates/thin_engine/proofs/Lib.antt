@@ -1,0 +1,5 @@
+pub mod Laters
+pub mod Leads
+pub mod Limits
+pub mod Looks
+pub mod Outcomes

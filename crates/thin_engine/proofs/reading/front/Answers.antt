@@ -1,0 +1,8 @@
+use Rattle.std.proofs.Common.{sym, subst}
+use Rattle.thin_engine.specs.declared.reading.Look.{Look}
+use Rattle.thin_engine.specs.Look.{Cuts}
+use Rattle.thin_engine.proofs.Looks.{cuts}
+use Rattle.thin_engine.proofs.reading.front.Goals as goal
+
+pub returns : goal.returns
+returns c = subst (λ (l : Look). Cuts l c.args.stream.now) (sym c.seen.ensures) (cuts c.args.stream.now)

@@ -1,0 +1,207 @@
+ghost use Rattle.std.specs.Prelude.{◌≡◌, ◌<◌, ◌≤◌, length, IsTrue, IfOk, IfErr, OnOk};
+ghost use Rattle.doip_frame.specs.Frame.{message_bytes, activate_bytes};
+ghost use Rattle.thin_engine.specs.Causes.{IsMidway};
+ghost use Rattle.thin_engine.specs.Later.{IsTalkLater, IsLinkLater};
+
+use crate::reading::{Awaited, Reading, Route, read_awaited};
+use flash_base::NoMemory;
+use flash_plan::Outcome;
+use shop_model::{Got, Shop};
+use std::alloc::Global;
+
+/// Why no answer came.
+#[derive(Clone, Copy, Debug, PartialEq, Eq)]
+pub enum Trouble {
+    NoMemory,
+    NoAnswer,
+    LinkLost,
+    Denied(u8),
+}
+
+/// The most receives for one answer; the last counts as the patience's end.
+const POLLS: u32 = 1 << 20;
+
+/// The quiet ticks after which no answer is awaited any more.
+const PATIENCE: u32 = 1000;
+
+enum Polled {
+    Quiet,
+    Piece,
+    Lost,
+    NoMemory,
+}
+
+/// Puts the next bytes behind those that came.
+fn poll<S: Shop>(shop: &mut S, got: &mut Vec<u8>) -> Polled
+    requires { IsTrue (S.history shop.old).linked }
+    ensures later { IsTalkLater (S.history shop.old) (S.history shop.new) }
+{
+    let mut out = [0u8; 4096];
+    match shop.receive(&mut out) {
+        Ok(Got::Quiet) => Polled::Quiet,
+        Ok(Got::Bytes(n)) => match got.extend_from_slice(&out[..n]) {
+            Ok(()) => Polled::Piece,
+            Err(_) => Polled::NoMemory,
+        },
+        Err(_) => Polled::Lost,
+    }
+}
+
+fn part(alloc: Global, got: &[u8], from: usize) -> Result<Vec<u8>, Trouble>
+    requires { from ≤ length got.now }
+{
+    match got[from..].to_vec(alloc) {
+        Ok(v) => Ok(v),
+        Err(_) => Err(Trouble::NoMemory),
+    }
+}
+
+/// The answer to the request that was sent last.
+fn collect<S: Shop>(
+    alloc: Global,
+    shop: &mut S,
+    awaited: Awaited,
+    route: &Route,
+) -> Result<Vec<u8>, Trouble>
+    requires { IsTrue (S.history shop.old).linked }
+    ensures later { IsTalkLater (S.history shop.old) (S.history shop.new) }
+{
+    let mut got = Vec::new(alloc);
+    let mut quiet = 0;
+    for _ in 0..POLLS {
+        match poll(shop, &mut got) {
+            Polled::Quiet => {
+                quiet += 1;
+                if quiet >= PATIENCE {
+                    return Err(Trouble::NoAnswer);
+                }
+            }
+            Polled::Piece => match read_awaited(awaited, route, &got) {
+                Reading::Waiting => {}
+                Reading::Lost => return Err(Trouble::LinkLost),
+                Reading::Denied(code) => return Err(Trouble::Denied(code)),
+                Reading::Answered(from) => return part(alloc, &got, from),
+            },
+            Polled::Lost => return Err(Trouble::LinkLost),
+            Polled::NoMemory => return Err(Trouble::NoMemory),
+        }
+    }
+    Err(Trouble::NoAnswer)
+}
+
+/// Sends a frame. False where that failed.
+fn deliver<S: Shop>(shop: &mut S, frame: &[u8]) -> bool
+    requires linked { IsTrue (S.history shop.old).linked }
+    requires some { 1 ≤ length frame.now }
+    requires few { length frame.now ≤ 65600 }
+    ensures later { IsTalkLater (S.history shop.old) (S.history shop.new) }
+{
+    match shop.send(frame) {
+        Ok(()) => true,
+        Err(_) => false,
+    }
+}
+
+/// The frame of a request.
+fn message(alloc: Global, route: &Route, body: &[u8]) -> Result<Vec<u8>, NoMemory>
+    requires { length body.now ≤ 4096 }
+    ensures { IfOk result (λ v. v.items ≡ message_bytes route.now.tester route.now.unit body.now) }
+{
+    let size = body.len() + 4;
+    let source = route.tester;
+    let target = route.unit;
+    let mut frame = Vec::from_slice(
+        alloc,
+        &[
+            0x03,
+            0xFC,
+            0x80,
+            0x01,
+            0,
+            0,
+            (size / 256) as u8,
+            (size % 256) as u8,
+            (source / 256) as u8,
+            (source % 256) as u8,
+            (target / 256) as u8,
+            (target % 256) as u8,
+        ],
+    )?;
+    frame.extend_from_slice(body)?;
+    Ok(frame)
+}
+
+/// Sends a request to the unit, and gives the body of its answer.
+pub fn ask<S: Shop>(
+    alloc: Global,
+    shop: &mut S,
+    route: &Route,
+    body: &[u8],
+) -> Result<Vec<u8>, Trouble>
+    requires linked { IsTrue (S.history shop.old).linked }
+    requires few { length body.now ≤ 300 }
+    ensures later { IsTalkLater (S.history shop.old) (S.history shop.new) }
+{
+    let Ok(frame) = message(alloc, route, body) else {
+        return Err(Trouble::NoMemory);
+    };
+    if !deliver(shop, &frame) {
+        return Err(Trouble::LinkLost);
+    }
+    collect(alloc, shop, Awaited::Answer, route)
+}
+
+/// Dials. False where that failed.
+fn dial<S: Shop>(shop: &mut S) -> bool
+    ensures later { IsLinkLater (S.history shop.old) (S.history shop.new) }
+    ensures linked { IsTrue result → IsTrue (S.history shop.new).linked }
+{
+    match shop.redial() {
+        Ok(()) => true,
+        Err(_) => false,
+    }
+}
+
+/// The frame of an activation request.
+fn activation(tester: u16) -> [u8; 15]
+    ensures { result ≡ activate_bytes tester }
+{
+    [
+        0x03,
+        0xFC,
+        0,
+        5,
+        0,
+        0,
+        0,
+        7,
+        (tester / 256) as u8,
+        (tester % 256) as u8,
+        0,
+        0,
+        0,
+        0,
+        0,
+    ]
+}
+
+/// Dials, and has the gateway activate the tester.
+pub fn activate<S: Shop>(alloc: Global, shop: &mut S, route: &Route) -> Result<(), Outcome>
+    ensures later { IsLinkLater (S.history shop.old) (S.history shop.new) }
+    ensures linked { OnOk result (IsTrue (S.history shop.new).linked) }
+    ensures outcome { IfErr result IsMidway }
+{
+    if !dial(shop) {
+        return Err(Outcome::LinkLost { times: 1 });
+    }
+    if !deliver(shop, &activation(route.tester)) {
+        return Err(Outcome::LinkLost { times: 1 });
+    }
+    match collect(alloc, shop, Awaited::Activation, route) {
+        Ok(_answer) => Ok(()),
+        Err(Trouble::Denied(code)) => Err(Outcome::LinkRefused { code }),
+        Err(Trouble::NoMemory) => Err(Outcome::NoMemory),
+        Err(Trouble::NoAnswer) => Err(Outcome::LinkLost { times: 1 }),
+        Err(Trouble::LinkLost) => Err(Outcome::LinkLost { times: 1 }),
+    }
+}

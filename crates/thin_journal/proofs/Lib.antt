@@ -1,0 +1,13 @@
+pub mod Calls
+pub mod Both
+pub mod File
+pub mod Images
+pub mod Laters
+pub mod Made
+pub mod Making
+pub mod Moments
+pub mod More
+pub mod Same
+pub mod Slots
+pub mod Steps
+pub mod Ways

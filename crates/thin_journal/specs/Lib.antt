@@ -1,0 +1,5 @@
+pub mod Append
+pub mod Entries
+pub mod File
+pub mod Later
+pub mod Make

@@ -1,0 +1,5 @@
+pub mod Lists
+pub mod PassState
+pub mod Seats
+pub mod TurnRule
+pub mod Steps
