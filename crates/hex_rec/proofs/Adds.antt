@@ -12,55 +12,13 @@ use Rattle.span_store.proofs.Pieces.{slice_get-drop}
 use Rattle.span_store.proofs.Settled.{stands, slice_get-take}
 use Rattle.rec_text.specs.Putting.{◌>>=◌, putting, put_unless, put_round}
 use Rattle.rec_text.specs.declared.fault.RecFault.{RecFault}
+use Rattle.rec_text.proofs.Adds.{Adds, From, some_below, putting_adds}
 use Rattle.hex_rec.specs.Reading.{put_line}
 use Rattle.hex_rec.specs.HexText.{address}
 use Rattle.hex_rec.specs.Base.{IsBase}
 use Rattle.hex_rec.specs.declared.base.Base.{Base}
 use Rattle.hex_rec.specs.declared.base.Base.TheVariants.{Linear, Segment}
 use Rattle.hex_rec.proofs.Shapes.{bind_ok}
-
--- the new map has what the old one had, and these bytes
-pub record Adds (m new : ByteMap) (P : ℕ → ℕ → Type 0) : Type 0 where
-  pub splits : (a b : ℕ) → get new a ≡ Some b → (get m a ≡ Some b) ⊎ P a b
-  pub keeps : (a b : ℕ) → get m a ≡ Some b → get new a ≡ Some b
-  pub has : (a b : ℕ) → P a b → get new a ≡ Some b
-
--- bytes from an address on
-abbrev pub From : ℕ → List ℕ → ℕ → ℕ → Type 0
-From at bs a b = (k : ℕ) × (a ≡ at + k) × (slice_get bs k ≡ Some b)
-
-pub some_below : (bs : List ℕ) (k b : ℕ) → slice_get bs k ≡ Some b → k < length bs
-some_below [] k b e = absurd (none-some b e)
-some_below (x ∷ bs) zero b e = omega arith
-some_below (x ∷ bs) (suc k) b e = let l = some_below bs k b e in omega arith
-
-some_is : (o : Option ℕ) (b : ℕ) → o ≡ Some b → IsSome o
-some_is o b e = rw e refl
-
-over_adds : (m : ByteMap) (at : ℕ) (bs : List ℕ) → clash m at bs ≡ None → Adds m (over m at bs) (From at bs)
-over_adds m at bs free = record {
-  splits = λ a b e.
-      let read : reads at bs a (get m a) ≡ Some b = sym (get-over m at bs a) ∙ e in
-      elim (cases_in at (length bs) a) [
-        | inl hit ↦ inr (hit.0, hit.1, sym (reads_hit at bs a hit.0 (get m a) hit.1 hit.2) ∙ read)
-        | inr out ↦ inl (sym (reads_other at bs a (get m a) out) ∙ read)
-      ];
-  keeps = λ a b e.
-      get-over m at bs a ∙ elim (cases_in at (length bs) a) [
-        | inl hit ↦ reads_hit at bs a hit.0 (get m a) hit.1 hit.2 ∙ sym (stands m at a bs free hit.0 hit.1 hit.2 (some_is (get m a) b e)) ∙ e
-        | inr out ↦ reads_other at bs a (get m a) out ∙ e
-      ];
-  has = λ a b p. get-over m at bs a ∙ reads_hit at bs a p.0 (get m a) p.1 (some_below bs p.0 b p.2) ∙ p.2;
-}
-
-put_free : (c : Option Clash) (m new : ByteMap) → put_unless c m ≡ Ok new → (c ≡ None) × (m ≡ new)
-put_free None m new e = (refl, (let is : m ≡ new = cc in is))
-put_free (Some c) m new e = cc
-
-pub putting_adds : (m new : ByteMap) (at : ℕ) (bs : List ℕ) → putting m at bs ≡ Ok new → Adds m new (From at bs)
-putting_adds m new at bs e =
-    let f = put_free (clash m at bs) (over m at bs) new e in
-    subst (λ t. Adds m t (From at bs)) f.1 (over_adds m at bs f.0)
 
 -- bytes at the addresses of a line
 abbrev pub At : (ℕ → ℕ) → List ℕ → ℕ → ℕ → Type 0

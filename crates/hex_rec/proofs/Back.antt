@@ -22,25 +22,9 @@ use Rattle.hex_rec.specs.declared.base.Base.{Base}
 use Rattle.hex_rec.specs.declared.base.Base.TheVariants.{Linear, Segment}
 use Rattle.hex_rec.specs.declared.reading.State.{State}
 use Rattle.hex_rec.proofs.Bases.{record_is}
-use Rattle.hex_rec.proofs.Adds.{Adds, At, From, putting_adds, some_below}
+use Rattle.rec_text.proofs.Adds.{Adds, From, putting_adds, some_below, put_ok, same_options}
+use Rattle.hex_rec.proofs.Adds.{At}
 use Rattle.hex_rec.proofs.Whole.{Holding, small, data_size, data_at, hold_empty, hold_record, gives_last, offset_of, data_of, nothing_given}
-
--- ------ no clash
-same_here : (at b : ℕ) (rest : Option Clash) (o : Option ℕ) → ((x : ℕ) → o ≡ Some x → x ≡ b) → clash_at o at b rest ≡ rest
-same_here at b rest None h = refl
-same_here at b rest (Some x) h = rw (eq-eqb x b (h x refl)) refl
-
-free : (m : ByteMap) (at : ℕ) (bs : List ℕ) → ((a old b : ℕ) → get m a ≡ Some old → From at bs a b → old ≡ b) → clash m at bs ≡ None
-free m at [] h = refl
-free m at (b ∷ bs) h =
-    let z : at ≡ at + 0 = omega arith in
-    same_here at b (clash m (at + 1) bs) (get m at) (λ x e. h at x b e (0, z, refl))
-    ∙ free m (at + 1) bs (λ a old c e f. let s : at + 1 + f.0 ≡ at + suc f.0 = omega arith in h a old c e (suc f.0, f.1 ∙ s, f.2))
-
--- every byte of the map, and every one that is to come, is the whole map's
-put_ok : (whole m : ByteMap) (at : ℕ) (bs : List ℕ) → ((a b : ℕ) → get m a ≡ Some b → get whole a ≡ Some b) → ((a b : ℕ) → From at bs a b → get whole a ≡ Some b) → putting m at bs ≡ Ok (over m at bs)
-put_ok whole m at bs old new =
-    ap (λ c. put_unless c (over m at bs)) (free m at bs (λ a x b e f. same_Some x b (sym (old a x e) ∙ new a b f)))
 
 module _ (whole m : ByteMap) (start first room : ℕ) (bs : List ℕ) (place : ℕ → ℕ)
     (near : (k : ℕ) → k < room → k < length bs → place k ≡ first + k) (far : (k : ℕ) → room ≤ k → k < length bs → place k ≡ start + (k - room))
@@ -164,11 +148,6 @@ ended s n line bytes back f r k none =
     let t : State = record s { ended = true } in
     let done : applied s bytes ≡ Ok t = rw (ne_eqb (kind_of bytes) 0 (λ e. omega arith), eq-eqb (kind_of bytes) 1 k) refl in
     ap (λ q. q >>= λ u. read_from u (n + 1) back) (stepped s t (n + 1) line bytes f r done) ∙ empties t (n + 1) back refl none
-
-same_options : (o p : Option ℕ) → ((b : ℕ) → o ≡ Some b → p ≡ Some b) → ((b : ℕ) → p ≡ Some b → o ≡ Some b) → o ≡ p
-same_options None None f g = refl
-same_options None (Some b) f g = g b refl
-same_options (Some b) p f g = sym (f b refl)
 
 pub read_whole : (text : List ℕ) (m : ByteMap) → IsHexText text m → reading_of text ≡ Ok m
 read_whole text m is =

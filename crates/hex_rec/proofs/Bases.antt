@@ -1,6 +1,5 @@
 -- The base behind some lines is one.
-use Rattle.std.proofs.Common.{zero, suc, false, ◌≡◌, ℕ, ◌+◌, ◌*◌, ◌%◌, ◌<◌, ◌⊎◌, List, [], ◌∷◌, ◌++◌, length, sum, cond, eqb, Some, Result, Ok, Err, refl, sym, ap, ◌∙◌, subst, inl, inr, arith, append_assoc}
-use Rattle.std.specs.Prelude.{◌≢◌}
+use Rattle.std.proofs.Common.{suc, false, ◌≡◌, ℕ, ◌*◌, ◌%◌, ◌⊎◌, List, [], ◌∷◌, ◌++◌, length, sum, cond, eqb, Result, Ok, Err, refl, sym, ap, ◌∙◌, subst, inl, inr, arith, append_assoc}
 use Rattle.std.proofs.lemmas.Bool.{cases_Bool, eqb-true, eq-eqb, ne_eqb, false≢true}
 use Rattle.std.proofs.lemmas.Option.{same_Some}
 use Rattle.rec_text.specs.Digits.{bytes_of}

@@ -24,7 +24,7 @@ use Rattle.hex_rec.specs.declared.base.Base.TheVariants.{Linear, Segment}
 use Rattle.hex_rec.specs.declared.reading.State.{State}
 use Rattle.hex_rec.proofs.Shapes.{chosen, bind_ok, record_ok, nothing_after, applied_ended}
 use Rattle.hex_rec.proofs.Bases.{same_record, no_record, set_of, sets_or, base_keep, base_next, one_base}
-use Rattle.hex_rec.proofs.Adds.{Adds, At, line_adds}
+use Rattle.hex_rec.proofs.Adds.{At, line_adds}
 
 -- ------ the bytes of a line are bytes
 with_byte_some : (o : Option ℕ) (r : Option (List ℕ)) (bs : List ℕ) → with_byte o r ≡ Some bs → (b : ℕ) × (t : List ℕ) × (r ≡ Some t) × (b ∷ t ≡ bs)

@@ -1,3 +1,4 @@
+pub mod Adds
 pub mod Ends
 pub mod Spelled
 pub mod Cuts

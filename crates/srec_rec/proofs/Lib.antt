@@ -1,2 +1,4 @@
 pub mod Records
 pub mod Lines
+pub mod Whole
+pub mod Text

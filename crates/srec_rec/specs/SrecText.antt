@@ -23,10 +23,13 @@ abbrev pub Counts : List (List ℕ) → ℕ → Type 0
 Counts [] n = n ≡ 0
 Counts (line ∷ more) n = (IsData line × (0 < n) × Counts more (n - 1)) ⊎ ((IsData line → ⊥) × Counts more n)
 
--- Every line is empty or a record that is no end, and a count record says the number of the data records before it.
-pub record AreRecords (ls : List (List ℕ)) : Type 0 where
-  pub each : (front : List (List ℕ)) (line : List ℕ) (back : List (List ℕ)) → ls ≡ front ++ line ∷ back → (line ≡ []) ⊎ ((kind : ℕ) × (bytes : List ℕ) × IsRecord line kind bytes × (kind ≤ 6))
-  pub counts : (front : List (List ℕ)) (line : List ℕ) (back : List (List ℕ)) (kind : ℕ) (bytes : List ℕ) → ls ≡ front ++ line ∷ back → IsRecord line kind bytes → 3 < kind → Counts front (number_at (width kind) bytes)
+-- The line is empty, or a record that is no end; a count record says the number of the data records before it.
+abbrev pub IsGood : List (List ℕ) → List ℕ → Type 0
+IsGood before line =
+    (line ≡ []) ⊎ ((kind : ℕ) × (bytes : List ℕ) × IsRecord line kind bytes × (kind ≤ 6) × (3 < kind → Counts before (number_at (width kind) bytes)))
+
+abbrev pub AreRecords : List (List ℕ) → Type 0
+AreRecords ls = (front : List (List ℕ)) (line : List ℕ) (back : List (List ℕ)) → ls ≡ front ++ line ∷ back → IsGood front line
 
 abbrev pub AreEmpty : List (List ℕ) → Type 0
 AreEmpty [] = Unit {0}

@@ -5,7 +5,7 @@ mod line;
 mod reading;
 mod writing;
 
-pub use reading::read;
+pub use reading::{read, text_law};
 pub use rec_text::RecFault;
 pub use writing::write;
 

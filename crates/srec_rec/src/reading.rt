@@ -1,6 +1,8 @@
-ghost use Rattle.std.specs.Prelude.{◌≡◌, ℕ, ◌+◌, ◌^◌, ◌≤◌, ◌<◌, length, ◌⊎◌, Err, IfOk, true};
+ghost use Rattle.std.specs.Prelude.{◌≡◌, ℕ, List, Ok, ◌+◌, ◌^◌, ◌≤◌, ◌<◌, length, ◌⊎◌, Err, IfOk, true};
 ghost use Rattle.srec_rec.specs.Record.{is_record};
 ghost use Rattle.srec_rec.specs.Reading.{with_map, applied, step, reading_of};
+ghost use Rattle.span_store.specs.ByteMap.{ByteMap};
+ghost use Rattle.srec_rec.specs.SrecText.{IsSrecText};
 ghost use Rattle.rec_text.specs.Putting.{putting};
 ghost use Rattle.rec_text.specs.declared.fault.RecFault.{RecFault};
 
@@ -113,3 +115,10 @@ pub fn read(alloc: Global, text: &[u8]) -> Result<Spans, RecFault>
         Err(RecFault::NoEnd)
     }
 }
+
+/// A text is read exactly where it is records, one end, and nothing behind it, its count records say
+/// the number of data records before them, and its map is the union of what its data records give.
+pub fn text_law()
+    ensures read { (text : List ℕ) (m : ByteMap) → reading_of text ≡ Ok m → IsSrecText text m }
+    ensures is { (text : List ℕ) (m : ByteMap) → IsSrecText text m → reading_of text ≡ Ok m }
+{}
