@@ -1,0 +1,50 @@
+//! The program: it programs the control unit that an order names, over a shop in memory.
+#![tactic(auto)]
+
+mod building;
+mod flashing;
+mod order;
+mod printing;
+mod status;
+#[cfg(test)]
+mod tests;
+mod words;
+
+pub use building::{BuildFault, Built, build};
+use flash_shelf::{FolderShelf, StreamSink};
+pub use flashing::flash;
+pub use status::Status;
+use std::env;
+use std::env::Env;
+use std::process::ExitCode;
+use thin_shop::ThinShop;
+
+/// The words after the program's name; None where there is no memory for them or one is no text.
+fn words_of<R: Env + AllocGlobal>(rt: &R) -> Option<Vec<String>> {
+    let mut words = Vec::new(rt.alloc());
+    for word in env::args(rt).ok()?.skip(1) {
+        words.push(word).ok()?;
+    }
+    Some(words)
+}
+
+fn ended(status: Status) -> ExitCode {
+    ExitCode::from(status as u8)
+}
+
+/// Runs the words over the files of the present folder and a shop in memory, and ends with the number of the status.
+fn main(rt: HostRuntime) -> ExitCode {
+    let alloc = rt.alloc();
+    let Some(words) = words_of(&rt) else {
+        return ended(Status::NoMemory);
+    };
+    let Ok(mut shelf) = FolderShelf::new(rt, alloc, ".") else {
+        return ended(Status::NoMemory);
+    };
+    let Ok(shop) = ThinShop::new(alloc) else {
+        return ended(Status::NoMemory);
+    };
+    let mut out = StreamSink::new(rt.stdout());
+    let (_shop, status) = flash(&rt, alloc, words.as_slice(), &mut shelf, shop, &mut out);
+    ended(status)
+}

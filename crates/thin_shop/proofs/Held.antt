@@ -1,0 +1,18 @@
+-- What a deframer holds behind a piece is the beginning of a frame.
+use Rattle.std.proofs.Common.{◌≡◌, ◌∙◌, ℕ, true, List, ◌++◌, None, Some, Option, refl, ap}
+use Rattle.doip_frame.specs.declared.frame.Bad.{Bad}
+use Rattle.doip_frame.specs.Frame.{cut_frame, Partial, Cut, stream_of}
+use Rattle.doip_frame.specs.Deframe.{is_partial, held_after, kept, left}
+use Rattle.doip_frame.proofs.Feeds.{left_part}
+use Rattle.thin_shop.specs.Holding.{unfinished_of}
+
+kept_part : (bad : Option Bad) (rest : List ℕ) → cut_frame (left bad rest) ≡ Partial → is_partial (cut_frame (unfinished_of (kept bad rest))) ≡ true
+kept_part None rest part = ap is_partial part
+kept_part (Some bad) rest part = refl
+
+pub held_part : (held : Option (List ℕ)) (piece : List ℕ) → is_partial (cut_frame (unfinished_of (held_after held piece))) ≡ true
+held_part None piece = refl
+held_part (Some h) piece = kept_part (stream_of (h ++ piece)).bad (stream_of (h ++ piece)).rest (left_part (h ++ piece))
+
+pub held_now : (now held : Option (List ℕ)) (piece : List ℕ) → now ≡ held_after held piece → is_partial (cut_frame (unfinished_of now)) ≡ true
+held_now now held piece is = ap (λ (o : Option (List ℕ)). is_partial (cut_frame (unfinished_of o))) is ∙ held_part held piece

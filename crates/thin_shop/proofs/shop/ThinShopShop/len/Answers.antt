@@ -1,0 +1,22 @@
+use Rattle.std.proofs.Common.{◌≡◌, ◌∙◌, ◌+◌, ◌≤◌, ap, sym, subst, refl, arith, length, inl, inr, Ok, Err, List, ℕ}
+use Rattle.std.specs.Prelude.{slice_range, ⊤}
+use Rattle.disk_model.specs.Disk.{DiskState}
+use Rattle.unit_model.specs.Vehicle.{Vehicle}
+use Rattle.unit_model.specs.Poll.{Misses}
+use Rattle.shop_model.specs.History.{DiskCall, LinkCall, WroteOrMissed, SyncedOrNot, Sent, Received, Redialed}
+use Rattle.thin_shop.specs.Disks.{disk_of}
+use Rattle.thin_shop.specs.Cars.{vehicle_of}
+use Rattle.thin_shop.proofs.Calls.{disk_is, vehicle_is, disk_did, disk_last, link_did, link_last, at_disks, at_vehicles, same_disks, same_vehicles, received}
+use Rattle.thin_shop.proofs.shop.ThinShopShop.len.Goals as goal
+
+pub returns-then-not-note-clause-call : goal.returns-then-not-note-clause-call
+returns-then-not-note-clause-call c = disk_last _ c.args.self.now c.note.new.self c.miss_disk.new.self _ c.if-not-note.ensures.no.0 c.if-not-note.ensures.no.1 c.miss_disk.ensures
+
+pub returns-clause-call : goal.returns-clause-call
+returns-clause-call c = disk_did _ c.args.self.now c.note.new.self c.note.new.self (Ok (length c.bytes.result.now)) c.if-not-note.ensures.yes (record { car = refl; past = refl; moment = refl; link_faults = refl; link_calls = refl; linked = refl; starves = refl; disk_faults = refl })
+
+pub returns-clause-disk : goal.returns-clause-disk
+returns-clause-disk c = same_disks c.args.self.now c.note.new.self c.if-not-note.ensures.yes.rest.disk
+
+pub returns-clause-len : goal.returns-clause-len
+returns-clause-len c = λ told. ap length (c.bytes.ensures ∙ ap (λ (d : DiskState). d.bytes) (ap disk_of c.if-not-note.ensures.yes.rest.disk ∙ sym (disk_is c.args.self.now)))

@@ -1,0 +1,19 @@
+use Rattle.std.proofs.Common.{◌≡◌, ◌∙◌, ◌+◌, ◌≤◌, ap, sym, subst, refl, arith, length, inl, inr, Ok, Err, List, ℕ}
+use Rattle.std.specs.Prelude.{slice_range, ⊤}
+use Rattle.disk_model.specs.Disk.{DiskState}
+use Rattle.unit_model.specs.Vehicle.{Vehicle}
+use Rattle.unit_model.specs.Poll.{Misses}
+use Rattle.shop_model.specs.History.{DiskCall, LinkCall, WroteOrMissed, SyncedOrNot, Sent, Received, Redialed}
+use Rattle.thin_shop.specs.Disks.{disk_of}
+use Rattle.thin_shop.specs.Cars.{vehicle_of}
+use Rattle.thin_shop.proofs.Calls.{disk_is, vehicle_is, disk_did, disk_last, link_did, link_last, at_disks, at_vehicles, same_disks, same_vehicles, received}
+use Rattle.thin_shop.proofs.shop.ThinShopShop.redial.Goals as goal
+
+pub returns-then-not-note-clause-call : goal.returns-then-not-note-clause-call
+returns-then-not-note-clause-call c = link_last _ c.args.self.now c.note.new.self c.miss_link.new.self _ c.if-not-note.ensures.no.0 c.if-not-note.ensures.no.1 c.miss_link.ensures
+
+pub returns-clause-call : goal.returns-clause-call
+returns-clause-call c = link_did _ c.args.self.now c.note.new.self c.redial_now.new.self c.redial_now.result c.if-not-note.ensures.yes c.redial_now.ensures.done
+
+pub returns-clause-vehicle : goal.returns-clause-vehicle
+returns-clause-vehicle c = λ told. at_vehicles (λ (a b : Vehicle). Redialed a b c.redial_now.result) c.args.self.now c.redial_now.new.self (vehicle_of c.note.new.self.car) (ap vehicle_of c.if-not-note.ensures.yes.rest.car) c.redial_now.ensures.vehicle

@@ -1,0 +1,10 @@
+-- What a gateway holds of a frame: None where it looks at nothing more.
+use Rattle.std.specs.Prelude.{ℕ, Bool, true, false, List, [], Option, None, Some}
+
+abbrev pub is_deaf : Option (List ℕ) → Bool
+is_deaf None = true
+is_deaf (Some held) = false
+
+abbrev pub unfinished_of : Option (List ℕ) → List ℕ
+unfinished_of None = []
+unfinished_of (Some held) = held

@@ -1,0 +1,11 @@
+pub mod BuiltIn
+pub mod Cars
+pub mod Disks
+pub mod Downloads
+pub mod Holding
+pub mod Moments
+pub mod New
+pub mod Overwriting
+pub mod Places
+pub mod Saying
+pub mod Shops
