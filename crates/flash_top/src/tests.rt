@@ -2,7 +2,7 @@ use crate::building::{BuildFault, Built, build};
 use crate::flashing::flash;
 use crate::status::Status;
 use crate::words::order_in;
-use flash_base::{Bytes, Files, Text};
+use flash_base::{Bytes, Files, NoMemory, Text};
 use flash_shelf::{MemoryShelf, MemorySink};
 use std::alloc::Global;
 use std::test::Fail;
@@ -20,23 +20,22 @@ fn word(answer: &Result<Built, BuildFault>) -> &'static str {
     }
 }
 
+fn put(alloc: Global, files: &mut Files, name: &str, body: &[u8]) -> Result<(), NoMemory> {
+    let name = Text::from_str(alloc, name)?;
+    let body = Bytes::from_slice(alloc, body)?;
+    files.push((name, body))
+}
+
 /// An order file, and raw files of 3, 0, 256 and 257 bytes.
-fn shelf_of(alloc: Global, order: &str) -> Result<MemoryShelf, Fail> {
+fn shelf_of(alloc: Global, order: &str) -> Result<MemoryShelf, NoMemory> {
     let bytes = [0xA5u8; 257];
     let mut files = Files::new(alloc);
-    for (name, body) in [
-        ("one.json", order.as_bytes()),
-        ("a.bin", b"abc".as_slice()),
-        ("empty", b"".as_slice()),
-        ("long", &bytes[..256]),
-        ("longer", &bytes[..]),
-    ] {
-        files.push((
-            Text::from_str(alloc, name)?,
-            Bytes::from_slice(alloc, body)?,
-        ))?;
-    }
-    Ok(MemoryShelf::new(alloc, &files, &[])?)
+    put(alloc, &mut files, "one.json", order.as_bytes())?;
+    put(alloc, &mut files, "a.bin", b"abc")?;
+    put(alloc, &mut files, "empty", b"")?;
+    put(alloc, &mut files, "long", &bytes[..256])?;
+    put(alloc, &mut files, "longer", &bytes)?;
+    MemoryShelf::new(alloc, &files, &[])
 }
 
 #[test]
