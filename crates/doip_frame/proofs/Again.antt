@@ -1,12 +1,12 @@
 -- What is written is read again.
-use Rattle.std.proofs.Common.{◌≡◌, ℕ, suc, ◌+◌, ◌*◌, ◌/◌, ◌%◌, ◌<◌, ◌≤◌, true, false, List, [], ◌∷◌, ◌++◌, length, Some, None, refl, sym, ap, ◌∙◌, subst, arith, length-append}
-use Rattle.std.specs.Prelude.{Bool, Option, nat_le, ◌==◌, ◌||◌}
+use Rattle.std.proofs.Common.{◌≡◌, ℕ, suc, ◌/◌, ◌%◌, ◌<◌, true, false, List, ◌++◌, length, Some, None, refl, sym, ap, ◌∙◌, subst, arith, length-append}
+use Rattle.std.specs.Prelude.{Bool, Option, ◌==◌, ◌||◌}
 use Rattle.std.proofs.lemmas.Bool.{le-leb}
-use Rattle.flash_base.specs.Numbers.{number2, number4}
+use Rattle.flash_base.specs.Numbers.{number2}
 use Rattle.doip_frame.specs.declared.frame.Frame.{Frame}
 use Rattle.doip_frame.specs.declared.frame.Frame.TheVariants.{HeaderNack, Activate, Activated, AliveAsk, AliveSay, Message, Ack, Nack, Other}
 use Rattle.doip_frame.specs.Form.{is_known, HasForm, IsFrame}
-use Rattle.doip_frame.specs.Frame.{Cut, Whole, cut_frame, frame_of, frame_bytes, kind_of, payload_of, written, oem_of, oem_bytes, is_length, Stream, stream_of, with_frame}
+use Rattle.doip_frame.specs.Frame.{Cut, Whole, cut_frame, frame_of, kind_of, payload_of, written, oem_of, oem_bytes, is_length, stream_of, with_frame}
 use Rattle.doip_frame.specs.Laws.{Fits, FitsOem}
 use Rattle.doip_frame.proofs.Cuts.{whole, number2_of, number4_of}
 use Rattle.doip_frame.proofs.Feeds.{of_whole}

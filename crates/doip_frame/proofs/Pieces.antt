@@ -1,14 +1,13 @@
 -- Any pieces give what all their bytes give.
-use Rattle.std.proofs.Common.{◌≡◌, ℕ, zero, suc, ◌+◌, ◌<◌, ◌≤◌, List, [], ◌∷◌, ◌++◌, length, Some, None, refl, sym, ap, ◌∙◌, subst, arith, append_assoc, length-append}
+use Rattle.std.proofs.Common.{◌≡◌, ℕ, zero, suc, ◌<◌, List, [], ◌∷◌, ◌++◌, length, Some, None, refl, sym, ap, ◌∙◌, arith, append_assoc, length-append}
 use Rattle.std.specs.Prelude.{Option}
 use Rattle.std.proofs.lemmas.List.{append-nil}
 use Rattle.doip_frame.specs.declared.frame.Bad.{Bad}
-use Rattle.doip_frame.specs.declared.frame.Bad.TheVariants.{Failed}
 use Rattle.doip_frame.specs.declared.frame.Frame.{Frame}
-use Rattle.doip_frame.specs.Deframe.{frames_in, bad_in, held_after, kept, left}
-use Rattle.doip_frame.specs.Frame.{Cut, Partial, Wrong, Whole, cut_frame, frame_of, Stream, stream_of, stream_in, stream_after, with_frame}
+use Rattle.doip_frame.specs.Deframe.{frames_in, bad_in, held_after, kept}
+use Rattle.doip_frame.specs.Frame.{Cut, Partial, Wrong, Whole, cut_frame, frame_of, Stream, stream_of, with_frame}
 use Rattle.doip_frame.specs.Laws.{joined, held_behind, frames_behind, next_bad}
-use Rattle.doip_frame.proofs.Feeds.{of_part, of_wrong, of_whole, left_part}
+use Rattle.doip_frame.proofs.Feeds.{of_part, of_wrong, of_whole}
 use Rattle.doip_frame.proofs.Streams as streams
 
 -- ------ bytes behind a refusal change nothing before it

@@ -1,13 +1,12 @@
 -- Laws of frames on a stream.
-use Rattle.std.specs.Prelude.{◌≡◌, ◌≢◌, ◌⊎◌, ℕ, ◌+◌, ◌<◌, ◌≤◌, true, false, List, [], ◌∷◌, ◌++◌, length, Option, Some, None}
-use Rattle.flash_base.specs.Numbers.{big_endian, number2, number4}
+use Rattle.std.specs.Prelude.{◌≡◌, ℕ, ◌<◌, List, [], ◌∷◌, ◌++◌, Option, Some, None}
 use Rattle.doip_frame.specs.declared.frame.Bad.{Bad}
-use Rattle.doip_frame.specs.declared.frame.Bad.TheVariants.{Pattern, Length, TooLarge, Failed}
+use Rattle.doip_frame.specs.declared.frame.Bad.TheVariants.{Failed}
 use Rattle.doip_frame.specs.declared.frame.Frame.{Frame}
 use Rattle.doip_frame.specs.declared.frame.Frame.TheVariants.{HeaderNack, Activate, Activated, AliveAsk, AliveSay, Message, Ack, Nack, Other}
 use Rattle.doip_frame.specs.Deframe.{frames_in, bad_in, held_after, kept}
-use Rattle.doip_frame.specs.Form.{is_known, HasForm, IsFrame}
-use Rattle.doip_frame.specs.Frame.{frame_of, kind_of, written, oem_bytes, is_length, Stream, stream_of}
+use Rattle.doip_frame.specs.Form.{IsFrame}
+use Rattle.doip_frame.specs.Frame.{frame_of, written, stream_of}
 
 -- ------ pieces
 -- the bytes of pieces, one after another

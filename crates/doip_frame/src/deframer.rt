@@ -103,7 +103,9 @@ fn fill(held: &mut Vec<u8>, piece: &[u8]) -> Result<usize, NoMemory>
 {
     let mut used = 0;
     while used < piece.len() && is_part(held) {
-        let n = missing(held).min(piece.len() - used);
+        let lacks = missing(held);
+        held.reserve_exact(lacks)?;
+        let n = lacks.min(piece.len() - used);
         held.extend_from_slice(&piece[used..used + n])?;
         used += n;
     }

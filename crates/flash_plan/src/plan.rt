@@ -1,7 +1,7 @@
 ghost use Rattle.std.specs.Prelude.{◌≡◌, ◌⊎◌, ◌<◌, Ok, Err, IfOk, length, map};
 ghost use Rattle.flash_plan.specs.Canonical.{canonical, plan_digest};
 ghost use Rattle.flash_plan.specs.Drafts.{IsFirstForm, numbered};
-ghost use Rattle.flash_plan.specs.Plan.{plan_of, count_of};
+ghost use Rattle.flash_plan.specs.Plan.{plan_of, count_of, IsAccepted};
 
 use crate::fault::PlanFault;
 use crate::unit::{Draft, UnitPlan};
@@ -71,7 +71,8 @@ impl Plan {
 /// So it refuses only for want of memory.
 pub fn accept(alloc: Global, drafts: Items<Draft>) -> Result<Plan, PlanFault>
     requires { IsFirstForm drafts }
-    ensures { (result ≡ Err PlanFault.NoMemory) ⊎ (result ≡ Ok (map numbered drafts)) }
+    ensures made { (result ≡ Err PlanFault.NoMemory) ⊎ (result ≡ Ok (map numbered drafts)) }
+    ensures accepted { IfOk result (λ units. IsAccepted units) }
 {
     let units = units_of(alloc, drafts)?;
     let digest = digest_of(alloc, &units)?;

@@ -1,13 +1,10 @@
 -- What a read of a file and a write of text may answer.
 use Rattle.std.specs.Prelude.{◌≡◌, ◌<◌, ◌≤◌, ◌+◌, ◌-◌, ◌^◌, ℕ, min, Bool, List, ◌++◌, length, take, Some, None, Result, Ok, Err, IsTrue, MatchBool, MatchOption}
+use Rattle.flash_base.specs.Counts.{Rises}
 use Rattle.flash_base.specs.Files.{first_of}
 use Rattle.flash_shelf.specs.declared.shelf.ShelfFault.{ShelfFault}
 use Rattle.flash_shelf.specs.declared.shelf.ShelfFault.TheVariants.{Missing, TooLarge, Failed, NoMemory}
 use Rattle.flash_shelf.specs.declared.sink.SinkFault.{SinkFault}
-
--- a count rose: it is greater than before, or stands at its last value
-abbrev pub Rises : ℕ → ℕ → Type 0
-Rises old new = min (old + 1) (2 ^ 64 - 1) ≤ new
 
 -- the most bytes of one file
 abbrev pub limit : ℕ

@@ -3,7 +3,7 @@ use Rattle.std.proofs.Common.{◌≡◌, ◌⊎◌, inl, inr, ℕ, Bool, IsTrue,
 use Rattle.disk_model.specs.Disk.{DiskState}
 use Rattle.flash_plan.specs.declared.outcome.Outcome.TheVariants as outcome
 use Rattle.flash_plan.specs.declared.unit.UnitPlan.{UnitPlan}
-use Rattle.flash_shelf.specs.Outside.{Rises}
+use Rattle.flash_base.specs.Counts.{Rises}
 use Rattle.journal_model.specs.Records.{label_of}
 use Rattle.run_report.specs.Report.{report_text}
 use Rattle.thin_engine.specs.declared.driving.Ended.{Ended}

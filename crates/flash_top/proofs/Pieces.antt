@@ -1,7 +1,8 @@
 -- A line that is written in pieces.
 use Rattle.std.proofs.Common.{◌≡◌, inl, inr, ℕ, suc, ◌+◌, ◌≤◌, Bool, IsTrue, List, [], ◌∷◌, ◌++◌, length, take, refl, sym, ◌∙◌, ap, append_assoc, length-append, arith}
 use Rattle.std.proofs.lemmas.List.{take-append-le}
-use Rattle.flash_shelf.specs.Outside.{Rises, AddsPart}
+use Rattle.flash_base.specs.Counts.{Rises}
+use Rattle.flash_shelf.specs.Outside.{AddsPart}
 use Rattle.flash_top.specs.Printing.{Says}
 
 take-all_and : (xs ys : List ℕ) (k : ℕ) → take (length xs + k) (xs ++ ys) ≡ xs ++ take k ys

@@ -1,7 +1,8 @@
 -- What is printed, and the status that goes with it.
 use Rattle.std.specs.Prelude.{◌≡◌, ◌⊎◌, ℕ, Bool, IsTrue, List, [], ◌∷◌, ◌++◌, codes}
 use Rattle.flash_plan.specs.declared.unit.UnitPlan.{UnitPlan}
-use Rattle.flash_shelf.specs.Outside.{Rises, AddsPart}
+use Rattle.flash_base.specs.Counts.{Rises}
+use Rattle.flash_shelf.specs.Outside.{AddsPart}
 use Rattle.run_report.specs.Report.{report_text}
 use Rattle.thin_engine.specs.declared.driving.Ended.{Ended}
 use Rattle.thin_engine.specs.declared.driving.Ended.TheVariants as ended

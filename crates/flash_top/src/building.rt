@@ -1,6 +1,7 @@
 ghost use Rattle.std.specs.Prelude.{◌≡◌, ◌⊎◌, ◌≤◌, ◌∷◌, [], IsTrue, IfOk, Ok, Err};
 ghost use Rattle.flash_plan.specs.Drafts.{numbered, IsPlain};
-ghost use Rattle.flash_shelf.specs.Outside.{Rises};
+ghost use Rattle.flash_plan.specs.Plan.{IsAccepted};
+ghost use Rattle.flash_base.specs.Counts.{Rises};
 ghost use Rattle.flash_top.specs.Building.{built, drafted, fetched, planned, IsOutside};
 ghost use Rattle.flash_top.specs.Orders.{IsOrder};
 ghost use Rattle.thin_engine.specs.Stages.{IsFirstPlan};
@@ -93,6 +94,7 @@ fn plan_of(alloc: Global, draft: Draft) -> Result<Plan, BuildFault>
     requires { IsPlain draft }
     ensures is { (result ≡ Err BuildFault.NoMemory) ⊎ (result ≡ Ok (numbered draft ∷ [])) }
     ensures gives { IfOk result (λ plan. plan ≡ numbered draft ∷ []) }
+    ensures accepted { IfOk result (λ plan. IsAccepted plan) }
 {
     let mut drafts = Items::new(alloc);
     drafts.push(draft)?;

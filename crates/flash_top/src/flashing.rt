@@ -1,6 +1,6 @@
 ghost use Rattle.std.specs.Prelude.{◌≡◌, ◌≢◌, ◌⊎◌, ◌≤◌, ◌++◌, ◌∷◌, ℕ, List, [], IsTrue, Some, None, Ok, Err, map, string_bytes};
 ghost use Rattle.flash_plan.specs.declared.outcome.Outcome.TheVariants as outcome;
-ghost use Rattle.flash_shelf.specs.Outside.{Rises};
+ghost use Rattle.flash_base.specs.Counts.{Rises};
 ghost use Rattle.journal_model.specs.Records.{label_of};
 ghost use Rattle.run_report.specs.Report.{report_text};
 ghost use Rattle.shop_model.specs.History.{disk_now};

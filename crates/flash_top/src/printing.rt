@@ -1,5 +1,5 @@
 ghost use Rattle.std.specs.Prelude.{◌≡◌, ◌≢◌, ◌⊎◌, ◌≤◌, ◌++◌, ◌∷◌, [], IsTrue, IfOk, codes};
-ghost use Rattle.flash_shelf.specs.Outside.{Rises};
+ghost use Rattle.flash_base.specs.Counts.{Rises};
 ghost use Rattle.flash_plan.specs.Plan.{count_of};
 ghost use Rattle.run_report.specs.Report.{report_text};
 ghost use Rattle.flash_top.specs.Printing.{line_of, status_of, IsBefore, IsFinished, Prints, Says};

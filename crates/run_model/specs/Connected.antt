@@ -1,5 +1,5 @@
 -- Link and gateway speak of the same connection.
-use Rattle.std.specs.Prelude.{◌≡◌, ℕ, Bool, false, ◌||◌, ◌==◌, MatchOption, List, [], ◌∷◌, ◌++◌, Some, None, IsTrue}
+use Rattle.std.specs.Prelude.{◌≡◌, ◌⊎◌, ℕ, Bool, true, false, ◌&&◌, ◌||◌, ◌==◌, MatchOption, List, [], ◌∷◌, ◌++◌, Some, None, IsTrue}
 use Rattle.doip_frame.specs.Frame.{stream_of}
 use Rattle.doip_frame.specs.declared.frame.Frame.{Frame}
 use Rattle.doip_frame.specs.declared.frame.Frame.TheVariants.{HeaderNack, Activate, Activated, AliveAsk, AliveSay, Message, Ack, Nack, Other}
@@ -52,3 +52,24 @@ pub record IsConnected (tester : ℕ) (l : Link) (g : Gateway) : Type 0 where
   pub held : Each (λ h. CanSend h.body) g.held
   pub active : MatchOption g.active (Unit {0}) (λ a. a ≡ tester)
   pub phase : IsByPhase tester l.phase l g
+
+-- each message and each refusal to deliver is for the tester
+abbrev pub are_for : ℕ → List Frame → Bool
+are_for tester [] = true
+are_for tester (Message s t body ∷ fs) = t == tester && are_for tester fs
+are_for tester (Nack s t code old ∷ fs) = t == tester && are_for tester fs
+are_for tester (Activated t entity code oem ∷ fs) = are_for tester fs
+are_for tester (HeaderNack code ∷ fs) = are_for tester fs
+are_for tester (Activate source kind oem ∷ fs) = are_for tester fs
+are_for tester (AliveAsk ∷ fs) = are_for tester fs
+are_for tester (AliveSay source ∷ fs) = are_for tester fs
+are_for tester (Ack s t code old ∷ fs) = are_for tester fs
+are_for tester (Other kind payload ∷ fs) = are_for tester fs
+
+-- Where the link is up, the answer that accepts the activation is among the frames carried; each message and refusal to
+-- deliver that was carried or is queued is for the tester; and a held answer will be, since the gateway is activated.
+pub record IsAddressed (tester : ℕ) (l : Link) (g : Gateway) : Type 0 where
+  pub accepted : l.phase ≡ Up → accepts (stream_of l.got).frames ≡ true
+  pub ready : are_for tester (stream_of (l.got ++ g.ready)).frames ≡ true
+  pub later : Each (λ q. are_for tester (stream_of q.1).frames ≡ true) g.later
+  pub held : (g.held ≡ []) ⊎ (g.active ≡ Some tester)

@@ -1,6 +1,7 @@
 pub mod Connected
 pub mod Entries
 pub mod Link
+pub mod Matching
 pub mod Places
 pub mod Script
 pub mod Sound

@@ -1,5 +1,6 @@
 -- What a shop's disk and vehicle were at each moment so far, and what one call adds to it.
 use Rattle.std.specs.Prelude.{◌≡◌, ◌⊎◌, ◌+◌, ◌-◌, ◌≤◌, ◌<◌, ◌^◌, min, Bool, ℕ, List, length, take, Result, Ok, Err, IsErr, OnOk, OnErr}
+use Rattle.flash_base.specs.Counts.{Rises}
 use Rattle.disk_model.specs.Disk.{DiskState, Wrote, MissedWrite, Synced}
 use Rattle.disk_model.specs.declared.device.DeviceFault.{DeviceFault}
 use Rattle.unit_model.specs.declared.reply.Got.{Got}
@@ -38,10 +39,6 @@ vehicle_now h = h.vehicle_at h.moment
 -- at the last moment every call fails
 abbrev pub LAST : ℕ
 LAST = 2 ^ 63
-
--- a count rose: it is greater than before, or stands at its last value
-abbrev pub Rises : ℕ → ℕ → Type 0
-Rises old new = min (old + 1) (2 ^ 64 - 1) ≤ new
 
 -- One moment more, except at the last one. What there was does not change.
 pub record Passes {T : Type 0} (call : Call) (old new : History) (result : Result T DeviceFault) : Type 0 where

@@ -1,6 +1,7 @@
 ghost use Rattle.std.specs.Prelude.{◌≡◌, ◌↔◌, ◌+◌, ◌≤◌, ◌<◌, ◌^◌, Bool, ℕ, length, IsTrue, IsOk, IfOk, OnOk, slice_range};
 ghost use Rattle.disk_model.specs.Disk.{IsCrashImage};
-ghost use Rattle.shop_model.specs.History.{History, LAST, Rises, disk_now, vehicle_now, DiskCall, LinkCall, Len, ReadAt, WriteAt, Sync, Send, Receive, Redial, Sent, Received, Redialed, IsPiece, WroteOrMissed, SyncedOrNot};
+ghost use Rattle.flash_base.specs.Counts.{Rises};
+ghost use Rattle.shop_model.specs.History.{History, LAST, disk_now, vehicle_now, DiskCall, LinkCall, Len, ReadAt, WriteAt, Sync, Send, Receive, Redial, Sent, Received, Redialed, IsPiece, WroteOrMissed, SyncedOrNot};
 
 use disk_model::DeviceFault;
 use unit_model::Got;

@@ -2,7 +2,8 @@
 use Rattle.std.proofs.Common.{◌≡◌, ◌⊎◌, inl, inr, ◌≤◌, ap, subst, arith}
 use Rattle.flash_plan.specs.declared.outcome.Outcome.{Outcome}
 use Rattle.flash_plan.specs.declared.outcome.Outcome.TheVariants.{Complete, IdentMismatch, Refused, BadAnswer, CheckFailed, Undelivered, NoAnswer, PendingLimit, BusyLimit, LinkLost, LinkRefused, Blocked, DiskFault, NoMemory}
-use Rattle.shop_model.specs.History.{History, Rises}
+use Rattle.flash_base.specs.Counts.{Rises}
+use Rattle.shop_model.specs.History.{History}
 use Rattle.thin_engine.specs.Causes.{IsMidway, HasCause}
 use Rattle.thin_engine.specs.declared.driving.Ended.{Ended}
 use Rattle.thin_engine.specs.declared.driving.Ended.TheVariants.{NotEmpty, Disk, NoMemory as none_at_all, Ran}

@@ -1,7 +1,8 @@
 -- What an outcome other than Complete tells of the calls that led to it.
 use Rattle.flash_plan.specs.declared.outcome.Outcome.{Outcome}
 use Rattle.flash_plan.specs.declared.outcome.Outcome.TheVariants.{Complete, IdentMismatch, Refused, BadAnswer, CheckFailed, Undelivered, NoAnswer, PendingLimit, BusyLimit, LinkLost, LinkRefused, Blocked, DiskFault, NoMemory}
-use Rattle.shop_model.specs.History.{History, Rises}
+use Rattle.flash_base.specs.Counts.{Rises}
+use Rattle.shop_model.specs.History.{History}
 
 -- it comes of the link
 abbrev pub IsMidway : Outcome → Type 0

@@ -1,6 +1,7 @@
 ghost use Rattle.std.specs.Prelude.{◌≡◌, ◌⊎◌, ◌<◌, ◌≤◌, [], length, IsTrue, IsErr, OnOk, IfOk, IfErr};
 ghost use Rattle.flash_plan.specs.Plan.{IsAcceptedUnit, plan_of};
-ghost use Rattle.shop_model.specs.History.{disk_now, vehicle_now, Rises};
+ghost use Rattle.flash_base.specs.Counts.{Rises};
+ghost use Rattle.shop_model.specs.History.{disk_now, vehicle_now};
 ghost use Rattle.shop_model.specs.Through.{IsLater};
 ghost use Rattle.thin_engine.specs.Later.{IsTalkLater, IsUnchanged};
 ghost use Rattle.thin_engine.specs.Causes.{IsMidway, HasCause};

@@ -1,6 +1,7 @@
 ghost use Rattle.std.specs.Prelude.{◌≡◌, ◌≤◌, ◌<◌, ◌+◌, ◌*◌, [], length, IsTrue, IsErr, IfOk, OnOk, slice_range};
 ghost use Rattle.disk_model.specs.Disk.{IsSettled};
-ghost use Rattle.shop_model.specs.History.{disk_now, vehicle_now, Rises};
+ghost use Rattle.flash_base.specs.Counts.{Rises};
+ghost use Rattle.shop_model.specs.History.{disk_now, vehicle_now};
 ghost use Rattle.shop_model.specs.Through.{HoldsThrough};
 ghost use Rattle.journal_model.specs.Records.{Label};
 ghost use Rattle.thin_journal.specs.Later.{IsDiskLater, Stays};

@@ -7,7 +7,8 @@ use Rattle.disk_model.specs.declared.device.DeviceFault.{DeviceFault}
 use Rattle.unit_model.specs.declared.reply.Got.{Got}
 use Rattle.unit_model.specs.declared.reply.Got.TheVariants.{Quiet, Bytes}
 use Rattle.unit_model.specs.Vehicle.{Vehicle}
-use Rattle.shop_model.specs.History.{History, Call, LAST, Rises, Received, Passes, DiskCall, LinkCall, disk_now, vehicle_now}
+use Rattle.flash_base.specs.Counts.{Rises}
+use Rattle.shop_model.specs.History.{History, Call, LAST, Received, Passes, DiskCall, LinkCall, disk_now, vehicle_now}
 use Rattle.thin_shop.specs.declared.past.Past.{Past, Start, Then'}
 use Rattle.thin_shop.specs.declared.shop.ThinShop.{ThinShop}
 use Rattle.thin_shop.specs.Disks.{disk_of}

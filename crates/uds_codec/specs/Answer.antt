@@ -1,5 +1,5 @@
 -- What an answer to a request says.
-use Rattle.std.specs.Prelude.{ℕ, ◌+◌, ◌/◌, ◌&&◌, ◌==◌, nat_le, List, [], ◌∷◌, length, take, Option, Some, None, if◌then◌else◌}
+use Rattle.std.specs.Prelude.{ℕ, ◌+◌, ◌/◌, Bool, ◌&&◌, ◌||◌, ◌==◌, nat_le, List, [], ◌∷◌, length, take, Option, Some, None, if◌then◌else◌}
 use Rattle.flash_base.specs.Numbers.{number2, number_of}
 use Rattle.uds_codec.specs.declared.request.Request.{Request}
 use Rattle.uds_codec.specs.declared.request.Request.TheVariants.{Session, Seed, Key, ReadId, Routine, Download, Transfer, Exit, Reset}
@@ -13,6 +13,12 @@ pub data Verdict : Type 0 where
   Good : List ℕ → Verdict
   Bad_status : ℕ → Verdict
   Strange : Verdict
+
+-- the codes of the table: of the service, its place and its range, of access, of a transfer, and of waiting
+abbrev pub is_code : ℕ → Bool
+is_code nrc =
+    nrc == 17 || nrc == 18 || nrc == 19 || nrc == 33 || nrc == 34 || nrc == 36 || nrc == 49 || nrc == 51 || nrc == 53
+    || nrc == 112 || nrc == 113 || nrc == 114 || nrc == 115 || nrc == 120 || nrc == 126 || nrc == 127
 
 abbrev pub negative : ℕ → Verdict
 negative nrc = if nrc == 120 then Later else if nrc == 33 then Again else Refusal nrc

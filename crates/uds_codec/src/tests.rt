@@ -1,7 +1,9 @@
 ghost use Rattle.std.specs.Prelude.{◌≡◌};
 ghost use Rattle.uds_codec.specs.Form.{HasForm};
 
-use crate::{Reply, Request, UdsFault, decode, decode_reply, encode, get_number, put_number};
+use crate::{
+    Reply, Request, UdsFault, decode, decode_reply, encode, get_number, is_listed_code, put_number,
+};
 use flash_base::{Bytes, Width};
 use std::alloc::Global;
 use std::process::Abort;
@@ -268,6 +270,8 @@ fn first_bytes(rt: HostRuntime) {
 #[test]
 fn answers(rt: HostRuntime) -> Result<(), Fail> {
     let alloc = rt.alloc();
+    let listed = (0..=255u8).filter(|nrc| is_listed_code(*nrc)).count();
+    assert_eq!(rt; listed, 16);
     for nrc in 0..256u32 {
         let code = nrc as u8;
         match decode_reply(alloc, &[0x7f, 0x34, code])? {

@@ -31,7 +31,7 @@ pub record Counts : Type 0 where
 
 -- session: 1 default, 2 programming, 3 extended. memory: the regions, with a byte at each address. checked: the ranges
 -- (address, size) that a check routine found equal. passed: the final check found that all is well. heard: how many
--- requests. idents: identifiers with their values. block: the longest whole request 0x36. check: the check routine.
+-- requests. idents: identifiers with their values. block: the longest whole TransferData request. check: the check routine.
 pub record ControlUnit : Type 0 where
   pub address : ℕ
   pub session : ℕ

@@ -29,7 +29,7 @@ pub struct UnitSpec {
     pub idents: Items<(u16, Bytes)>,
     pub key: KeyRule,
     pub seed: Bytes,
-    /// How long a whole request 0x36 may be, which the answer to 0x34 says.
+    /// How long a whole TransferData request may be, which the answer to RequestDownload says.
     pub block: u32,
     /// The routine that compares a digest.
     pub check: u16,

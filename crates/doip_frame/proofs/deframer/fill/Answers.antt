@@ -12,7 +12,7 @@ loop-used-smaller c =
     let seen : c.deref.result.now ≡ h = c.deref.ensures.value in
     let yes : is_partial (cut_frame h) ≡ true = ap (λ (l : List ℕ). is_partial (cut_frame l)) (sym seen) ∙ sym c.is_part.ensures ∙ c.if-is_part.true in
     let some : 1 ≤ missing_of h = missing_some h (partial_from (cut_frame h) yes) in
-    let lacks : c.missing.result ≡ missing_of h = c.missing.ensures ∙ ap missing_of c.deref-in-loop-used.ensures.value in
+    let lacks : c.missing-lacks.result ≡ missing_of h = c.missing-lacks.ensures ∙ ap missing_of c.deref-in-loop-used.ensures.value in
     let n = c.min-n.ensures in
     omega (arith, some, lacks, n, c.loop-used-test.true)
 
@@ -24,13 +24,13 @@ loop-used-preserved c =
     let n : ℕ = c.min-n.result in
     let seen : c.deref.result.now ≡ h = c.deref.ensures.value in
     let yes : is_partial (cut_frame h) ≡ true = ap (λ (l : List ℕ). is_partial (cut_frame l)) (sym seen) ∙ sym c.is_part.ensures ∙ c.if-is_part.true in
-    let lacks : c.missing.result ≡ missing_of h = c.missing.ensures ∙ ap missing_of c.deref-in-loop-used.ensures.value in
+    let lacks : c.missing-lacks.result ≡ missing_of h = c.missing-lacks.ensures ∙ ap missing_of c.deref-in-loop-used.ensures.value in
     let least = c.min-n.ensures in
     let span : u + n - u ≡ n = omega arith in
     let left : length (drop u p) ≡ length p - u = length-drop u p in
     let taken : length (take n (drop u p)) ≡ n = length-take-le n (drop u p) (omega (arith, least, left)) in
     let items : c.extend_from_slice.new.self.items ≡ h ++ take n (drop u p) =
-    c.in_ok-extend_from_slice.ensures.items ∙ ap (λ (j : ℕ). h ++ take j (drop u p)) span in
+    c.in_ok-extend_from_slice.ensures.items ∙ ap (λ (l : List ℕ). l ++ take (u + n - u) (drop u p)) c.reserve_exact.ensures.items ∙ ap (λ (j : ℕ). h ++ take j (drop u p)) span in
     let all : h ++ take n (drop u p) ≡ c.args.held.now.items ++ take (u + n) p =
     ap (λ (l : List ℕ). l ++ take n (drop u p)) c.loop-used.invariant.held
     ∙ append_assoc c.args.held.now.items (take u p) (take n (drop u p))
