@@ -1,19 +1,14 @@
 -- A unit that fits its task, and a vehicle whose units match a plan.
 use Rattle.std.specs.Prelude.{◌≡◌, ¬◌, ℕ, ◌<◌, ◌≤◌, ◌^◌, Bool, false, List, length, MatchOption, IsTrue, Contains}
-use Rattle.flash_base.specs.ByteMaps.{has_each}
 use Rattle.flash_base.specs.Lists.{Each}
 use Rattle.flash_plan.specs.declared.outcome.Entry.{Entry}
 use Rattle.flash_plan.specs.declared.outcome.Entry.TheVariants.{Begun}
-use Rattle.flash_plan.specs.declared.unit.Segment.{Segment}
 use Rattle.flash_plan.specs.declared.unit.UnitPlan.{UnitPlan}
 use Rattle.flash_plan.specs.declared.unit.Wanted.{Wanted}
 use Rattle.flash_plan.specs.Plan.{plan_of, count_of}
+use Rattle.run_model.specs.States.{HasRoom}
 use Rattle.unit_model.specs.Unit.{ControlUnit, ident_of}
 use Rattle.unit_model.specs.Vehicle.{Vehicle, unit_at}
-
--- the regions of the unit have every address of the segment
-abbrev pub HasRoom : ControlUnit → Segment → Type 0
-HasRoom u s = IsTrue (has_each s.at (length s.body) u.memory)
 
 abbrev pub HasIdent : ControlUnit → Wanted → Type 0
 HasIdent u w = MatchOption (ident_of u.idents w.did) ⊥ (λ (value : List ℕ). Unit {0})
@@ -27,7 +22,7 @@ HasValue u w = MatchOption (ident_of u.idents w.did) ⊥ (λ value. Contains w.v
 -- has four bytes here, as the unit's own type.
 pub record IsFitting (plan : UnitPlan) (u : ControlUnit) : Type 0 where
   pub idents : Each (HasIdent u) plan.idents
-  pub segments : Each (HasRoom u) plan.segments
+  pub segments : Each (λ s. HasRoom s u) plan.segments
   pub key : u.key ≡ plan.key
   pub check : u.check ≡ plan.check
   pub block : 3 ≤ u.block
