@@ -1,5 +1,10 @@
+pub mod Events
+pub mod Frames
+pub mod Going
 pub mod Laters
 pub mod Leads
 pub mod Limits
 pub mod Looks
 pub mod Outcomes
+pub mod Polling
+pub mod Starts

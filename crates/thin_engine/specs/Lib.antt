@@ -4,4 +4,7 @@ pub mod Later
 pub mod Leads
 pub mod Look
 pub mod Reading
+pub mod Shown
 pub mod Stages
+pub mod Standing
+pub mod Talking

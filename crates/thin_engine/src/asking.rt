@@ -1,5 +1,13 @@
-ghost use Rattle.std.specs.Prelude.{◌≡◌, ◌<◌, ◌≤◌, length, IsTrue, IfOk, IfErr, OnOk};
+ghost use Rattle.std.specs.Prelude.{◌≡◌, ◌<◌, ◌≤◌, length, IsTrue, IfOk, IfErr, OnOk, Bool, ℕ};
 ghost use Rattle.doip_frame.specs.Frame.{message_bytes, activate_bytes};
+ghost use Rattle.flash_plan.specs.Plan.{IsAccepted, count_of};
+ghost use Rattle.flash_plan.specs.declared.outcome.Entry.{Entry as AnEntry};
+ghost use Rattle.run_model.specs.Script.{Place};
+ghost use Rattle.run_model.specs.Sound.{IsSound};
+ghost use Rattle.shop_model.specs.History.{vehicle_now};
+ghost use Rattle.thin_engine.specs.declared.reading.Awaited.{Awaited as AnAwaited};
+ghost use Rattle.thin_engine.specs.Shown.{Goes};
+ghost use Rattle.thin_engine.specs.Talking.{Run, Waits, IsPolled};
 ghost use Rattle.thin_engine.specs.Causes.{IsMidway};
 ghost use Rattle.thin_engine.specs.Later.{IsTalkLater, IsLinkLater};
 
@@ -35,6 +43,9 @@ enum Polled {
 fn poll<S: Shop>(shop: &mut S, got: &mut Vec<u8>) -> Polled
     requires { IsTrue (S.history shop.old).linked }
     ensures later { IsTalkLater (S.history shop.old) (S.history shop.new) }
+    ensures goes { IsTrue S.tells_vehicle → (awaited : AnAwaited) (run : Run) (R : AnEntry → Bool) (place : Place) (quiet : ℕ) → IsAccepted run.plan → count_of run.plan ≡ 1
+        → Waits awaited run R place got.old.items quiet (vehicle_now (S.history shop.old))
+        → Goes (λ v. IsSound run.plan R v run.v0) (S.history shop.old) (S.history shop.new) (IsPolled awaited run R place got.old.items quiet got.new.items (vehicle_now (S.history shop.new)) result) }
 {
     let mut out = [0u8; 4096];
     match shop.receive(&mut out) {
