@@ -1,5 +1,5 @@
 -- Where a run stands, with the vehicle.
-use Rattle.std.specs.Prelude.{◌≡◌, ℕ, Bool, List, [], ◌++◌, take, Result, Ok, Err}
+use Rattle.std.specs.Prelude.{◌≡◌, ℕ, Bool, List, [], ◌++◌, take, Result, Ok, Err, Vec}
 use Rattle.disk_model.specs.declared.device.DeviceFault.{DeviceFault}
 use Rattle.flash_plan.specs.Plan.{plan_of}
 use Rattle.flash_plan.specs.declared.outcome.Entry.{Entry}
@@ -19,7 +19,11 @@ use Rattle.thin_engine.specs.declared.asking.Polled.{Polled as Polled_as}
 use Rattle.thin_engine.specs.declared.asking.Polled.TheVariants as polled
 use Rattle.thin_engine.specs.declared.reading.Awaited.{Awaited}
 use Rattle.thin_engine.specs.declared.reading.Awaited.TheVariants.{Activation, Answer}
-use Rattle.thin_engine.specs.Standing.{rules_of, AtRest, Awaits, Asks}
+use Rattle.thin_engine.specs.Standing.{rules_of, AtRest, Awaits, Asks, IsAnswer, IsAccepting}
+use Rattle.std.specs.declared.alloc.Global.{Global}
+use Rattle.doip_frame.specs.Frame.{stream_of}
+use Rattle.thin_engine.specs.declared.asking.Trouble.{Trouble}
+use Rattle.thin_engine.specs.declared.reading.Route.{Route}
 
 -- what stays the same in a run: the plan, the tester, the vehicle at the start and the tick at the start
 pub record Run : Type 0 where
@@ -70,3 +74,32 @@ IsPolled awaited run R place got quiet now v polled.Quiet = (now ≡ got) × Hea
 IsPolled awaited run R place got quiet now v polled.Piece = (piece : List ℕ) × (now ≡ got ++ piece) × Hears awaited run R place got quiet (heard.Piece piece) v
 IsPolled awaited run R place got quiet now v polled.Lost = Unit {0}
 IsPolled awaited run R place got quiet now v polled.NoMemory = Unit {0}
+
+-- the answer has come with the last piece
+pub record HasAnswer (run : Run) (R : Entry → Bool) (place : Place) (body : List ℕ) (v : Vehicle) : Type 0 where
+  pub got : List ℕ
+  pub piece : List ℕ
+  pub quiet : ℕ
+  pub hears : Hears Answer run R place got quiet (heard.Piece piece) v
+  pub answer : IsAnswer run.tester (plan_of run.plan 0).address body (stream_of (got ++ piece))
+
+-- the accepting answer to the activation has
+pub record HasAccepting (run : Run) (R : Entry → Bool) (place : Place) (v : Vehicle) : Type 0 where
+  pub got : List ℕ
+  pub piece : List ℕ
+  pub quiet : ℕ
+  pub hears : Hears Activation run R place got quiet (heard.Piece piece) v
+  pub accepting : IsAccepting (stream_of (got ++ piece))
+
+abbrev pub HasCome : Awaited → Run → (Entry → Bool) → Place → List ℕ → Vehicle → Type 0
+HasCome Activation run R place body v = HasAccepting run R place v
+HasCome Answer run R place body v = HasAnswer run R place body v
+
+abbrev pub IsCollected : Result (Vec ℕ Global) Trouble → Awaited → Run → (Entry → Bool) → Place → Vehicle → Type 0
+IsCollected (Ok body) awaited run R place v = HasCome awaited run R place body.items v
+IsCollected (Err e) awaited run R place v = Unit {0}
+
+-- the addresses of the conversation are those of the run
+pub record IsRoute (run : Run) (route : Route) : Type 0 where
+  pub tester : route.tester ≡ run.tester
+  pub unit : route.unit ≡ (plan_of run.plan 0).address

@@ -1,4 +1,4 @@
-ghost use Rattle.std.specs.Prelude.{◌≡◌, ◌<◌, ◌≤◌, length, IsTrue, IfOk, IfErr, OnOk, Bool, ℕ};
+ghost use Rattle.std.specs.Prelude.{◌≡◌, ◌<◌, ◌≤◌, length, IsTrue, IfOk, IfErr, OnOk, Bool, ℕ, [], drop};
 ghost use Rattle.doip_frame.specs.Frame.{message_bytes, activate_bytes};
 ghost use Rattle.flash_plan.specs.Plan.{IsAccepted, count_of};
 ghost use Rattle.flash_plan.specs.declared.outcome.Entry.{Entry as AnEntry};
@@ -7,11 +7,11 @@ ghost use Rattle.run_model.specs.Sound.{IsSound};
 ghost use Rattle.shop_model.specs.History.{vehicle_now};
 ghost use Rattle.thin_engine.specs.declared.reading.Awaited.{Awaited as AnAwaited};
 ghost use Rattle.thin_engine.specs.Shown.{Goes};
-ghost use Rattle.thin_engine.specs.Talking.{Run, Waits, IsPolled};
+ghost use Rattle.thin_engine.specs.Talking.{Run, Waits, IsPolled, IsCollected, IsRoute};
 ghost use Rattle.thin_engine.specs.Causes.{IsMidway};
 ghost use Rattle.thin_engine.specs.Later.{IsTalkLater, IsLinkLater};
 
-use crate::reading::{Awaited, Reading, Route, read_awaited};
+use crate::reading::{Awaited, Reading, Route, from_on, read_awaited};
 use flash_base::NoMemory;
 use flash_plan::Outcome;
 use shop_model::{Got, Shop};
@@ -60,8 +60,9 @@ fn poll<S: Shop>(shop: &mut S, got: &mut Vec<u8>) -> Polled
 
 fn part(alloc: Global, got: &[u8], from: usize) -> Result<Vec<u8>, Trouble>
     requires { from ≤ length got.now }
+    ensures { IfOk result (λ v. v.items ≡ drop from got.now) }
 {
-    match got[from..].to_vec(alloc) {
+    match from_on(got, from).to_vec(alloc) {
         Ok(v) => Ok(v),
         Err(_) => Err(Trouble::NoMemory),
     }
@@ -76,6 +77,9 @@ fn collect<S: Shop>(
 ) -> Result<Vec<u8>, Trouble>
     requires { IsTrue (S.history shop.old).linked }
     ensures later { IsTalkLater (S.history shop.old) (S.history shop.new) }
+    ensures goes { IsTrue S.tells_vehicle → (run : Run) (R : AnEntry → Bool) (place : Place) → IsAccepted run.plan → count_of run.plan ≡ 1 → IsRoute run route.now
+        → Waits awaited run R place [] 0 (vehicle_now (S.history shop.old))
+        → Goes (λ v. IsSound run.plan R v run.v0) (S.history shop.old) (S.history shop.new) (IsCollected result awaited run R place (vehicle_now (S.history shop.new))) }
 {
     let mut got = Vec::new(alloc);
     let mut quiet = 0;

@@ -133,7 +133,7 @@ fn read_message(route: &Route, rest: &[u8]) -> Behind
     }
 }
 
-fn from_on(got: &[u8], from: usize) -> &[u8]
+pub fn from_on(got: &[u8], from: usize) -> &[u8]
     requires { from ≤ length got.now }
     ensures { result.now ≡ drop from got.now }
 {
