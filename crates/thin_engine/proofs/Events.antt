@@ -100,6 +100,21 @@ module _ (tester unit : ℕ) (units : List ℕ) (is_there : is_known units unit 
           (answer_new tester unit (stream_of got).frames (stream_of ((stream_of got).rest ++ piece)).frames now.code now.old body before.frames (frames_are tester unit units piece l got before.good ∙ now.frames))
       ∙ ap (λ (r : List ℕ). record l { got = l.got ++ piece; rest = r; inbox = l.inbox ++ ((unit, Reply body) ∷ []) }) (sym (rest_is tester unit units piece l got before.good) ∙ now.rest)
 
+-- the link with the answer that accepts the activation
+module _ (tester : ℕ) (units : List ℕ) (piece : List ℕ) (l0 : Link) where
+  abbrev w : Link
+  w = record l0 { phase = Waits }
+
+  seen_accepting : (s : Stream) (target entity : ℕ) (oem : Option ℕ) → s.bad ≡ None → s.frames ≡ Activated target entity 16 oem ∷ [] → see_stream tester units s piece w ≡ record w { phase = Up; got = w.got ++ piece; rest = s.rest }
+  seen_accepting s target entity oem good is = λ i. see_end (good i) (see_all tester units (is i) (record w { got = w.got ++ piece; rest = s.rest }))
+
+  pub heard_accepting : (got : List ℕ) → w.rest ≡ (stream_of got).rest → IsNothing (stream_of got) → IsAccepting (stream_of (got ++ piece)) → hear_piece tester units piece w ≡ record w { phase = Up; got = w.got ++ piece; rest = [] }
+  heard_accepting got rest before now =
+      let frames : (stream_of ((stream_of got).rest ++ piece)).frames ≡ Activated now.target now.entity 16 now.oem ∷ [] = ap (λ (A : List Frame). A ++ (stream_of ((stream_of got).rest ++ piece)).frames) (sym before.none) ∙ frames_are tester 0 units piece w got before.good ∙ now.frames in
+      ap (λ (r : List ℕ). see_stream tester units (stream_of (r ++ piece)) piece w) rest
+      ∙ seen_accepting (stream_of ((stream_of got).rest ++ piece)) now.target now.entity now.oem (bad_is tester 0 units piece w got before.good now.good) frames
+      ∙ ap (λ (r : List ℕ). record w { phase = Up; got = w.got ++ piece; rest = r }) (sym (rest_is tester 0 units piece w got before.good) ∙ now.rest)
+
 module _ (tester : ℕ) (P : List UnitPlan) (one : count_of P ≡ 1) (R : Entry → Bool) (c : Core) where
   abbrev u : UnitPlan
   u = plan_of P 0
@@ -322,6 +337,30 @@ module _ (tester : ℕ) (P : List UnitPlan) (one : count_of P ≡ 1) (R : Entry 
         asked = let t : (link_after (rules_of tester) P (Tended (Polled (Piece piece))) c.link).ticks ≡ c.link.ticks = ap (λ (x : Link). x.ticks) heard in
             let k : (link_after (rules_of tester) P (Tended (Polled (Piece piece))) c.link).asked ≡ c.link.asked = ap (λ (x : Link). x.asked) heard in
             omega (arith, w.asked, t, k);
+      }
+
+  pub accepted_rests : (got piece : List ℕ) (quiet : ℕ) → Asks R got quiet c → IsAccepting (stream_of (got ++ piece)) → AtRest R AtBegin (after (Tended (Polled (Piece piece))))
+  accepted_rests got piece quiet w now =
+      let waits_is : c.link ≡ record c.link { phase = Waits } = (λ i. record c.link { phase = w.waits i }) in
+      let heard = ap (hear_piece tester (addresses_of P) piece) waits_is ∙ heard_accepting tester (addresses_of P) piece c.link got w.rest w.nothing now in
+      let losses : (link_after (rules_of tester) P (Tended (Polled (Piece piece))) c.link).losses ≡ 0 = ap (λ (x : Link). x.losses) heard ∙ w.taken.losses in
+      let up : (link_after (rules_of tester) P (Tended (Polled (Piece piece))) c.link).phase ≡ Up = ap (λ (x : Link). x.phase) heard in
+      let slot : (after (Tended (Polled (Piece piece)))).slots 0 ≡ c.slots 0 = own_slot (Tended (Polled (Piece piece))) w.taken.losses losses in
+      record {
+        taken = record {
+          recorded = w.taken.recorded;
+          stop = goes_on (Tended (Polled (Piece piece))) w.taken.stop refl losses (ap refused_stop up);
+          doubt = w.taken.doubt;
+          losses = losses;
+          inbox = ap (λ (x : Link). x.inbox) heard ∙ w.taken.inbox;
+          owes = ap (λ (x : Link). x.owes) heard ∙ w.taken.owes;
+          claimed = ap (λ (s : Slot). s.claimed) slot ∙ w.taken.claimed;
+          outcome = ap (λ (s : Slot). s.outcome) slot ∙ w.taken.outcome;
+        };
+        up = up;
+        rest = ap (λ (x : Link). x.rest) heard;
+        place_is = ap (λ (s : Slot). s.talk.place) slot ∙ w.place_is;
+        awaits = ap (λ (s : Slot). s.talk.awaiting) slot ∙ w.awaits;
       }
 
   -- ------ entries

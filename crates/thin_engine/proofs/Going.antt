@@ -1,11 +1,13 @@
 -- Parts of a run, one after another, as long as each receive was shown.
 use Rattle.std.proofs.Common.{◌≡◌, ◌⊎◌, inl, inr, ℕ, ◌+◌, ◌<◌, ◌≤◌, ◌^◌, min, refl, sym, ◌∙◌, ap, subst, arith, Result}
 use Rattle.std.specs.Prelude.{IsErr}
+use Rattle.disk_model.specs.Disk.{DiskState}
 use Rattle.disk_model.specs.declared.device.DeviceFault.{DeviceFault}
 use Rattle.unit_model.specs.Vehicle.{Vehicle}
-use Rattle.shop_model.specs.History.{History, Call, LAST, Passes, vehicle_now}
-use Rattle.shop_model.specs.Through.{IsLater, IsShownCall, AreShown}
+use Rattle.shop_model.specs.History.{History, Call, LAST, Passes, disk_now, vehicle_now}
+use Rattle.shop_model.specs.Through.{IsLater, IsShownCall, AreShown, HoldsThrough, HoldsWhileShown}
 use Rattle.thin_journal.proofs.Laters.{later_same, later_then}
+use Rattle.thin_journal.specs.Later.{Stays}
 use Rattle.thin_engine.specs.Shown.{Goes}
 
 order : (a b : ℕ) → (a ≤ b) ⊎ (b < a)
@@ -19,27 +21,30 @@ shown_past from to mid new later le shown k ge lt =
     let w : new.vehicle_at (k + 1) ≡ mid.vehicle_at (k + 1) = later.vehicle_past (k + 1) (omega (arith, lt, le)) in
     subst (λ (x : Call × Vehicle × Vehicle). IsShownCall x.0 x.1 x.2) (λ i. (call i, v i, w i)) (shown k ge lt)
 
-module _ (S : Vehicle → Type 0) where
-  pub goes_same : (old : History) (E : Type 0) → S (vehicle_now old) → E → Goes S old old E
+module _ (P : DiskState → Vehicle → Type 0) where
+  at_moment : (d d2 : DiskState) (v v2 : Vehicle) → d2 ≡ d → v2 ≡ v → P d v → P d2 v2
+  at_moment d d2 v v2 sd sv here = subst (λ (x : DiskState × Vehicle). P x.0 x.1) (λ i. (sym sd i, sym sv i)) here
+
+  pub goes_same : (old : History) (E : Type 0) → P (disk_now old) (vehicle_now old) → E → Goes P old old E
   goes_same old E here end = record {
     is_later = later_same old;
-    each = λ m ge le shown. let same : old.moment ≡ m = omega (arith, ge, le) in subst (λ (k : ℕ). S (old.vehicle_at k)) same here;
+    each = λ m ge le shown. let same : old.moment ≡ m = omega (arith, ge, le) in subst (λ (k : ℕ). P (old.disk_at k) (old.vehicle_at k)) same here;
     end = λ shown. end;
   }
 
-  pub goes_call : {T : Type 0} (call : Call) (old new : History) (r : Result T DeviceFault) (E : Type 0) → IsLater old new → old.moment ≤ LAST → Passes call old new r → S (vehicle_now old) → (IsErr r → E)
-      → (IsShownCall call (vehicle_now old) (vehicle_now new) → S (vehicle_now new) × E) → Goes S old new E
+  pub goes_call : {T : Type 0} (call : Call) (old new : History) (r : Result T DeviceFault) (E : Type 0) → IsLater old new → old.moment ≤ LAST → Passes call old new r → P (disk_now old) (vehicle_now old) → (IsErr r → E)
+      → (IsShownCall call (vehicle_now old) (vehicle_now new) → P (disk_now new) (vehicle_now new) × E) → Goes P old new E
   goes_call call old new r E later bounded passes here stuck step = record {
     is_later = later;
     each = λ m ge le shown. elim (order m old.moment) [
       | inl before ↦
           let same : m ≡ old.moment = omega (arith, ge, before) in
-          subst S (sym (passes.vehicle_past m before ∙ ap (λ (k : ℕ). old.vehicle_at k) same)) here
+          at_moment (disk_now old) (new.disk_at m) (vehicle_now old) (new.vehicle_at m) (passes.disk_past m before ∙ ap (λ (k : ℕ). old.disk_at k) same) (passes.vehicle_past m before ∙ ap (λ (k : ℕ). old.vehicle_at k) same) here
       | inr after ↦
           let lt : old.moment < LAST = omega (arith, passes.moment, bounded, after, le) in
           let one : new.moment ≡ old.moment + 1 = omega (arith, passes.moment, lt) in
           let same : m ≡ new.moment = omega (arith, after, le, one) in
-          subst (λ (k : ℕ). S (new.vehicle_at k)) (sym same) (step (stepped lt one (shown old.moment (omega arith) after))).0
+          subst (λ (k : ℕ). P (new.disk_at k) (new.vehicle_at k)) (sym same) (step (stepped lt one (shown old.moment (omega arith) after))).0
     ];
     end = λ shown. elim (order LAST old.moment) [
       | inl last ↦ stuck (passes.last (omega (arith, last, bounded)))
@@ -56,11 +61,11 @@ module _ (S : Vehicle → Type 0) where
           let d : new.vehicle_at (old.moment + 1) ≡ vehicle_now new = ap (λ (k : ℕ). new.vehicle_at k) (sym one) in
           subst (λ (x : Call × Vehicle × Vehicle). IsShownCall x.0 x.1 x.2) (λ i. (a i, b i, d i)) shown
 
-  pub goes_then : (old mid new : History) (E F : Type 0) → Goes S old mid E → IsLater mid new → (E → Goes S mid new F) → Goes S old new F
+  pub goes_then : (old mid new : History) (E F : Type 0) → Goes P old mid E → IsLater mid new → (E → Goes P mid new F) → Goes P old new F
   goes_then old mid new E F first later then = record {
     is_later = later_then old mid new first.is_later later;
     each = λ m ge le shown. elim (order m mid.moment) [
-      | inl before ↦ subst S (sym (later.vehicle_past m before)) (first.each m ge before (shown_past old.moment m mid new later before shown))
+      | inl before ↦ at_moment (mid.disk_at m) (new.disk_at m) (mid.vehicle_at m) (new.vehicle_at m) (later.disk_past m before) (later.vehicle_past m before) (first.each m ge before (shown_past old.moment m mid new later before shown))
       | inr after ↦
           let so_far : AreShown new old.moment mid.moment = λ k kge klt. shown k kge (omega (arith, klt, after)) in
           let e = first.end (shown_past old.moment mid.moment mid new later (omega arith) so_far) in
@@ -72,5 +77,19 @@ module _ (S : Vehicle → Type 0) where
         (then e).end (λ k kge klt. shown k (omega (arith, kge, first.is_later.later)) klt);
   }
 
-  pub goes_map : (old new : History) (E F : Type 0) → (E → F) → Goes S old new E → Goes S old new F
+  pub goes_map : (old new : History) (E F : Type 0) → (E → F) → Goes P old new E → Goes P old new F
   goes_map old new E F f goes = record { is_later = goes.is_later; each = goes.each; end = λ shown. f (goes.end shown) }
+
+  pub goes_shown : (old new : History) (E : Type 0) → Goes P old new E → HoldsWhileShown old new P
+  goes_shown old new E goes = record { is_later = goes.is_later; each = goes.each }
+
+  pub shown_goes : (old new : History) → HoldsWhileShown old new P → Goes P old new (Unit {0})
+  shown_goes old new holds = record { is_later = holds.is_later; each = holds.each; end = λ shown. tt }
+
+  -- disk calls, through which the vehicle stays
+  pub stays_goes : (Q : DiskState → Type 0) (v : Vehicle) (old new : History) (E : Type 0) → HoldsThrough old new (Stays v Q) → ((d : DiskState) → Q d → P d v) → E → Goes P old new E
+  stays_goes Q v old new E through sound end = record {
+    is_later = through.is_later;
+    each = λ m ge le shown. let s = through.each m ge le in subst (λ (w : Vehicle). P (new.disk_at m) w) (sym s.vehicle) (sound (new.disk_at m) s.disk);
+    end = λ shown. end;
+  }

@@ -2,25 +2,27 @@
 use Rattle.std.proofs.Common.{◌≡◌, ◌⊎◌, inl, inr, ℕ, zero, suc, ◌+◌, ◌<◌, ◌≤◌, true, false, List, [], ◌∷◌, ◌++◌, length, take, Result, Ok, Err, refl, sym, ◌∙◌, ap, subst, arith, length-append, length-take}
 use Rattle.std.specs.Prelude.{Bool, IfOk, IsErr}
 use Rattle.std.proofs.lemmas.Bool.{false≢true}
+use Rattle.disk_model.specs.Disk.{DiskState, IsCrashImage}
 use Rattle.disk_model.specs.declared.device.DeviceFault.{DeviceFault}
-use Rattle.flash_plan.specs.Plan.{IsAccepted, plan_of, count_of}
 use Rattle.flash_plan.specs.declared.outcome.Entry.{Entry}
-use Rattle.flash_plan.specs.declared.unit.UnitPlan.{UnitPlan}
 use Rattle.unit_model.specs.Poll.{Ticks, Carries, IsShown, Misses}
 use Rattle.unit_model.specs.Vehicle.{Gateway, Vehicle}
 use Rattle.unit_model.specs.declared.reply.Got.{Got}
 use Rattle.unit_model.specs.declared.reply.Got.TheVariants.{Quiet, Bytes}
-use Rattle.shop_model.specs.History.{History, LAST, IsPiece, LinkCall, Receive, Received, vehicle_now}
+use Rattle.journal_model.specs.Records.{records, label_of}
+use Rattle.shop_model.specs.History.{History, LAST, IsPiece, LinkCall, Receive, Received, disk_now, vehicle_now}
 use Rattle.shop_model.specs.Through.{IsShownReceive}
 use Rattle.doip_frame.specs.Frame.{stream_of}
 use Rattle.uds_codec.specs.Answer.{Good, judge}
-use Rattle.run_model.specs.Script.{Place, bytes_at, place_next}
+use Rattle.flash_plan.specs.declared.unit.UnitPlan.{UnitPlan}
+use Rattle.run_model.specs.Script.{Place, AtBegin, bytes_at, place_next}
 use Rattle.run_model.specs.Sound.{IsSound}
 use Rattle.bay_core.proofs.OneStep.{step_law}
 use Rattle.bay_core.specs.Core.{Core, core_after}
 use Rattle.bay_core.specs.Joint.{IsJoint}
 use Rattle.bay_core.specs.Legal.{is_allowed}
 use Rattle.bay_core.specs.Moves.{Moves, Receives}
+use Rattle.bay_core.specs.declared.event.Event.{Event}
 use Rattle.bay_core.specs.declared.event.Event.TheVariants.{Collected, Tended}
 use Rattle.bay_core.specs.declared.event.Tend.TheVariants.{Polled}
 use Rattle.bay_core.specs.declared.event.Heard.{Heard}
@@ -30,11 +32,14 @@ use Rattle.thin_engine.specs.declared.reading.Awaited.TheVariants.{Activation, A
 use Rattle.thin_engine.specs.Standing.{rules_of, IsAnswer}
 use Rattle.thin_engine.specs.Reading.{IsRead}
 use Rattle.thin_engine.specs.declared.reading.Reading.TheVariants.{Waiting}
-use Rattle.thin_engine.specs.Talking.{Run, Fits, Rests, Stands, Waits, Hears, Polls, event_of}
+use Rattle.thin_engine.specs.Leads.{LeadsTo}
+use Rattle.thin_engine.specs.Stages.{place_at}
+use Rattle.thin_engine.specs.declared.stage.Stage.{Stage}
+use Rattle.thin_engine.specs.Talking.{Run, SoundAt, Covers, Fits, Rests, Stands, Waits, Hears, HasAccepting, HasAnswer, Polls, event_of, task_of}
 use Rattle.thin_engine.specs.Shown.{Goes}
 use Rattle.thin_engine.proofs.Going.{goes_call}
 use Rattle.thin_engine.proofs.Laters.{link_later}
-use Rattle.thin_engine.proofs.Events.{may_collect, may_poll, quiet_asks, quiet_awaits, piece_asks, piece_awaits, answered_rests}
+use Rattle.thin_engine.proofs.Events.{may_collect, may_poll, quiet_asks, quiet_awaits, piece_asks, piece_awaits, answered_rests, accepted_rests}
 
 left_cancel : (xs ys zs : List ℕ) → xs ++ ys ≡ xs ++ zs → ys ≡ zs
 left_cancel [] ys zs e = e
@@ -61,13 +66,30 @@ shown_piece piece v w some carries (inr (inr (other, shown))) =
     let same : other ≡ piece = left_cancel v.gateway.carried other piece (sym (carried_of other v w shown.carries) ∙ carried_of piece v w carries) in
     subst (λ (xs : List ℕ). IsShown xs v w) same shown
 
-module _ (awaited : Awaited) (run : Run) (ok : IsAccepted run.plan) (one : count_of run.plan ≡ 1) (R : Entry → Bool) (place : Place) (got : List ℕ) (quiet : ℕ) where
+module _ (run : Run) where
+  pub same_covers : (R : Entry → Bool) (d d2 : DiskState) → d2 ≡ d → Covers run R d → Covers run R d2
+  same_covers R d d2 same covers = subst (λ (x : DiskState). Covers run R x) (sym same) covers
+
+  pub fits_sound : (R : Entry → Bool) (c : Core) (d : DiskState) (v : Vehicle) → Fits run R c d v → SoundAt run d v
+  fits_sound R c d v fits image left =
+      let same : records (label_of run.plan) image ≡ R = λ i e. fits.covers image left e i in
+      subst (λ (X : Entry → Bool). IsSound run.plan X v run.v0) (sym same) fits.joint.sound
+
+  -- an event that leaves the records as they are
+  pub fits_on : (R : Entry → Bool) (c : Core) (e : Event) (d d2 : DiskState) (v v2 : Vehicle) → d2 ≡ d → is_allowed run.plan c e ≡ true → Moves (rules_of run.tester) run.plan c e v v2 R R → Fits run R c d v
+      → Fits run R (core_after (rules_of run.tester) run.plan e c) d2 v2
+  fits_on R c e d d2 v v2 same allowed moves fits = record {
+    covers = same_covers R d d2 same fits.covers;
+    joint = step_law (rules_of run.tester) run.plan c e R R v v2 run.v0 run.t0 run.is_first.accepted allowed moves fits.joint;
+  }
+
+module _ (awaited : Awaited) (run : Run) (R : Entry → Bool) (place : Place) (got : List ℕ) (quiet : ℕ) where
   allowed : (c : Core) (h : Heard) → Stands awaited run R place got quiet c → (h ≡ heard.Kept → ⊥) → is_allowed run.plan c (event_of awaited h) ≡ true
   allowed = go awaited
     where
       go : (x : Awaited) (c : Core) (h : Heard) → Stands x run R place got quiet c → (h ≡ heard.Kept → ⊥) → is_allowed run.plan c (event_of x h) ≡ true
-      go Activation c h stands isnt = may_poll run.tester run.plan one R c got quiet stands h isnt
-      go Answer c h stands isnt = may_collect run.tester run.plan one R c place got quiet stands h isnt
+      go Activation c h stands isnt = may_poll run.tester run.plan run.is_first.count R c got quiet stands h isnt
+      go Answer c h stands isnt = may_collect run.tester run.plan run.is_first.count R c place got quiet stands h isnt
 
   moved : (c : Core) (h : Heard) (v w : Vehicle) → Receives h v w → Moves (rules_of run.tester) run.plan c (event_of awaited h) v w R R
   moved c h v w did = go awaited
@@ -77,49 +99,63 @@ module _ (awaited : Awaited) (run : Run) (ok : IsAccepted run.plan) (one : count
       go Answer = (did, refl)
 
   -- the event of a receive
-  pub hears : (h : Heard) (v w : Vehicle) → (h ≡ heard.Kept → ⊥) → Waits awaited run R place got quiet v → Receives h v w → Hears awaited run R place got quiet h w
-  hears h v w isnt waits did = record {
+  pub hears : (h : Heard) (d d2 : DiskState) (v w : Vehicle) → d2 ≡ d → (h ≡ heard.Kept → ⊥) → Waits awaited run R place got quiet d v → Receives h v w → Hears awaited run R place got quiet h d2 w
+  hears h d d2 v w same isnt waits did = record {
     core = waits.core;
     stands = waits.stands;
-    fits = step_law (rules_of run.tester) run.plan waits.core (event_of awaited h) R R v w run.v0 run.t0 ok (allowed waits.core h waits.stands isnt) (moved waits.core h v w did) waits.fits;
+    fits = fits_on run R waits.core (event_of awaited h) d d2 v w same (allowed waits.core h waits.stands isnt) (moved waits.core h v w did) waits.fits;
   }
 
-  -- whatever a receive brought, if it is shown
-  pub polled : (out : List ℕ) (Clean : Type 0) (v w : Vehicle) (r : Result Got DeviceFault) → Received out Clean v w r → IfOk r (IsPiece (length out)) → IsShownReceive v w → Waits awaited run R place got quiet v
-      → IsSound run.plan R w run.v0 × Polls awaited run R place got quiet out w r
-  polled out Clean v w (Ok Quiet) did piece shown waits =
-      let h = hears heard.Quiet v w (λ e. cc) waits did in (h.fits.sound, h)
-  polled out Clean v w (Ok (Bytes n)) did piece shown waits =
-      let some : 1 ≤ length (take n out) = omega (arith, length-take n out, piece.0, piece.1) in
-      let h = hears (heard.Piece (take n out)) v w (λ e. cc) waits (shown_piece (take n out) v w some did.0 shown) in (h.fits.sound, h)
-  polled out Clean v w (Err e) did piece shown waits = ((hears heard.Lost v w (λ q. cc) waits did).fits.sound, tt)
+  heard_sound : (h : Heard) (d : DiskState) (v : Vehicle) → Hears awaited run R place got quiet h d v → SoundAt run d v
+  heard_sound h d v x = fits_sound run R (core_after (rules_of run.tester) run.plan (event_of awaited h) x.core) d v x.fits
 
-  pub stuck : (out : List ℕ) (w : Vehicle) (r : Result Got DeviceFault) → IsErr r → Polls awaited run R place got quiet out w r
-  stuck out w (Ok x) is = absurd (false≢true is)
-  stuck out w (Err e) is = tt
+  -- whatever a receive brought, if it is shown
+  pub polled : (out : List ℕ) (Clean : Type 0) (d d2 : DiskState) (v w : Vehicle) (r : Result Got DeviceFault) → d2 ≡ d → Received out Clean v w r → IfOk r (IsPiece (length out)) → IsShownReceive v w → Waits awaited run R place got quiet d v
+      → SoundAt run d2 w × Polls awaited run R place got quiet out d2 w r
+  polled out Clean d d2 v w (Ok Quiet) same did piece shown waits =
+      let h = hears heard.Quiet d d2 v w same (λ e. cc) waits did in (heard_sound heard.Quiet d2 w h, h)
+  polled out Clean d d2 v w (Ok (Bytes n)) same did piece shown waits =
+      let some : 1 ≤ length (take n out) = omega (arith, length-take n out, piece.0, piece.1) in
+      let h = hears (heard.Piece (take n out)) d d2 v w same (λ e. cc) waits (shown_piece (take n out) v w some did.0 shown) in (heard_sound (heard.Piece (take n out)) d2 w h, h)
+  polled out Clean d d2 v w (Err e) same did piece shown waits = (heard_sound heard.Lost d2 w (hears heard.Lost d d2 v w same (λ q. cc) waits did), tt)
+
+  pub stuck : (out : List ℕ) (d : DiskState) (w : Vehicle) (r : Result Got DeviceFault) → IsErr r → Polls awaited run R place got quiet out d w r
+  stuck out d w (Ok x) is = absurd (false≢true is)
+  stuck out d w (Err e) is = tt
 
   -- one receive, as long as it is shown
   pub receives : (out : List ℕ) (Clean : Type 0) (old new : History) (r : Result Got DeviceFault) → old.moment ≤ LAST → LinkCall Receive old new r → Received out Clean (vehicle_now old) (vehicle_now new) r → IfOk r (IsPiece (length out))
-      → Waits awaited run R place got quiet (vehicle_now old) → Goes (λ v. IsSound run.plan R v run.v0) old new (Polls awaited run R place got quiet out (vehicle_now new) r)
+      → Waits awaited run R place got quiet (disk_now old) (vehicle_now old) → Goes (SoundAt run) old new (Polls awaited run R place got quiet out (disk_now new) (vehicle_now new) r)
   receives out Clean old new r bounded call did piece waits =
-      goes_call (λ v. IsSound run.plan R v run.v0) Receive old new r (Polls awaited run R place got quiet out (vehicle_now new) r) (link_later Receive old new r bounded call) bounded call.passes waits.fits.sound
-      (stuck out (vehicle_now new) r) (λ shown. polled out Clean (vehicle_now old) (vehicle_now new) r did piece shown waits)
+      goes_call (SoundAt run) Receive old new r (Polls awaited run R place got quiet out (disk_now new) (vehicle_now new) r) (link_later Receive old new r bounded call) bounded call.passes
+      (fits_sound run R waits.core (disk_now old) (vehicle_now old) waits.fits)
+      (stuck out (disk_now new) (vehicle_now new) r) (λ shown. polled out Clean (disk_now old) (disk_now new) (vehicle_now old) (vehicle_now new) r call.disk did piece shown waits)
 
 -- a run still waits after a quiet receive, and after bytes that end nothing
-module _ (run : Run) (one : count_of run.plan ≡ 1) (R : Entry → Bool) (place : Place) (got : List ℕ) (quiet : ℕ) where
-  pub waits_quiet : (awaited : Awaited) (v : Vehicle) → quiet + 1 < 1000 → Hears awaited run R place got quiet heard.Quiet v → Waits awaited run R place got (quiet + 1) v
-  waits_quiet Activation v few h = record { core = core_after (rules_of run.tester) run.plan (Tended (Polled heard.Quiet)) h.core; stands = quiet_asks run.tester run.plan one R h.core got quiet few h.stands; fits = h.fits }
-  waits_quiet Answer v few h = record { core = core_after (rules_of run.tester) run.plan (Collected 0 heard.Quiet) h.core; stands = quiet_awaits run.tester run.plan one R h.core place got quiet few h.stands; fits = h.fits }
+module _ (run : Run) (R : Entry → Bool) (place : Place) (got : List ℕ) (quiet : ℕ) where
+  pub waits_quiet : (awaited : Awaited) (d : DiskState) (v : Vehicle) → quiet + 1 < 1000 → Hears awaited run R place got quiet heard.Quiet d v → Waits awaited run R place got (quiet + 1) d v
+  waits_quiet Activation d v few h = record { core = core_after (rules_of run.tester) run.plan (Tended (Polled heard.Quiet)) h.core; stands = quiet_asks run.tester run.plan run.is_first.count R h.core got quiet few h.stands; fits = h.fits }
+  waits_quiet Answer d v few h = record { core = core_after (rules_of run.tester) run.plan (Collected 0 heard.Quiet) h.core; stands = quiet_awaits run.tester run.plan run.is_first.count R h.core place got quiet few h.stands; fits = h.fits }
 
-  pub waits_piece : (awaited : Awaited) (piece : List ℕ) (v : Vehicle) → IsRead awaited run.tester (plan_of run.plan 0).address (got ++ piece) Waiting → Hears awaited run R place got quiet (heard.Piece piece) v → Waits awaited run R place (got ++ piece) quiet v
-  waits_piece Activation piece v read h = record { core = core_after (rules_of run.tester) run.plan (Tended (Polled (heard.Piece piece))) h.core; stands = piece_asks run.tester run.plan one R h.core got piece quiet h.stands read; fits = h.fits }
-  waits_piece Answer piece v read h = record { core = core_after (rules_of run.tester) run.plan (Collected 0 (heard.Piece piece)) h.core; stands = piece_awaits run.tester run.plan one R h.core place got piece quiet h.stands read; fits = h.fits }
+  pub waits_piece : (awaited : Awaited) (piece : List ℕ) (d : DiskState) (v : Vehicle) → IsRead awaited run.tester (task_of run).address (got ++ piece) Waiting → Hears awaited run R place got quiet (heard.Piece piece) d v → Waits awaited run R place (got ++ piece) quiet d v
+  waits_piece Activation piece d v read h = record { core = core_after (rules_of run.tester) run.plan (Tended (Polled (heard.Piece piece))) h.core; stands = piece_asks run.tester run.plan run.is_first.count R h.core got piece quiet h.stands read; fits = h.fits }
+  waits_piece Answer piece d v read h = record { core = core_after (rules_of run.tester) run.plan (Collected 0 (heard.Piece piece)) h.core; stands = piece_awaits run.tester run.plan run.is_first.count R h.core place got piece quiet h.stands read; fits = h.fits }
 
-  -- a positive answer brings it to the next place
-  pub rests_on : (piece body rest : List ℕ) (v : Vehicle) → Hears Answer run R place got quiet (heard.Piece piece) v → IsAnswer run.tester (plan_of run.plan 0).address body (stream_of (got ++ piece)) → judge (bytes_at (plan_of run.plan 0) place) body ≡ Good rest
-      → Rests run R (place_next (plan_of run.plan 0) place rest) v
-  rests_on piece body rest v h answer good = record {
-    core = core_after (rules_of run.tester) run.plan (Collected 0 (heard.Piece piece)) h.core;
-    rest = answered_rests run.tester run.plan one R h.core place got piece body rest quiet h.stands answer good;
-    fits = h.fits;
-  }
+-- a positive answer brings it to the stage that it leads to
+pub answered : (run : Run) (R : Entry → Bool) (u : UnitPlan) (stage next : Stage) (body : List ℕ) (d : DiskState) (v : Vehicle) → task_of run ≡ u → LeadsTo u stage body next → HasAnswer run R (place_at u stage) body d v → Rests run R (place_at u next) d v
+answered run R u stage next body d v is leads has =
+    let good : judge (bytes_at (task_of run) (place_at u stage)) body ≡ Good leads.rest = ap (λ (w : UnitPlan). judge (bytes_at w (place_at u stage)) body) is ∙ leads.good in
+    let there : place_next (task_of run) (place_at u stage) leads.rest ≡ place_at u next = ap (λ (w : UnitPlan). place_next w (place_at u stage) leads.rest) is ∙ leads.place in
+    subst (λ (p : Place). Rests run R p d v) there (record {
+      core = core_after (rules_of run.tester) run.plan (Collected 0 (heard.Piece has.piece)) has.hears.core;
+      rest = answered_rests run.tester run.plan run.is_first.count R has.hears.core (place_at u stage) has.got has.piece body leads.rest has.quiet has.hears.stands has.answer good;
+      fits = has.hears.fits;
+    })
+
+-- the accepting answer to an activation brings it to the beginning
+pub accepted : (run : Run) (R : Entry → Bool) (place : Place) (d : DiskState) (v : Vehicle) → HasAccepting run R place d v → Rests run R AtBegin d v
+accepted run R place d v has = record {
+  core = core_after (rules_of run.tester) run.plan (Tended (Polled (heard.Piece has.piece))) has.hears.core;
+  rest = accepted_rests run.tester run.plan run.is_first.count R has.hears.core has.got has.piece has.quiet has.hears.stands has.accepting;
+  fits = has.hears.fits;
+}
