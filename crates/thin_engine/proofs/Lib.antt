@@ -5,6 +5,8 @@ pub mod Laters
 pub mod Leads
 pub mod Limits
 pub mod Looks
+pub mod Openings
 pub mod Outcomes
 pub mod Polling
+pub mod Recording
 pub mod Starts

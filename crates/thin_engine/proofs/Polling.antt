@@ -1,6 +1,7 @@
 -- A receive that was shown is an event of the run.
-use Rattle.std.proofs.Common.{◌≡◌, ◌⊎◌, inl, inr, ℕ, zero, suc, ◌+◌, ◌<◌, ◌≤◌, true, false, List, [], ◌∷◌, ◌++◌, length, take, Result, Ok, Err, refl, sym, ◌∙◌, ap, subst, arith, length-append, length-take}
-use Rattle.std.specs.Prelude.{Bool, IfOk, IsErr}
+use Rattle.std.proofs.Common.{◌≡◌, ◌⊎◌, inl, inr, ℕ, zero, suc, ◌+◌, ◌<◌, ◌≤◌, true, false, List, [], ◌∷◌, ◌++◌, length, take, drop, Result, Ok, Err, refl, sym, ◌∙◌, ap, subst, arith, length-append, length-take}
+use Rattle.std.specs.Prelude.{Bool, IfOk, IsErr, Vec}
+use Rattle.std.specs.declared.alloc.Global.{Global}
 use Rattle.std.proofs.lemmas.Bool.{false≢true}
 use Rattle.disk_model.specs.Disk.{DiskState, IsCrashImage}
 use Rattle.disk_model.specs.declared.device.DeviceFault.{DeviceFault}
@@ -29,13 +30,15 @@ use Rattle.bay_core.specs.declared.event.Heard.{Heard}
 use Rattle.bay_core.specs.declared.event.Heard.TheVariants as heard
 use Rattle.thin_engine.specs.declared.reading.Awaited.{Awaited}
 use Rattle.thin_engine.specs.declared.reading.Awaited.TheVariants.{Activation, Answer}
-use Rattle.thin_engine.specs.Standing.{rules_of, IsAnswer}
+use Rattle.thin_engine.specs.Standing.{rules_of, IsAnswer, IsAccepting}
+use Rattle.thin_engine.specs.declared.asking.Trouble.{Trouble}
+use Rattle.thin_engine.specs.declared.reading.Reading.{Reading}
 use Rattle.thin_engine.specs.Reading.{IsRead}
-use Rattle.thin_engine.specs.declared.reading.Reading.TheVariants.{Waiting}
+use Rattle.thin_engine.specs.declared.reading.Reading.TheVariants.{Waiting, Answered}
 use Rattle.thin_engine.specs.Leads.{LeadsTo}
 use Rattle.thin_engine.specs.Stages.{place_at}
 use Rattle.thin_engine.specs.declared.stage.Stage.{Stage}
-use Rattle.thin_engine.specs.Talking.{Run, SoundAt, Covers, Fits, Rests, Stands, Waits, Hears, HasAccepting, HasAnswer, Polls, event_of, task_of}
+use Rattle.thin_engine.specs.Talking.{Run, SoundAt, Covers, Fits, Rests, Stands, Waits, Hears, HasAccepting, HasAnswer, HasCome, IsCollected, Polls, event_of, task_of}
 use Rattle.thin_engine.specs.Shown.{Goes}
 use Rattle.thin_engine.proofs.Going.{goes_call}
 use Rattle.thin_engine.proofs.Laters.{link_later}
@@ -159,3 +162,35 @@ accepted run R place d v has = record {
   rest = accepted_rests run.tester run.plan run.is_first.count R has.hears.core has.got has.piece has.quiet has.hears.stands has.accepting;
   fits = has.hears.fits;
 }
+
+-- what a loop of polls keeps, and what it ends with
+module _ (awaited : Awaited) (run : Run) (R : Entry → Bool) (place : Place) (got : List ℕ) (quiet : ℕ) (d : DiskState) (v : Vehicle) where
+  pub keeps_quiet : (now : List ℕ) (q : ℕ) → now ≡ got → q ≡ quiet + 1 → quiet + 1 < 1000 → Hears awaited run R place got quiet heard.Quiet d v → Waits awaited run R place now q d v
+  keeps_quiet now q same is few h = subst (λ (x : List ℕ × ℕ). Waits awaited run R place x.0 x.1 d v) (λ i. (sym same i, sym is i)) (waits_quiet run R place got quiet awaited d v few h)
+
+  -- a reading speaks of the run's addresses and of all bytes
+  of_run : (t u : ℕ) (seen now : List ℕ) (reading : Reading) → t ≡ run.tester → u ≡ (task_of run).address → seen ≡ now → IsRead awaited t u seen reading → IsRead awaited run.tester (task_of run).address now reading
+  of_run t u seen now reading st su ss read = subst (λ (x : ℕ × ℕ × List ℕ). IsRead awaited x.0 x.1 x.2 reading) (λ i. (st i, su i, ss i)) read
+
+  pub keeps_piece : (t u : ℕ) (seen now : List ℕ) (q : ℕ) → t ≡ run.tester → u ≡ (task_of run).address → seen ≡ now → q ≡ quiet → IsRead awaited t u seen Waiting
+      → (piece : List ℕ) × (now ≡ got ++ piece) × Hears awaited run R place got quiet (heard.Piece piece) d v → Waits awaited run R place now q d v
+  keeps_piece t u seen now q st su ss is read (piece, all, h) =
+      subst (λ (x : List ℕ × ℕ). Waits awaited run R place x.0 x.1 d v) (λ i. (sym all i, sym is i)) (waits_piece run R place got quiet awaited piece d v (of_run t u seen (got ++ piece) Waiting st su (ss ∙ all) read) h)
+
+  came : (from : ℕ) (now body : List ℕ) → IsRead awaited run.tester (task_of run).address now (Answered from) → body ≡ drop from now → (piece : List ℕ) × (now ≡ got ++ piece) × Hears awaited run R place got quiet (heard.Piece piece) d v → HasCome awaited run R place body d v
+  came from now body = go awaited
+    where
+      go : (x : Awaited) → IsRead x run.tester (task_of run).address now (Answered from) → body ≡ drop from now → (piece : List ℕ) × (now ≡ got ++ piece) × Hears x run R place got quiet (heard.Piece piece) d v → HasCome x run R place body d v
+      go Activation read is (piece, all, h) = record { got = got; piece = piece; quiet = quiet; hears = h; accepting = subst (λ (xs : List ℕ). IsAccepting (stream_of xs)) all read }
+      go Answer read is (piece, all, h) = record {
+        got = got;
+        piece = piece;
+        quiet = quiet;
+        hears = h;
+        answer = subst (λ (x : List ℕ × List ℕ). IsAnswer run.tester (task_of run).address x.0 (stream_of x.1)) (λ i. (sym is i, all i)) read;
+      }
+
+  pub collected : (t u from : ℕ) (seen seen2 now : List ℕ) (r : Result (Vec ℕ Global) Trouble) → t ≡ run.tester → u ≡ (task_of run).address → seen ≡ now → seen2 ≡ now → IsRead awaited t u seen (Answered from) → IfOk r (λ x. x.items ≡ drop from seen2)
+      → (piece : List ℕ) × (now ≡ got ++ piece) × Hears awaited run R place got quiet (heard.Piece piece) d v → IsCollected r awaited run R place d v
+  collected t u from seen seen2 now (Ok body) st su ss s2 read is has = came from now body.items (of_run t u seen now (Answered from) st su ss read) (is ∙ ap (drop from) s2) has
+  collected t u from seen seen2 now (Err e) st su ss s2 read is has = tt
