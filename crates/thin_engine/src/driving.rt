@@ -1,15 +1,24 @@
-ghost use Rattle.std.specs.Prelude.{◌≡◌, ◌⊎◌, ◌<◌, ◌≤◌, [], length, IsTrue, IsErr, OnOk, IfOk, IfErr};
+ghost use Rattle.std.specs.Prelude.{◌≡◌, ◌⊎◌, ◌<◌, ◌≤◌, [], length, Bool, IsTrue, IsErr, OnOk, IfOk, IfErr};
 ghost use Rattle.flash_plan.specs.Plan.{IsAcceptedUnit, plan_of};
 ghost use Rattle.flash_base.specs.Counts.{Rises};
 ghost use Rattle.shop_model.specs.History.{disk_now, vehicle_now};
-ghost use Rattle.shop_model.specs.Through.{IsLater};
+ghost use Rattle.shop_model.specs.Through.{IsLater, HoldsThrough, HoldsWhileShown};
 ghost use Rattle.thin_engine.specs.Later.{IsTalkLater, IsUnchanged};
 ghost use Rattle.thin_engine.specs.Causes.{IsMidway, HasCause};
-ghost use Rattle.journal_model.specs.Records.{Label, label_of};
-ghost use Rattle.thin_journal.specs.Entries.{HasBegun, HasBoth, RecordsBoth};
-ghost use Rattle.thin_journal.specs.Later.{IsDiskLater};
-ghost use Rattle.thin_journal.specs.Make.{IsNew};
-ghost use Rattle.thin_engine.specs.Stages.{IsFirst, IsFirstPlan, IsStage, work_left, segment_of};
+ghost use Rattle.flash_plan.specs.declared.outcome.Entry.{Entry as AnEntry};
+ghost use Rattle.flash_plan.specs.declared.outcome.Entry.TheVariants.{Begun as ItBegun, Complete as ItComplete};
+ghost use Rattle.journal_model.specs.Records.{Label, label_of, records};
+ghost use Rattle.run_model.specs.Script.{AtDone, AtProgram};
+ghost use Rattle.run_model.specs.Sound.{IsSoundDisk};
+ghost use Rattle.thin_journal.specs.Append.{AddsAtMost};
+ghost use Rattle.thin_journal.specs.Entries.{begun_alone, HasBegun, HasBoth, RecordsBoth};
+ghost use Rattle.thin_journal.specs.Later.{IsDiskLater, Stays};
+ghost use Rattle.thin_journal.specs.Make.{IsNew, no_entry};
+ghost use Rattle.thin_engine.specs.Shown.{Goes};
+ghost use Rattle.thin_engine.specs.Stages.{IsFirst, IsFirstPlan, IsStage, place_at, work_left, segment_of};
+ghost use Rattle.thin_engine.specs.Talking.{Run, SoundAt, Fits, Rests, IsRoute, task_of, taken_up, is_begun};
+ghost use Rattle.thin_engine.specs.declared.stage.Stage.TheVariants.{Done as ItIsDone};
+ghost use Rattle.unit_model.specs.Vehicle.{Vehicle};
 
 use crate::asking::{Trouble, activate, ask};
 use crate::judging::{next, sid};
@@ -62,6 +71,10 @@ fn turn<S: Shop>(
     ensures smaller { IfOk result (λ s. work_left (length (segment_of unit.now).body) s < work_left (length (segment_of unit.now).body) stage) }
     ensures stage { IfOk result (IsStage unit.now) }
     ensures outcome { IfErr result IsMidway }
+    ensures goes { IsTrue S.tells_vehicle → (run : Run) (R : AnEntry → Bool) → IsRoute run route.now → task_of run ≡ unit.now → (stage ≡ ItIsDone → ⊥)
+        → Rests run R (place_at unit.now stage) (disk_now (S.history shop.old)) (vehicle_now (S.history shop.old))
+        → Goes (SoundAt run) (S.history shop.old) (S.history shop.new)
+            (IfOk result (λ s. Rests run R (place_at unit.now s) (disk_now (S.history shop.new)) (vehicle_now (S.history shop.new)))) }
 {
     let Ok(request) = request(alloc, unit, stage) else {
         return Err(Outcome::NoMemory);
@@ -84,6 +97,10 @@ fn program<S: Shop>(
     requires accepted { IsAcceptedUnit unit.now }
     ensures later { IsTalkLater (S.history shop.old) (S.history shop.new) }
     ensures outcome { IfErr result IsMidway }
+    ensures goes { IsTrue S.tells_vehicle → (run : Run) (R : AnEntry → Bool) → IsRoute run route.now → task_of run ≡ unit.now
+        → Rests run R AtProgram (disk_now (S.history shop.old)) (vehicle_now (S.history shop.old))
+        → Goes (SoundAt run) (S.history shop.old) (S.history shop.new)
+            (OnOk result (Rests run R AtDone (disk_now (S.history shop.new)) (vehicle_now (S.history shop.new)))) }
 {
     let mut stage = Stage::Program;
     'script: while stage != Stage::Done {
@@ -100,6 +117,8 @@ fn record_begun<S: Shop>(shop: &mut S) -> Result<(), Outcome>
     ensures cause { IfErr result (λ o. HasCause o (S.history shop.old) (S.history shop.new)) }
     ensures begun { OnOk result (IsTrue S.tells_disk → (P : Label) → P.units ≡ 1 → IsNew P (disk_now (S.history shop.old))
         → HasBegun P (disk_now (S.history shop.new))) }
+    ensures any_moment { IsTrue S.tells_disk → (P : Label) → P.units ≡ 1 → IsNew P (disk_now (S.history shop.old))
+        → HoldsThrough (S.history shop.old) (S.history shop.new) (Stays (vehicle_now (S.history shop.old)) (AddsAtMost P no_entry (ItBegun 0))) }
 {
     match begin(shop) {
         Ok(()) => Ok(()),
@@ -114,6 +133,8 @@ fn record_complete<S: Shop>(shop: &mut S) -> Result<(), Outcome>
     ensures cause { IfErr result (λ o. HasCause o (S.history shop.old) (S.history shop.new)) }
     ensures complete { OnOk result (IsTrue S.tells_disk → (P : Label) → P.units ≡ 1 → HasBegun P (disk_now (S.history shop.old))
         → HasBoth P (disk_now (S.history shop.new))) }
+    ensures any_moment { IsTrue S.tells_disk → (P : Label) → P.units ≡ 1 → HasBegun P (disk_now (S.history shop.old))
+        → HoldsThrough (S.history shop.old) (S.history shop.new) (Stays (vehicle_now (S.history shop.old)) (AddsAtMost P begun_alone (ItComplete 0))) }
 {
     match complete(shop) {
         Ok(()) => Ok(()),
@@ -130,6 +151,10 @@ fn run<S: Shop>(alloc: Global, shop: &mut S, tester: u16, unit: &UnitPlan) -> Re
     ensures cause { IfErr result (λ o. HasCause o (S.history shop.old) (S.history shop.new)) }
     ensures complete { OnOk result (IsTrue S.tells_disk → (P : Label) → P.units ≡ 1 → IsNew P (disk_now (S.history shop.old))
         → HasBoth P (disk_now (S.history shop.new))) }
+    ensures sound { IsTrue S.tells_disk → IsTrue S.tells_vehicle → (run : Run) → run.tester ≡ tester → task_of run ≡ unit.now
+        → IsNew (label_of run.plan) (disk_now (S.history shop.old))
+        → Fits run no_entry (taken_up run) (disk_now (S.history shop.old)) (vehicle_now (S.history shop.old))
+        → HoldsWhileShown (S.history shop.old) (S.history shop.new) (SoundAt run) }
 {
     let route = Route {
         tester,
@@ -157,6 +182,12 @@ pub fn drive<S: Shop>(alloc: Global, shop: &mut S, tester: u16, plan: &Plan) -> 
 
     // At Complete, whatever a crash leaves records that the unit is begun and complete, and nothing else.
     ensures recorded { result ≡ Ended.Ran Outcome.Complete → IsTrue S.tells_disk → RecordsBoth (label_of plan.now) (disk_now (S.history shop.new)) }
+
+    // Where at entry the records of whatever a crash leaves fit the vehicle, seen from a vehicle v0, they do at each moment, as long
+    // as each receive was shown; for a journal of length 0, v0 is the vehicle at entry. So it is at each exit, whatever the outcome.
+    ensures sound { IsTrue S.tells_disk → IsTrue S.tells_vehicle → (v0 : Vehicle)
+        → IsSoundDisk plan.now (records (label_of plan.now)) v0 (disk_now (S.history shop.old)) (vehicle_now (S.history shop.old))
+        → HoldsWhileShown (S.history shop.old) (S.history shop.new) (IsSoundDisk plan.now (records (label_of plan.now)) v0) }
     ensures disk { (result ≡ Ended.Disk) ⊎ (result ≡ Ended.Ran Outcome.DiskFault) → Rises (S.history shop.old).disk_faults (S.history shop.new).disk_faults }
 {
     match shop.len() {

@@ -1,41 +1,92 @@
-use Rattle.std.proofs.Common.{rules, ◌≡◌, ◌<◌, ◌≤◌, length, IsTrue, IfOk, IfErr, OnOk, Bool, ℕ, [], drop, is_some, ◌+◌, ◌-◌, ◌*◌, ◌/◌, ◌%◌, true, false, nat_eq, nat_lt, List, ◌∷◌, ◌++◌, slice_index_or, slice_set, bit_and, bit_or, w8, w32, w64, Bor, MutBor}
-use Rattle.doip_frame.specs.Frame.{message_bytes, activate_bytes}
-use Rattle.flash_plan.specs.declared.outcome.Entry.{Entry as AnEntry}
-use Rattle.run_model.specs.Script.{Place, AtBegin, request_at, bytes_at}
+use Rattle.std.proofs.Common.{◌≡◌, ◌∙◌, ap, []}
+use Rattle.doip_frame.specs.Frame.{activate_bytes}
+use Rattle.run_model.specs.Script.{AtBegin}
 use Rattle.shop_model.specs.History.{disk_now, vehicle_now}
 use Rattle.thin_journal.specs.Make.{no_entry}
-use Rattle.thin_engine.specs.declared.reading.Awaited.{Awaited as AnAwaited}
-use Rattle.thin_engine.specs.declared.reading.Awaited.TheVariants.{Answer as ItsAnswer}
-use Rattle.thin_engine.specs.Shown.{Goes}
-use Rattle.thin_engine.specs.Talking.{Run, SoundAt, Fits, Rests, Waits, IsPolled, IsCollected, IsRoute, Delivers, Dials, task_of, taken_up}
-use Rattle.thin_engine.specs.Causes.{IsMidway}
-use Rattle.thin_engine.specs.Later.{IsTalkLater, IsLinkLater}
+use Rattle.thin_engine.specs.Talking.{SoundAt}
+use Rattle.thin_engine.proofs.Going.{goes_then, goes_map}
+use Rattle.thin_engine.proofs.Polling.{accepted}
+use Rattle.thin_engine.proofs.Starts.{dial_goes, ask_goes}
 use Rattle.thin_engine.proofs.asking.activate.Goals as goal
 
--- src/asking.rt:223:9
 pub returns-then-not-dial-clause-goes : goal.returns-then-not-dial-clause-goes
-returns-then-not-dial-clause-goes g c = ?
+returns-then-not-dial-clause-goes g c = λ told run route fits.
+    let h = g.S.Shop.history c.args.shop.now in
+    let h1 = g.S.Shop.history c.dial.new.shop in
+    goes_map (SoundAt run) h h1 _ _ (λ x. tt) (dial_goes run h h1 c.dial.result (g.met.S.Shop.bounded c.args.shop.now) (c.dial.ensures.call told) fits)
 
--- src/asking.rt:226:9
 pub returns-then-not-deliver-clause-goes : goal.returns-then-not-deliver-clause-goes
-returns-then-not-deliver-clause-goes g c = ?
+returns-then-not-deliver-clause-goes g c = λ told run route fits.
+    let h = g.S.Shop.history c.args.shop.now in
+    let h1 = g.S.Shop.history c.dial.new.shop in
+    let h2 = g.S.Shop.history c.deliver.new.shop in
+    let is = c.activation.ensures ∙ ap activate_bytes route.tester in
+    let dialed = dial_goes run h h1 c.dial.result (g.met.S.Shop.bounded c.args.shop.now) (c.dial.ensures.call told) fits in
+    let sent = goes_then (SoundAt run) h h1 h2 _ _ dialed c.deliver.ensures.later.is_later
+        (λ e. ask_goes run c.activation.result h1 h2 c.deliver.result (g.met.S.Shop.bounded c.dial.new.shop) (c.deliver.ensures.call told) is (e c.if-not-dial.false)) in
+    goes_map (SoundAt run) h h2 _ _ (λ x. tt) sent
 
--- src/asking.rt:213:1
 pub returns-in-Ok-clause-goes : goal.returns-in-Ok-clause-goes
-returns-in-Ok-clause-goes g c = ?
+returns-in-Ok-clause-goes g c = λ told run route fits.
+    let h = g.S.Shop.history c.args.shop.now in
+    let h1 = g.S.Shop.history c.dial.new.shop in
+    let h2 = g.S.Shop.history c.deliver.new.shop in
+    let is = c.activation.ensures ∙ ap activate_bytes route.tester in
+    let dialed = dial_goes run h h1 c.dial.result (g.met.S.Shop.bounded c.args.shop.now) (c.dial.ensures.call told) fits in
+    let sent = goes_then (SoundAt run) h h1 h2 _ _ dialed c.deliver.ensures.later.is_later
+        (λ e. ask_goes run c.activation.result h1 h2 c.deliver.result (g.met.S.Shop.bounded c.dial.new.shop) (c.deliver.ensures.call told) is (e c.if-not-dial.false)) in
+    let h3 = g.S.Shop.history c.collect.new.shop in
+    goes_then (SoundAt run) h h2 h3 _ _ sent c.collect.ensures.later.is_later
+    (λ e. goes_map (SoundAt run) h2 h3 _ _ (accepted run no_entry AtBegin (disk_now h3) (vehicle_now h3)) (c.in-Ok.ensures.goes told run no_entry AtBegin route (e c.if-not-deliver.false)))
 
--- src/asking.rt:213:1
 pub returns-in-Err-Denied-clause-goes : goal.returns-in-Err-Denied-clause-goes
-returns-in-Err-Denied-clause-goes g c = ?
+returns-in-Err-Denied-clause-goes g c = λ told run route fits.
+    let h = g.S.Shop.history c.args.shop.now in
+    let h1 = g.S.Shop.history c.dial.new.shop in
+    let h2 = g.S.Shop.history c.deliver.new.shop in
+    let is = c.activation.ensures ∙ ap activate_bytes route.tester in
+    let dialed = dial_goes run h h1 c.dial.result (g.met.S.Shop.bounded c.args.shop.now) (c.dial.ensures.call told) fits in
+    let sent = goes_then (SoundAt run) h h1 h2 _ _ dialed c.deliver.ensures.later.is_later
+        (λ e. ask_goes run c.activation.result h1 h2 c.deliver.result (g.met.S.Shop.bounded c.dial.new.shop) (c.deliver.ensures.call told) is (e c.if-not-dial.false)) in
+    let h3 = g.S.Shop.history c.collect.new.shop in
+    goes_then (SoundAt run) h h2 h3 _ _ sent c.collect.ensures.later.is_later
+    (λ e. goes_map (SoundAt run) h2 h3 _ _ (λ x. tt) (c.collect.ensures.goes told run no_entry AtBegin route (e c.if-not-deliver.false)))
 
--- src/asking.rt:213:1
 pub returns-in-Err-NoMemory-clause-goes : goal.returns-in-Err-NoMemory-clause-goes
-returns-in-Err-NoMemory-clause-goes g c = ?
+returns-in-Err-NoMemory-clause-goes g c = λ told run route fits.
+    let h = g.S.Shop.history c.args.shop.now in
+    let h1 = g.S.Shop.history c.dial.new.shop in
+    let h2 = g.S.Shop.history c.deliver.new.shop in
+    let is = c.activation.ensures ∙ ap activate_bytes route.tester in
+    let dialed = dial_goes run h h1 c.dial.result (g.met.S.Shop.bounded c.args.shop.now) (c.dial.ensures.call told) fits in
+    let sent = goes_then (SoundAt run) h h1 h2 _ _ dialed c.deliver.ensures.later.is_later
+        (λ e. ask_goes run c.activation.result h1 h2 c.deliver.result (g.met.S.Shop.bounded c.dial.new.shop) (c.deliver.ensures.call told) is (e c.if-not-dial.false)) in
+    let h3 = g.S.Shop.history c.collect.new.shop in
+    goes_then (SoundAt run) h h2 h3 _ _ sent c.collect.ensures.later.is_later
+    (λ e. goes_map (SoundAt run) h2 h3 _ _ (λ x. tt) (c.collect.ensures.goes told run no_entry AtBegin route (e c.if-not-deliver.false)))
 
--- src/asking.rt:213:1
 pub returns-in-Err-NoAnswer-clause-goes : goal.returns-in-Err-NoAnswer-clause-goes
-returns-in-Err-NoAnswer-clause-goes g c = ?
+returns-in-Err-NoAnswer-clause-goes g c = λ told run route fits.
+    let h = g.S.Shop.history c.args.shop.now in
+    let h1 = g.S.Shop.history c.dial.new.shop in
+    let h2 = g.S.Shop.history c.deliver.new.shop in
+    let is = c.activation.ensures ∙ ap activate_bytes route.tester in
+    let dialed = dial_goes run h h1 c.dial.result (g.met.S.Shop.bounded c.args.shop.now) (c.dial.ensures.call told) fits in
+    let sent = goes_then (SoundAt run) h h1 h2 _ _ dialed c.deliver.ensures.later.is_later
+        (λ e. ask_goes run c.activation.result h1 h2 c.deliver.result (g.met.S.Shop.bounded c.dial.new.shop) (c.deliver.ensures.call told) is (e c.if-not-dial.false)) in
+    let h3 = g.S.Shop.history c.collect.new.shop in
+    goes_then (SoundAt run) h h2 h3 _ _ sent c.collect.ensures.later.is_later
+    (λ e. goes_map (SoundAt run) h2 h3 _ _ (λ x. tt) (c.collect.ensures.goes told run no_entry AtBegin route (e c.if-not-deliver.false)))
 
--- src/asking.rt:213:1
 pub returns-in-Err-LinkLost-clause-goes : goal.returns-in-Err-LinkLost-clause-goes
-returns-in-Err-LinkLost-clause-goes g c = ?
+returns-in-Err-LinkLost-clause-goes g c = λ told run route fits.
+    let h = g.S.Shop.history c.args.shop.now in
+    let h1 = g.S.Shop.history c.dial.new.shop in
+    let h2 = g.S.Shop.history c.deliver.new.shop in
+    let is = c.activation.ensures ∙ ap activate_bytes route.tester in
+    let dialed = dial_goes run h h1 c.dial.result (g.met.S.Shop.bounded c.args.shop.now) (c.dial.ensures.call told) fits in
+    let sent = goes_then (SoundAt run) h h1 h2 _ _ dialed c.deliver.ensures.later.is_later
+        (λ e. ask_goes run c.activation.result h1 h2 c.deliver.result (g.met.S.Shop.bounded c.dial.new.shop) (c.deliver.ensures.call told) is (e c.if-not-dial.false)) in
+    let h3 = g.S.Shop.history c.collect.new.shop in
+    goes_then (SoundAt run) h h2 h3 _ _ sent c.collect.ensures.later.is_later
+    (λ e. goes_map (SoundAt run) h2 h3 _ _ (λ x. tt) (c.collect.ensures.goes told run no_entry AtBegin route (e c.if-not-deliver.false)))

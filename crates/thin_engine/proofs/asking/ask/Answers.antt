@@ -1,25 +1,30 @@
-use Rattle.std.proofs.Common.{rules, ◌≡◌, ◌<◌, ◌≤◌, length, IsTrue, IfOk, IfErr, OnOk, Bool, ℕ, [], drop, is_some, ◌+◌, ◌-◌, ◌*◌, ◌/◌, ◌%◌, true, false, nat_eq, nat_lt, List, ◌∷◌, ◌++◌, slice_index_or, slice_set, bit_and, bit_or, w8, w32, w64, Bor, MutBor}
-use Rattle.doip_frame.specs.Frame.{message_bytes, activate_bytes}
-use Rattle.flash_plan.specs.declared.outcome.Entry.{Entry as AnEntry}
-use Rattle.run_model.specs.Script.{Place, AtBegin, request_at, bytes_at}
+use Rattle.std.proofs.Common.{◌≡◌, List, ◌∙◌, ℕ}
+use Rattle.doip_frame.specs.Frame.{message_bytes}
+use Rattle.run_model.specs.Script.{bytes_at}
 use Rattle.shop_model.specs.History.{disk_now, vehicle_now}
-use Rattle.thin_journal.specs.Make.{no_entry}
-use Rattle.thin_engine.specs.declared.reading.Awaited.{Awaited as AnAwaited}
-use Rattle.thin_engine.specs.declared.reading.Awaited.TheVariants.{Answer as ItsAnswer}
-use Rattle.thin_engine.specs.Shown.{Goes}
-use Rattle.thin_engine.specs.Talking.{Run, SoundAt, Fits, Rests, Waits, IsPolled, IsCollected, IsRoute, Delivers, Dials, task_of, taken_up}
-use Rattle.thin_engine.specs.Causes.{IsMidway}
-use Rattle.thin_engine.specs.Later.{IsTalkLater, IsLinkLater}
+use Rattle.thin_engine.specs.Talking.{SoundAt, task_of}
+use Rattle.thin_engine.proofs.Going.{goes_same, goes_then, goes_map}
+use Rattle.thin_engine.proofs.Polling.{fits_sound}
+use Rattle.thin_engine.proofs.Starts.{send_goes}
 use Rattle.thin_engine.proofs.asking.ask.Goals as goal
 
--- src/asking.rt:169:9
 pub returns-in_default-clause-goes : goal.returns-in_default-clause-goes
-returns-in_default-clause-goes g c = ?
+returns-in_default-clause-goes g c = λ told run R place route due body rests.
+    let h = g.S.Shop.history c.args.shop.now in
+    goes_same (SoundAt run) h (Unit {0}) (fits_sound run R rests.core (disk_now h) (vehicle_now h) rests.fits) tt
 
--- src/asking.rt:172:9
 pub returns-then-not-deliver-clause-goes : goal.returns-then-not-deliver-clause-goes
-returns-then-not-deliver-clause-goes g c = ?
+returns-then-not-deliver-clause-goes g c = λ told run R place route due body rests.
+    let h = g.S.Shop.history c.args.shop.now in
+    let h1 = g.S.Shop.history c.deliver.new.shop in
+    let is : c.deref.result.now ≡ message_bytes run.tester (task_of run).address (bytes_at (task_of run) place) = c.deref.ensures.value ∙ c.in-Ok.ensures ∙ (λ i. message_bytes (route.tester i) (route.unit i) (body i)) in
+    goes_map (SoundAt run) h h1 _ (Unit {0}) (λ x. tt) (send_goes run R place due c.deref.result.now h h1 c.deliver.result (g.met.S.Shop.bounded c.args.shop.now) (c.deliver.ensures.call told) is rests)
 
--- src/asking.rt:153:1
 pub returns-clause-goes : goal.returns-clause-goes
-returns-clause-goes g c = ?
+returns-clause-goes g c = λ told run R place route due body rests.
+    let h = g.S.Shop.history c.args.shop.now in
+    let h1 = g.S.Shop.history c.deliver.new.shop in
+    let h2 = g.S.Shop.history c.collect.new.shop in
+    let is : c.deref.result.now ≡ message_bytes run.tester (task_of run).address (bytes_at (task_of run) place) = c.deref.ensures.value ∙ c.in-Ok.ensures ∙ (λ i. message_bytes (route.tester i) (route.unit i) (body i)) in
+    goes_then (SoundAt run) h h1 h2 _ _ (send_goes run R place due c.deref.result.now h h1 c.deliver.result (g.met.S.Shop.bounded c.args.shop.now) (c.deliver.ensures.call told) is rests) c.collect.ensures.later.is_later
+    (λ e. c.collect.ensures.goes told run R place route (e c.if-not-deliver.false))
