@@ -1,5 +1,5 @@
 -- The file before a run and while the journal is made: it records nothing.
-use Rattle.std.proofs.Common.{◌≡◌, ◌⊎◌, inl, inr, ℕ, ◌≤◌, true, false, List, [], length, Result, refl, sym, ◌∙◌, ap, subst, arith}
+use Rattle.std.proofs.Common.{◌≡◌, ◌⊎◌, inl, inr, ℕ, ◌≤◌, true, false, List, [], ◌∷◌, length, Result, refl, sym, ◌∙◌, ap, subst, arith}
 use Rattle.std.specs.Prelude.{Bool, ◌==◌, ◌&&◌, ◌||◌, not, nat_le, slice_index}
 use Rattle.std.proofs.lemmas.Bool.{cases_Bool, and_parts, or_cases, leb-true, eqb-true, false≢true}
 use Rattle.disk_model.specs.Disk.{DiskState, IsCrashImage}
@@ -7,17 +7,18 @@ use Rattle.disk_model.specs.declared.device.DeviceFault.{DeviceFault}
 use Rattle.flash_plan.specs.declared.outcome.Entry.{Entry}
 use Rattle.unit_model.specs.Vehicle.{Vehicle}
 use Rattle.shop_model.specs.History.{History, LAST, DiskCall, Len, disk_now, vehicle_now}
-use Rattle.shop_model.specs.Through.{HoldsThrough}
+use Rattle.shop_model.specs.Through.{HoldsThrough, HoldsWhileShown}
 use Rattle.journal_model.specs.Records.{Label, records, label_of, has, slots_of, is_fresh, is_headed, is_standing, says_digest}
 use Rattle.run_model.specs.Sound.{IsSound}
 use Rattle.thin_journal.specs.Later.{Stays}
-use Rattle.thin_journal.specs.Make.{no_entry, IsStart, Starts}
+use Rattle.thin_journal.specs.Make.{no_entry, IsNew, IsStart, Starts}
 use Rattle.thin_journal.proofs.Laters.{disk_later}
 use Rattle.thin_journal.proofs.Made.{fresh_short}
 use Rattle.thin_engine.specs.Shown.{Goes}
-use Rattle.thin_engine.specs.Talking.{Run, SoundAt}
-use Rattle.thin_engine.proofs.Going.{goes_call, stays_goes}
-use Rattle.thin_engine.proofs.Recording.{recorded}
+use Rattle.thin_engine.specs.Talking.{Run, SoundAt, Fits, taken_up}
+use Rattle.thin_engine.proofs.Going.{goes_call, goes_shown, goes_then, shown_goes, stays_goes}
+use Rattle.thin_engine.proofs.Recording.{recorded, settled_covers}
+use Rattle.thin_engine.proofs.Starts.{starts}
 
 -- a file that is not made yet has no open header
 fresh_headless : (image : List ℕ) → is_fresh image ≡ true → is_headed image ≡ false
@@ -71,3 +72,20 @@ module _ (run : Run) where
   -- the journal is made
   pub make_goes : (old new : History) → HoldsThrough old new (Stays (vehicle_now old) (Starts label)) → IsSound run.plan no_entry (vehicle_now old) run.v0 → Goes (SoundAt run) old new (Unit {0})
   make_goes old new through sound = stays_goes (SoundAt run) (Starts label) (vehicle_now old) old new (Unit {0}) through (starts_sound (vehicle_now old) sound) tt
+
+  pub opens : {T : Type 0} (h0 h1 h2 : History) (r : Result T DeviceFault) → h0.moment ≤ LAST → DiskCall Len h0 h1 r → disk_now h1 ≡ disk_now h0 → HoldsThrough h1 h2 (Stays (vehicle_now h1) (Starts label)) → IsSound run.plan no_entry (vehicle_now h1) run.v0
+      → SoundAt run (disk_now h0) (vehicle_now h0) → Goes (SoundAt run) h0 h2 (Unit {0})
+  opens h0 h1 h2 r bounded call same through sound before = goes_then (SoundAt run) h0 h1 h2 (Unit {0}) (Unit {0}) (len_goes h0 h1 r bounded call same before) through.is_later (λ x. make_goes h1 h2 through sound)
+
+  pub then_runs : (h0 h2 h3 : History) → Goes (SoundAt run) h0 h2 (Unit {0}) → HoldsWhileShown h2 h3 (SoundAt run) → HoldsWhileShown h0 h3 (SoundAt run)
+  then_runs h0 h2 h3 first second = goes_shown (SoundAt run) h0 h3 (Unit {0}) (goes_then (SoundAt run) h0 h2 h3 (Unit {0}) (Unit {0}) first second.is_later (λ x. shown_goes (SoundAt run) h2 h3 second))
+
+  pub new_fits : (d : DiskState) (v : Vehicle) → IsNew label d → run.t0 ≡ v.gateway.tick → IsSound run.plan no_entry v run.v0 → Fits run no_entry (taken_up run) d v
+  new_fits d v new tick sound = starts run d v tick (settled_covers run no_entry no_entry d new.settled new.records (λ e. refl)) sound
+
+  pub same_sound : (v w : Vehicle) → w ≡ v → IsSound run.plan no_entry v run.v0 → IsSound run.plan no_entry w run.v0
+  same_sound v w is sound = subst (λ (x : Vehicle). IsSound run.plan no_entry x run.v0) (sym is) sound
+
+pub empty_of : (xs : List ℕ) → length xs ≡ 0 → xs ≡ []
+empty_of [] e = refl
+empty_of (x ∷ xs) e = absurd (omega (arith, e))

@@ -1,6 +1,6 @@
 -- A receive that was shown is an event of the run.
 use Rattle.std.proofs.Common.{◌≡◌, ◌⊎◌, inl, inr, ℕ, zero, suc, ◌+◌, ◌<◌, ◌≤◌, true, false, List, [], ◌∷◌, ◌++◌, length, take, drop, Result, Ok, Err, refl, sym, ◌∙◌, ap, subst, arith, length-append, length-take}
-use Rattle.std.specs.Prelude.{Bool, IfOk, IsErr, Vec}
+use Rattle.std.specs.Prelude.{Bool, IfOk, IsErr, Vec, is_some}
 use Rattle.std.specs.declared.alloc.Global.{Global}
 use Rattle.std.proofs.lemmas.Bool.{false≢true}
 use Rattle.disk_model.specs.Disk.{DiskState, IsCrashImage}
@@ -15,8 +15,9 @@ use Rattle.shop_model.specs.History.{History, LAST, IsPiece, LinkCall, Receive, 
 use Rattle.shop_model.specs.Through.{IsShownReceive}
 use Rattle.doip_frame.specs.Frame.{stream_of}
 use Rattle.uds_codec.specs.Answer.{Good, judge}
+use Rattle.flash_plan.specs.declared.outcome.Outcome.{Outcome}
 use Rattle.flash_plan.specs.declared.unit.UnitPlan.{UnitPlan}
-use Rattle.run_model.specs.Script.{Place, AtBegin, bytes_at, place_next}
+use Rattle.run_model.specs.Script.{Place, AtBegin, request_at, bytes_at, place_next}
 use Rattle.run_model.specs.Sound.{IsSound}
 use Rattle.bay_core.proofs.OneStep.{step_law}
 use Rattle.bay_core.specs.Core.{Core, core_after}
@@ -38,6 +39,7 @@ use Rattle.thin_engine.specs.declared.reading.Reading.TheVariants.{Waiting, Answ
 use Rattle.thin_engine.specs.Leads.{LeadsTo}
 use Rattle.thin_engine.specs.Stages.{place_at}
 use Rattle.thin_engine.specs.declared.stage.Stage.{Stage}
+use Rattle.thin_engine.specs.declared.stage.Stage.TheVariants.{Program, Erase, Download, Block, Exit, Check, Finish, Reset, Done}
 use Rattle.thin_engine.specs.Talking.{Run, SoundAt, Covers, Fits, Rests, Stands, Waits, Hears, HasAccepting, HasAnswer, HasCome, IsCollected, Polls, event_of, task_of}
 use Rattle.thin_engine.specs.Shown.{Goes}
 use Rattle.thin_engine.proofs.Going.{goes_call}
@@ -194,3 +196,21 @@ module _ (awaited : Awaited) (run : Run) (R : Entry → Bool) (place : Place) (g
       → (piece : List ℕ) × (now ≡ got ++ piece) × Hears awaited run R place got quiet (heard.Piece piece) d v → IsCollected r awaited run R place d v
   collected t u from seen seen2 now (Ok body) st su ss s2 read is has = came from now body.items (of_run t u seen now (Answered from) st su ss read) (is ∙ ap (drop from) s2) has
   collected t u from seen seen2 now (Err e) st su ss s2 read is has = tt
+
+-- a request is due at each stage but the last
+pub due_at : (u w : UnitPlan) (stage : Stage) → (stage ≡ Done → ⊥) → is_some (request_at u (place_at w stage)) ≡ true
+due_at u w Program isnt = refl
+due_at u w Erase isnt = refl
+due_at u w Download isnt = refl
+due_at u w (Block sent counter limit) isnt = refl
+due_at u w Exit isnt = refl
+due_at u w Check isnt = refl
+due_at u w Finish isnt = refl
+due_at u w Reset isnt = refl
+due_at u w Done isnt = absurd (isnt refl)
+
+-- whatever is made of an answer, if it leads on it leads to the next stage
+pub judged : (run : Run) (R : Entry → Bool) (u : UnitPlan) (stage : Stage) (seen body : List ℕ) (d : DiskState) (v : Vehicle) (r : Result Stage Outcome) → task_of run ≡ u → seen ≡ body → IfOk r (LeadsTo u stage seen) → HasAnswer run R (place_at u stage) body d v
+    → IfOk r (λ s. Rests run R (place_at u s) d v)
+judged run R u stage seen body d v (Ok next) is same leads has = answered run R u stage next body d v is (subst (λ (xs : List ℕ). LeadsTo u stage xs next) same leads) has
+judged run R u stage seen body d v (Err e) is same leads has = tt

@@ -5,6 +5,7 @@ pub mod Leads
 pub mod Look
 pub mod Reading
 pub mod Shown
+pub mod Sounding
 pub mod Stages
 pub mod Standing
 pub mod Talking

@@ -7,18 +7,17 @@ ghost use Rattle.thin_engine.specs.Later.{IsTalkLater, IsUnchanged};
 ghost use Rattle.thin_engine.specs.Causes.{IsMidway, HasCause};
 ghost use Rattle.flash_plan.specs.declared.outcome.Entry.{Entry as AnEntry};
 ghost use Rattle.flash_plan.specs.declared.outcome.Entry.TheVariants.{Begun as ItBegun, Complete as ItComplete};
-ghost use Rattle.journal_model.specs.Records.{Label, label_of, records};
+ghost use Rattle.journal_model.specs.Records.{Label, label_of};
 ghost use Rattle.run_model.specs.Script.{AtDone, AtProgram};
-ghost use Rattle.run_model.specs.Sound.{IsSoundDisk};
 ghost use Rattle.thin_journal.specs.Append.{AddsAtMost};
 ghost use Rattle.thin_journal.specs.Entries.{begun_alone, HasBegun, HasBoth, RecordsBoth};
 ghost use Rattle.thin_journal.specs.Later.{IsDiskLater, Stays};
 ghost use Rattle.thin_journal.specs.Make.{IsNew, no_entry};
 ghost use Rattle.thin_engine.specs.Shown.{Goes};
+ghost use Rattle.thin_engine.specs.Sounding.{KeepsSound};
 ghost use Rattle.thin_engine.specs.Stages.{IsFirst, IsFirstPlan, IsStage, place_at, work_left, segment_of};
 ghost use Rattle.thin_engine.specs.Talking.{Run, SoundAt, Fits, Rests, IsRoute, task_of, taken_up, is_begun};
 ghost use Rattle.thin_engine.specs.declared.stage.Stage.TheVariants.{Done as ItIsDone};
-ghost use Rattle.unit_model.specs.Vehicle.{Vehicle};
 
 use crate::asking::{Trouble, activate, ask};
 use crate::judging::{next, sid};
@@ -185,9 +184,7 @@ pub fn drive<S: Shop>(alloc: Global, shop: &mut S, tester: u16, plan: &Plan) -> 
 
     // Where at entry the records of whatever a crash leaves fit the vehicle, seen from a vehicle v0, they do at each moment, as long
     // as each receive was shown; for a journal of length 0, v0 is the vehicle at entry. So it is at each exit, whatever the outcome.
-    ensures sound { IsTrue S.tells_disk → IsTrue S.tells_vehicle → (v0 : Vehicle)
-        → IsSoundDisk plan.now (records (label_of plan.now)) v0 (disk_now (S.history shop.old)) (vehicle_now (S.history shop.old))
-        → HoldsWhileShown (S.history shop.old) (S.history shop.new) (IsSoundDisk plan.now (records (label_of plan.now)) v0) }
+    ensures sound { IsTrue S.tells_disk → IsTrue S.tells_vehicle → KeepsSound plan.now (S.history shop.old) (S.history shop.new) }
     ensures disk { (result ≡ Ended.Disk) ⊎ (result ≡ Ended.Ran Outcome.DiskFault) → Rises (S.history shop.old).disk_faults (S.history shop.new).disk_faults }
 {
     match shop.len() {
