@@ -5,6 +5,7 @@ use Rattle.std.proofs.lemmas.Bool.{cases_Bool, and_parts, or_cases, leb-true, eq
 use Rattle.disk_model.specs.Disk.{DiskState, IsCrashImage}
 use Rattle.disk_model.specs.declared.device.DeviceFault.{DeviceFault}
 use Rattle.flash_plan.specs.declared.outcome.Entry.{Entry}
+use Rattle.flash_plan.specs.declared.outcome.Entry.TheVariants.{Begun, Complete}
 use Rattle.unit_model.specs.Vehicle.{Vehicle}
 use Rattle.shop_model.specs.History.{History, LAST, DiskCall, Len, disk_now, vehicle_now}
 use Rattle.shop_model.specs.Through.{HoldsThrough, HoldsWhileShown}
@@ -15,6 +16,7 @@ use Rattle.thin_journal.specs.Make.{no_entry, IsNew, IsStart, Starts}
 use Rattle.thin_journal.proofs.Laters.{disk_later}
 use Rattle.thin_journal.proofs.Made.{fresh_short}
 use Rattle.thin_engine.specs.Shown.{Goes}
+use Rattle.thin_engine.specs.Sounding.{EmptyLaw}
 use Rattle.thin_engine.specs.Talking.{Run, SoundAt, Fits, taken_up}
 use Rattle.thin_engine.proofs.Going.{goes_call, goes_shown, goes_then, shown_goes, stays_goes}
 use Rattle.thin_engine.proofs.Recording.{recorded, settled_covers}
@@ -89,3 +91,15 @@ module _ (run : Run) where
 pub empty_of : (xs : List ℕ) → length xs ≡ 0 → xs ≡ []
 empty_of [] e = refl
 empty_of (x ∷ xs) e = absurd (omega (arith, e))
+
+pub empty_law : EmptyLaw
+empty_law P disk v none image left n lt = record {
+  outside = λ a out. refl;
+  complete = λ done. absurd (nothing (Complete n) done);
+  untouched = λ isnt a. refl;
+  ordered = λ begun. absurd (nothing (Begun n) begun);
+  waits = λ isnt. omega arith;
+}
+  where
+    nothing : (e : Entry) → records (label_of P) image e ≡ true → ⊥
+    nothing e is = false≢true (sym (start_none (label_of P) image (empty_starts (label_of P) disk none image left) e) ∙ is)
