@@ -76,7 +76,7 @@ module _ (tester unit : ℕ) where
     heard_still got rest before now =
         ap (λ (r : List ℕ). see_stream tester units (stream_of (r ++ piece)) piece l) rest
         ∙ still_seen (stream_of ((stream_of got).rest ++ piece)) (bad_is got before.good now.good)
-            (still_new (stream_of got).frames (stream_of ((stream_of got).rest ++ piece)).frames before.frames (subst (IsStill tester unit) (sym (frames_are got before.good)) now.frames))
+        (still_new (stream_of got).frames (stream_of ((stream_of got).rest ++ piece)).frames before.frames (subst (IsStill tester unit) (sym (frames_are got before.good)) now.frames))
         ∙ ap (λ (r : List ℕ). record l { got = l.got ++ piece; rest = r }) (sym (rest_is got before.good))
 
 -- the link with the message
@@ -97,7 +97,7 @@ module _ (tester unit : ℕ) (units : List ℕ) (is_there : is_known units unit 
   heard_it got rest before now =
       ap (λ (r : List ℕ). see_stream tester units (stream_of (r ++ piece)) piece l) rest
       ∙ seen_it (stream_of ((stream_of got).rest ++ piece)) now.code now.old (bad_is tester unit units piece l got before.good now.good)
-          (answer_new tester unit (stream_of got).frames (stream_of ((stream_of got).rest ++ piece)).frames now.code now.old body before.frames (frames_are tester unit units piece l got before.good ∙ now.frames))
+      (answer_new tester unit (stream_of got).frames (stream_of ((stream_of got).rest ++ piece)).frames now.code now.old body before.frames (frames_are tester unit units piece l got before.good ∙ now.frames))
       ∙ ap (λ (r : List ℕ). record l { got = l.got ++ piece; rest = r; inbox = l.inbox ++ ((unit, Reply body) ∷ []) }) (sym (rest_is tester unit units piece l got before.good) ∙ now.rest)
 
 -- the link with the answer that accepts the activation
@@ -190,7 +190,7 @@ module _ (tester : ℕ) (P : List UnitPlan) (one : count_of P ≡ 1) (R : Entry 
       let none : first_word a (hear_piece tester (addresses_of P) piece c.link).inbox ≡ None = ap (λ (x : Link). first_word a x.inbox) heard ∙ ap (first_word a) w.taken.inbox in
       let up : (link_after (rules_of tester) P (Collected 0 (Piece piece)) c.link).phase ≡ Up = ap (λ (x : Link). (take_word a x).phase) heard ∙ w.up in
       let slot : (after (Collected 0 (Piece piece))).slots 0 ≡ c.slots 0 = own_slot (Collected 0 (Piece piece)) w.taken.losses losses
-          ∙ ap (λ (o : Option Spoken). record (c.slots 0) { talk = talk_takes u c.link.ticks o (c.slots 0).talk }) none in
+      ∙ ap (λ (o : Option Spoken). record (c.slots 0) { talk = talk_takes u c.link.ticks o (c.slots 0).talk }) none in
       record {
         taken = record {
           recorded = w.taken.recorded;
@@ -217,7 +217,7 @@ module _ (tester : ℕ) (P : List UnitPlan) (one : count_of P ≡ 1) (R : Entry 
       let up : (link_after (rules_of tester) P (Collected 0 Quiet) c.link).phase ≡ Up = ap (λ (x : Link). x.phase) quiet_is ∙ w.up in
       let soon : nat_le ((c.slots 0).talk.since + 1000) (c.link.ticks + 1) ≡ false = lt-leb _ _ (omega (arith, w.since, few)) in
       let slot : (after (Collected 0 Quiet)).slots 0 ≡ c.slots 0 = own_slot (Collected 0 Quiet) w.taken.losses losses
-          ∙ ap (λ (b : Bool). record (c.slots 0) { talk = if b then end_talk (NoAnswer (sid_at u (c.slots 0).talk)) (c.slots 0).talk else (c.slots 0).talk }) soon in
+      ∙ ap (λ (b : Bool). record (c.slots 0) { talk = if b then end_talk (NoAnswer (sid_at u (c.slots 0).talk)) (c.slots 0).talk else (c.slots 0).talk }) soon in
       record {
         taken = record {
           recorded = w.taken.recorded;
@@ -258,8 +258,8 @@ module _ (tester : ℕ) (P : List UnitPlan) (one : count_of P ≡ 1) (R : Entry 
       let up : (link_after (rules_of tester) P (Collected 0 (Piece piece)) c.link).phase ≡ Up = ap (λ (x : Link). (take_word a x).phase) heard in
       let verdict : judge (bytes_at u (c.slots 0).talk.place) body ≡ Good rest = ap (λ (q : Place). judge (bytes_at u q) body) w.place_is ∙ good in
       let slot : (after (Collected 0 (Piece piece))).slots 0 ≡ record (c.slots 0) { talk = talk_final u (Good rest) (c.slots 0).talk } = own_slot (Collected 0 (Piece piece)) w.taken.losses losses
-          ∙ ap (λ (o : Option Spoken). record (c.slots 0) { talk = talk_takes u c.link.ticks o (c.slots 0).talk }) word
-          ∙ ap (λ (x : Verdict). record (c.slots 0) { talk = talk_judged u c.link.ticks x (c.slots 0).talk }) verdict in
+      ∙ ap (λ (o : Option Spoken). record (c.slots 0) { talk = talk_takes u c.link.ticks o (c.slots 0).talk }) word
+      ∙ ap (λ (x : Verdict). record (c.slots 0) { talk = talk_judged u c.link.ticks x (c.slots 0).talk }) verdict in
       record {
         taken = record {
           recorded = w.taken.recorded;

@@ -46,7 +46,7 @@ fn poll<S: Shop>(shop: &mut S, got: &mut Vec<u8>) -> Polled
     ensures goes { IsTrue S.tells_vehicle → (awaited : AnAwaited) (run : Run) (R : AnEntry → Bool) (place : Place) (quiet : ℕ)
         → Waits awaited run R place got.old.items quiet (disk_now (S.history shop.old)) (vehicle_now (S.history shop.old))
         → Goes (SoundAt run) (S.history shop.old) (S.history shop.new)
-            (IsPolled awaited run R place got.old.items quiet got.new.items (disk_now (S.history shop.new)) (vehicle_now (S.history shop.new)) result) }
+        (IsPolled awaited run R place got.old.items quiet got.new.items (disk_now (S.history shop.new)) (vehicle_now (S.history shop.new)) result) }
 {
     let mut out = [0u8; 4096];
     match shop.receive(&mut out) {
@@ -81,7 +81,7 @@ fn collect<S: Shop>(
     ensures goes { IsTrue S.tells_vehicle → (run : Run) (R : AnEntry → Bool) (place : Place) → IsRoute run route.now
         → Waits awaited run R place [] 0 (disk_now (S.history shop.old)) (vehicle_now (S.history shop.old))
         → Goes (SoundAt run) (S.history shop.old) (S.history shop.new)
-            (IsCollected result awaited run R place (disk_now (S.history shop.new)) (vehicle_now (S.history shop.new))) }
+        (IsCollected result awaited run R place (disk_now (S.history shop.new)) (vehicle_now (S.history shop.new))) }
 {
     let mut got = Vec::new(alloc);
     let mut quiet = 0;
@@ -163,7 +163,7 @@ pub fn ask<S: Shop>(
         → IsTrue (is_some (request_at (task_of run) place)) → body.now ≡ bytes_at (task_of run) place
         → Rests run R place (disk_now (S.history shop.old)) (vehicle_now (S.history shop.old))
         → Goes (SoundAt run) (S.history shop.old) (S.history shop.new)
-            (IsCollected result ItsAnswer run R place (disk_now (S.history shop.new)) (vehicle_now (S.history shop.new))) }
+        (IsCollected result ItsAnswer run R place (disk_now (S.history shop.new)) (vehicle_now (S.history shop.new))) }
 {
     let Ok(frame) = message(alloc, route, body) else {
         return Err(Trouble::NoMemory);
@@ -217,7 +217,7 @@ pub fn activate<S: Shop>(alloc: Global, shop: &mut S, route: &Route) -> Result<(
     ensures goes { IsTrue S.tells_vehicle → (run : Run) → IsRoute run route.now
         → Fits run no_entry (taken_up run) (disk_now (S.history shop.old)) (vehicle_now (S.history shop.old))
         → Goes (SoundAt run) (S.history shop.old) (S.history shop.new)
-            (OnOk result (Rests run no_entry AtBegin (disk_now (S.history shop.new)) (vehicle_now (S.history shop.new)))) }
+        (OnOk result (Rests run no_entry AtBegin (disk_now (S.history shop.new)) (vehicle_now (S.history shop.new)))) }
 {
     if !dial(shop) {
         return Err(Outcome::LinkLost { times: 1 });

@@ -73,7 +73,7 @@ fn turn<S: Shop>(
     ensures goes { IsTrue S.tells_vehicle → (run : Run) (R : AnEntry → Bool) → IsRoute run route.now → task_of run ≡ unit.now → (stage ≡ ItIsDone → ⊥)
         → Rests run R (place_at unit.now stage) (disk_now (S.history shop.old)) (vehicle_now (S.history shop.old))
         → Goes (SoundAt run) (S.history shop.old) (S.history shop.new)
-            (IfOk result (λ s. Rests run R (place_at unit.now s) (disk_now (S.history shop.new)) (vehicle_now (S.history shop.new)))) }
+        (IfOk result (λ s. Rests run R (place_at unit.now s) (disk_now (S.history shop.new)) (vehicle_now (S.history shop.new)))) }
 {
     let Ok(request) = request(alloc, unit, stage) else {
         return Err(Outcome::NoMemory);
@@ -99,7 +99,7 @@ fn program<S: Shop>(
     ensures goes { IsTrue S.tells_vehicle → (run : Run) (R : AnEntry → Bool) → IsRoute run route.now → task_of run ≡ unit.now
         → Rests run R AtProgram (disk_now (S.history shop.old)) (vehicle_now (S.history shop.old))
         → Goes (SoundAt run) (S.history shop.old) (S.history shop.new)
-            (OnOk result (Rests run R AtDone (disk_now (S.history shop.new)) (vehicle_now (S.history shop.new)))) }
+        (OnOk result (Rests run R AtDone (disk_now (S.history shop.new)) (vehicle_now (S.history shop.new)))) }
 {
     let mut stage = Stage::Program;
     'script: while stage != Stage::Done {

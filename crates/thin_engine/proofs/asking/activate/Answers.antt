@@ -23,7 +23,7 @@ returns-then-not-deliver-clause-goes g c = λ told run route fits.
     let is = c.activation.ensures ∙ ap activate_bytes route.tester in
     let dialed = dial_goes run h h1 c.dial.result (g.met.S.Shop.bounded c.args.shop.now) (c.dial.ensures.call told) fits in
     let sent = goes_then (SoundAt run) h h1 h2 _ _ dialed c.deliver.ensures.later.is_later
-        (λ e. ask_goes run c.activation.result h1 h2 c.deliver.result (g.met.S.Shop.bounded c.dial.new.shop) (c.deliver.ensures.call told) is (e c.if-not-dial.false)) in
+    (λ e. ask_goes run c.activation.result h1 h2 c.deliver.result (g.met.S.Shop.bounded c.dial.new.shop) (c.deliver.ensures.call told) is (e c.if-not-dial.false)) in
     goes_map (SoundAt run) h h2 _ _ (λ x. tt) sent
 
 pub returns-in-Ok-clause-goes : goal.returns-in-Ok-clause-goes
@@ -34,7 +34,7 @@ returns-in-Ok-clause-goes g c = λ told run route fits.
     let is = c.activation.ensures ∙ ap activate_bytes route.tester in
     let dialed = dial_goes run h h1 c.dial.result (g.met.S.Shop.bounded c.args.shop.now) (c.dial.ensures.call told) fits in
     let sent = goes_then (SoundAt run) h h1 h2 _ _ dialed c.deliver.ensures.later.is_later
-        (λ e. ask_goes run c.activation.result h1 h2 c.deliver.result (g.met.S.Shop.bounded c.dial.new.shop) (c.deliver.ensures.call told) is (e c.if-not-dial.false)) in
+    (λ e. ask_goes run c.activation.result h1 h2 c.deliver.result (g.met.S.Shop.bounded c.dial.new.shop) (c.deliver.ensures.call told) is (e c.if-not-dial.false)) in
     let h3 = g.S.Shop.history c.collect.new.shop in
     goes_then (SoundAt run) h h2 h3 _ _ sent c.collect.ensures.later.is_later
     (λ e. goes_map (SoundAt run) h2 h3 _ _ (accepted run no_entry AtBegin (disk_now h3) (vehicle_now h3)) (c.in-Ok.ensures.goes told run no_entry AtBegin route (e c.if-not-deliver.false)))
@@ -47,7 +47,7 @@ returns-in-Err-Denied-clause-goes g c = λ told run route fits.
     let is = c.activation.ensures ∙ ap activate_bytes route.tester in
     let dialed = dial_goes run h h1 c.dial.result (g.met.S.Shop.bounded c.args.shop.now) (c.dial.ensures.call told) fits in
     let sent = goes_then (SoundAt run) h h1 h2 _ _ dialed c.deliver.ensures.later.is_later
-        (λ e. ask_goes run c.activation.result h1 h2 c.deliver.result (g.met.S.Shop.bounded c.dial.new.shop) (c.deliver.ensures.call told) is (e c.if-not-dial.false)) in
+    (λ e. ask_goes run c.activation.result h1 h2 c.deliver.result (g.met.S.Shop.bounded c.dial.new.shop) (c.deliver.ensures.call told) is (e c.if-not-dial.false)) in
     let h3 = g.S.Shop.history c.collect.new.shop in
     goes_then (SoundAt run) h h2 h3 _ _ sent c.collect.ensures.later.is_later
     (λ e. goes_map (SoundAt run) h2 h3 _ _ (λ x. tt) (c.collect.ensures.goes told run no_entry AtBegin route (e c.if-not-deliver.false)))
@@ -60,7 +60,7 @@ returns-in-Err-NoMemory-clause-goes g c = λ told run route fits.
     let is = c.activation.ensures ∙ ap activate_bytes route.tester in
     let dialed = dial_goes run h h1 c.dial.result (g.met.S.Shop.bounded c.args.shop.now) (c.dial.ensures.call told) fits in
     let sent = goes_then (SoundAt run) h h1 h2 _ _ dialed c.deliver.ensures.later.is_later
-        (λ e. ask_goes run c.activation.result h1 h2 c.deliver.result (g.met.S.Shop.bounded c.dial.new.shop) (c.deliver.ensures.call told) is (e c.if-not-dial.false)) in
+    (λ e. ask_goes run c.activation.result h1 h2 c.deliver.result (g.met.S.Shop.bounded c.dial.new.shop) (c.deliver.ensures.call told) is (e c.if-not-dial.false)) in
     let h3 = g.S.Shop.history c.collect.new.shop in
     goes_then (SoundAt run) h h2 h3 _ _ sent c.collect.ensures.later.is_later
     (λ e. goes_map (SoundAt run) h2 h3 _ _ (λ x. tt) (c.collect.ensures.goes told run no_entry AtBegin route (e c.if-not-deliver.false)))
@@ -73,7 +73,7 @@ returns-in-Err-NoAnswer-clause-goes g c = λ told run route fits.
     let is = c.activation.ensures ∙ ap activate_bytes route.tester in
     let dialed = dial_goes run h h1 c.dial.result (g.met.S.Shop.bounded c.args.shop.now) (c.dial.ensures.call told) fits in
     let sent = goes_then (SoundAt run) h h1 h2 _ _ dialed c.deliver.ensures.later.is_later
-        (λ e. ask_goes run c.activation.result h1 h2 c.deliver.result (g.met.S.Shop.bounded c.dial.new.shop) (c.deliver.ensures.call told) is (e c.if-not-dial.false)) in
+    (λ e. ask_goes run c.activation.result h1 h2 c.deliver.result (g.met.S.Shop.bounded c.dial.new.shop) (c.deliver.ensures.call told) is (e c.if-not-dial.false)) in
     let h3 = g.S.Shop.history c.collect.new.shop in
     goes_then (SoundAt run) h h2 h3 _ _ sent c.collect.ensures.later.is_later
     (λ e. goes_map (SoundAt run) h2 h3 _ _ (λ x. tt) (c.collect.ensures.goes told run no_entry AtBegin route (e c.if-not-deliver.false)))
@@ -86,7 +86,7 @@ returns-in-Err-LinkLost-clause-goes g c = λ told run route fits.
     let is = c.activation.ensures ∙ ap activate_bytes route.tester in
     let dialed = dial_goes run h h1 c.dial.result (g.met.S.Shop.bounded c.args.shop.now) (c.dial.ensures.call told) fits in
     let sent = goes_then (SoundAt run) h h1 h2 _ _ dialed c.deliver.ensures.later.is_later
-        (λ e. ask_goes run c.activation.result h1 h2 c.deliver.result (g.met.S.Shop.bounded c.dial.new.shop) (c.deliver.ensures.call told) is (e c.if-not-dial.false)) in
+    (λ e. ask_goes run c.activation.result h1 h2 c.deliver.result (g.met.S.Shop.bounded c.dial.new.shop) (c.deliver.ensures.call told) is (e c.if-not-dial.false)) in
     let h3 = g.S.Shop.history c.collect.new.shop in
     goes_then (SoundAt run) h h2 h3 _ _ sent c.collect.ensures.later.is_later
     (λ e. goes_map (SoundAt run) h2 h3 _ _ (λ x. tt) (c.collect.ensures.goes told run no_entry AtBegin route (e c.if-not-deliver.false)))

@@ -38,9 +38,9 @@ returns-in-Answered-clause-goes g c = λ told run R place route waits.
     let h2 = g.S.Shop.history c.poll.new.shop in
     goes_then (SoundAt run) _ _ _ _ _ (c.loop.invariant.goes told run R place route waits) c.poll.ensures.later.is_later
     (λ w. goes_map (SoundAt run) _ _ _ _
-      (λ has. collected c.args.awaited run R place c.loop.got.items c.loop.quiet (disk_now h2) (vehicle_now h2) c.args.route.now.tester c.args.route.now.unit c.in-Answered.from c.deref.result.now c.deref-in-Answered.result.now c.poll.new.got.items c.part.result
-        route.tester route.unit c.deref.ensures.value c.deref-in-Answered.ensures.value c.in-Answered.ensures.read c.part.ensures has)
-      (c.in-Piece.ensures.goes told c.args.awaited run R place c.loop.quiet w))
+    (λ has. collected c.args.awaited run R place c.loop.got.items c.loop.quiet (disk_now h2) (vehicle_now h2) c.args.route.now.tester c.args.route.now.unit c.in-Answered.from c.deref.result.now c.deref-in-Answered.result.now c.poll.new.got.items c.part.result
+    route.tester route.unit c.deref.ensures.value c.deref-in-Answered.ensures.value c.in-Answered.ensures.read c.part.ensures has)
+    (c.in-Piece.ensures.goes told c.args.awaited run R place c.loop.quiet w))
 
 pub returns-in-Lost-clause-goes : goal.returns-in-Lost-clause-goes
 returns-in-Lost-clause-goes g c = λ told run R place route waits.
@@ -65,8 +65,8 @@ loop-preserved g c =
             goes = λ told run R place route waits.
                 goes_then (SoundAt run) _ _ _ _ _ (c.loop.invariant.goes told run R place route waits) c.poll.ensures.later.is_later
                 (λ x. goes_map (SoundAt run) _ _ _ _
-                  (λ has. keeps_quiet c.args.awaited run R place c.loop.got.items c.loop.quiet (disk_now h2) (vehicle_now h2) c.poll.new.got.items c.match-poll.quiet has.0 w.quiet-is few has.1)
-                  (w.in-Quiet.ensures.goes told c.args.awaited run R place c.loop.quiet x));
+                (λ has. keeps_quiet c.args.awaited run R place c.loop.got.items c.loop.quiet (disk_now h2) (vehicle_now h2) c.poll.new.got.items c.match-poll.quiet has.0 w.quiet-is few has.1)
+                (w.in-Quiet.ensures.goes told c.args.awaited run R place c.loop.quiet x));
           }
       | in-Piece+in-Waiting w ↦ record {
         patient = omega (arith, c.loop.invariant.patient, w.quiet-is);
@@ -74,9 +74,9 @@ loop-preserved g c =
         goes = λ told run R place route waits.
             goes_then (SoundAt run) _ _ _ _ _ (c.loop.invariant.goes told run R place route waits) c.poll.ensures.later.is_later
             (λ x. goes_map (SoundAt run) _ _ _ _
-              (λ has. keeps_piece c.args.awaited run R place c.loop.got.items c.loop.quiet (disk_now h2) (vehicle_now h2) c.args.route.now.tester c.args.route.now.unit w.deref.result.now c.poll.new.got.items c.match-poll.quiet
-                route.tester route.unit w.deref.ensures.value w.quiet-is w.in-Waiting.ensures.read has)
-              (w.in-Piece.ensures.goes told c.args.awaited run R place c.loop.quiet x));
+            (λ has. keeps_piece c.args.awaited run R place c.loop.got.items c.loop.quiet (disk_now h2) (vehicle_now h2) c.args.route.now.tester c.args.route.now.unit w.deref.result.now c.poll.new.got.items c.match-poll.quiet
+            route.tester route.unit w.deref.ensures.value w.quiet-is w.in-Waiting.ensures.read has)
+            (w.in-Piece.ensures.goes told c.args.awaited run R place c.loop.quiet x));
       }
     ]
 

@@ -13,6 +13,6 @@ invariant-loop g l = record {
   patient : l.quiet < 1000;
   later : IsTalkLater (g.S.Shop.history l.initial.shop) (g.S.Shop.history l.shop);
   goes : IsTrue g.S.Shop.tells_vehicle → (run : Run) (R : Entry → Bool) (place : Place) → IsRoute run l.route
-  → Waits l.awaited run R place [] 0 (disk_now (g.S.Shop.history l.initial.shop)) (vehicle_now (g.S.Shop.history l.initial.shop))
-  → Goes (SoundAt run) (g.S.Shop.history l.initial.shop) (g.S.Shop.history l.shop) (Waits l.awaited run R place l.got.items l.quiet (disk_now (g.S.Shop.history l.shop)) (vehicle_now (g.S.Shop.history l.shop)))
+      → Waits l.awaited run R place [] 0 (disk_now (g.S.Shop.history l.initial.shop)) (vehicle_now (g.S.Shop.history l.initial.shop))
+      → Goes (SoundAt run) (g.S.Shop.history l.initial.shop) (g.S.Shop.history l.shop) (Waits l.awaited run R place l.got.items l.quiet (disk_now (g.S.Shop.history l.shop)) (vehicle_now (g.S.Shop.history l.shop)));
 }

@@ -14,8 +14,8 @@ invariant-script g l = record {
   later : IsTalkLater (g.S.Shop.history l.initial.shop) (g.S.Shop.history l.shop);
   stage : IsStage l.unit l.stage;
   goes : IsTrue g.S.Shop.tells_vehicle → (run : Run) (R : Entry → Bool) → IsRoute run l.route → task_of run ≡ l.unit
-  → Rests run R AtProgram (disk_now (g.S.Shop.history l.initial.shop)) (vehicle_now (g.S.Shop.history l.initial.shop))
-  → Goes (SoundAt run) (g.S.Shop.history l.initial.shop) (g.S.Shop.history l.shop) (Rests run R (place_at l.unit l.stage) (disk_now (g.S.Shop.history l.shop)) (vehicle_now (g.S.Shop.history l.shop)));
+      → Rests run R AtProgram (disk_now (g.S.Shop.history l.initial.shop)) (vehicle_now (g.S.Shop.history l.initial.shop))
+      → Goes (SoundAt run) (g.S.Shop.history l.initial.shop) (g.S.Shop.history l.shop) (Rests run R (place_at l.unit l.stage) (disk_now (g.S.Shop.history l.shop)) (vehicle_now (g.S.Shop.history l.shop)));
 }
 
 abbrev pub decreases-script : goal.decreases-script

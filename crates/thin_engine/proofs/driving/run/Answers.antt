@@ -49,7 +49,7 @@ returns-in_err-record_begun-clause-sound g c = λ told_disk told run tester task
     let new1 = subst (λ (d : DiskState). IsNew (label_of run.plan) d) (sym c.activate.ensures.later.disk) new in
     let through = c.record_begun.ensures.any_moment told_disk (label_of run.plan) run.is_first.count new1 in
     goes_shown (SoundAt run) h0 h2 _ (goes_then (SoundAt run) h0 h1 h2 _ _ (c.in_ok-activate.ensures.goes told run route fits) c.record_begun.ensures.later.is_later
-      (λ rests. begin_goes run h1 h2 (Err DiskFault) through c.record_begun.ensures.later.vehicle tt rests))
+    (λ rests. begin_goes run h1 h2 (Err DiskFault) through c.record_begun.ensures.later.vehicle tt rests))
 
 pub returns-in_err-program-clause-sound : goal.returns-in_err-program-clause-sound
 returns-in_err-program-clause-sound g c = λ told_disk told run tester task new fits.
@@ -63,7 +63,7 @@ returns-in_err-program-clause-sound g c = λ told_disk told run tester task new 
     let h3 = g.S.Shop.history c.program.new.shop in
     let has = c.in_ok-record_begun.ensures.begun told_disk (label_of run.plan) run.is_first.count new1 in
     let begun = goes_then (SoundAt run) h0 h1 h2 _ _ (c.in_ok-activate.ensures.goes told run route fits) c.record_begun.ensures.later.is_later
-        (λ rests. begin_goes run h1 h2 (Ok tt) through c.record_begun.ensures.later.vehicle has rests) in
+    (λ rests. begin_goes run h1 h2 (Ok tt) through c.record_begun.ensures.later.vehicle has rests) in
     goes_shown (SoundAt run) h0 h3 _ (goes_then (SoundAt run) h0 h2 h3 _ _ begun c.program.ensures.later.is_later (λ rests. c.program.ensures.goes told run is_begun route task rests))
 
 pub returns-in_err-record_complete-clause-sound : goal.returns-in_err-record_complete-clause-sound
@@ -78,12 +78,12 @@ returns-in_err-record_complete-clause-sound g c = λ told_disk told run tester t
     let h3 = g.S.Shop.history c.program.new.shop in
     let has = c.in_ok-record_begun.ensures.begun told_disk (label_of run.plan) run.is_first.count new1 in
     let begun = goes_then (SoundAt run) h0 h1 h2 _ _ (c.in_ok-activate.ensures.goes told run route fits) c.record_begun.ensures.later.is_later
-        (λ rests. begin_goes run h1 h2 (Ok tt) through c.record_begun.ensures.later.vehicle has rests) in
+    (λ rests. begin_goes run h1 h2 (Ok tt) through c.record_begun.ensures.later.vehicle has rests) in
     let programmed = goes_then (SoundAt run) h0 h2 h3 _ _ begun c.program.ensures.later.is_later (λ rests. c.in_ok-program.ensures.goes told run is_begun route task rests) in
     let h4 = g.S.Shop.history c.record_complete.new.shop in
     let has3 = subst (λ (d : DiskState). HasBegun (label_of run.plan) d) (sym c.program.ensures.later.disk) has in
     goes_shown (SoundAt run) h0 h4 _ (goes_then (SoundAt run) h0 h3 h4 _ (Unit {0}) programmed c.record_complete.ensures.later.is_later
-      (λ rests. complete_goes run h3 h4 (c.record_complete.ensures.any_moment told_disk (label_of run.plan) run.is_first.count has3) rests))
+    (λ rests. complete_goes run h3 h4 (c.record_complete.ensures.any_moment told_disk (label_of run.plan) run.is_first.count has3) rests))
 
 pub returns-clause-sound : goal.returns-clause-sound
 returns-clause-sound g c = λ told_disk told run tester task new fits.
@@ -97,9 +97,9 @@ returns-clause-sound g c = λ told_disk told run tester task new fits.
     let h3 = g.S.Shop.history c.program.new.shop in
     let has = c.in_ok-record_begun.ensures.begun told_disk (label_of run.plan) run.is_first.count new1 in
     let begun = goes_then (SoundAt run) h0 h1 h2 _ _ (c.in_ok-activate.ensures.goes told run route fits) c.record_begun.ensures.later.is_later
-        (λ rests. begin_goes run h1 h2 (Ok tt) through c.record_begun.ensures.later.vehicle has rests) in
+    (λ rests. begin_goes run h1 h2 (Ok tt) through c.record_begun.ensures.later.vehicle has rests) in
     let programmed = goes_then (SoundAt run) h0 h2 h3 _ _ begun c.program.ensures.later.is_later (λ rests. c.in_ok-program.ensures.goes told run is_begun route task rests) in
     let h4 = g.S.Shop.history c.record_complete.new.shop in
     let has3 = subst (λ (d : DiskState). HasBegun (label_of run.plan) d) (sym c.program.ensures.later.disk) has in
     goes_shown (SoundAt run) h0 h4 _ (goes_then (SoundAt run) h0 h3 h4 _ (Unit {0}) programmed c.record_complete.ensures.later.is_later
-      (λ rests. complete_goes run h3 h4 (c.record_complete.ensures.any_moment told_disk (label_of run.plan) run.is_first.count has3) rests))
+    (λ rests. complete_goes run h3 h4 (c.record_complete.ensures.any_moment told_disk (label_of run.plan) run.is_first.count has3) rests))
