@@ -1,12 +1,12 @@
 pub mod Events
 pub mod Frames
-pub mod Going
 pub mod Laters
 pub mod Leads
 pub mod Limits
 pub mod Looks
 pub mod Openings
 pub mod Outcomes
+pub mod Parts
 pub mod Polling
 pub mod Recording
 pub mod Starts

@@ -15,10 +15,10 @@ use Rattle.thin_journal.specs.Later.{Stays}
 use Rattle.thin_journal.specs.Make.{no_entry, IsNew, IsStart, Starts}
 use Rattle.thin_journal.proofs.Laters.{disk_later}
 use Rattle.thin_journal.proofs.Made.{fresh_short}
-use Rattle.thin_engine.specs.Shown.{Goes}
+use Rattle.thin_engine.specs.Shown.{Keeps}
 use Rattle.thin_engine.specs.Sounding.{EmptyLaw}
 use Rattle.thin_engine.specs.Talking.{Run, SoundAt, Fits, taken_up}
-use Rattle.thin_engine.proofs.Going.{goes_call, goes_shown, goes_then, shown_goes, stays_goes}
+use Rattle.thin_engine.proofs.Parts.{keeps_call, keeps_shown, keeps_then, shown_keeps, stays_keeps}
 use Rattle.thin_engine.proofs.Recording.{recorded, settled_covers}
 use Rattle.thin_engine.proofs.Starts.{starts}
 
@@ -67,20 +67,20 @@ module _ (run : Run) where
       subst (λ (X : Entry → Bool). IsSound run.plan X v run.v0) (sym same) sound
 
   -- the length is asked for
-  pub len_goes : {T : Type 0} (old new : History) (r : Result T DeviceFault) → old.moment ≤ LAST → DiskCall Len old new r → disk_now new ≡ disk_now old → SoundAt run (disk_now old) (vehicle_now old) → Goes (SoundAt run) old new (Unit {0})
-  len_goes old new r bounded call same sound = goes_call (SoundAt run) Len old new r (Unit {0}) (disk_later Len old new r bounded call).is_later bounded call.passes sound (λ err. tt)
+  pub len_keeps : {T : Type 0} (old new : History) (r : Result T DeviceFault) → old.moment ≤ LAST → DiskCall Len old new r → disk_now new ≡ disk_now old → SoundAt run (disk_now old) (vehicle_now old) → Keeps (SoundAt run) old new (Unit {0})
+  len_keeps old new r bounded call same sound = keeps_call (SoundAt run) Len old new r (Unit {0}) (disk_later Len old new r bounded call).is_later bounded call.passes sound (λ err. tt)
       (λ shown. (subst (λ (x : DiskState × Vehicle). SoundAt run x.0 x.1) (λ i. (sym same i, sym call.vehicle i)) sound, tt))
 
   -- the journal is made
-  pub make_goes : (old new : History) → HoldsThrough old new (Stays (vehicle_now old) (Starts label)) → IsSound run.plan no_entry (vehicle_now old) run.v0 → Goes (SoundAt run) old new (Unit {0})
-  make_goes old new through sound = stays_goes (SoundAt run) (Starts label) (vehicle_now old) old new (Unit {0}) through (starts_sound (vehicle_now old) sound) tt
+  pub make_keeps : (old new : History) → HoldsThrough old new (Stays (vehicle_now old) (Starts label)) → IsSound run.plan no_entry (vehicle_now old) run.v0 → Keeps (SoundAt run) old new (Unit {0})
+  make_keeps old new through sound = stays_keeps (SoundAt run) (Starts label) (vehicle_now old) old new (Unit {0}) through (starts_sound (vehicle_now old) sound) tt
 
   pub opens : {T : Type 0} (h0 h1 h2 : History) (r : Result T DeviceFault) → h0.moment ≤ LAST → DiskCall Len h0 h1 r → disk_now h1 ≡ disk_now h0 → HoldsThrough h1 h2 (Stays (vehicle_now h1) (Starts label)) → IsSound run.plan no_entry (vehicle_now h1) run.v0
-      → SoundAt run (disk_now h0) (vehicle_now h0) → Goes (SoundAt run) h0 h2 (Unit {0})
-  opens h0 h1 h2 r bounded call same through sound before = goes_then (SoundAt run) h0 h1 h2 (Unit {0}) (Unit {0}) (len_goes h0 h1 r bounded call same before) through.is_later (λ x. make_goes h1 h2 through sound)
+      → SoundAt run (disk_now h0) (vehicle_now h0) → Keeps (SoundAt run) h0 h2 (Unit {0})
+  opens h0 h1 h2 r bounded call same through sound before = keeps_then (SoundAt run) h0 h1 h2 (Unit {0}) (Unit {0}) (len_keeps h0 h1 r bounded call same before) through.is_later (λ x. make_keeps h1 h2 through sound)
 
-  pub then_runs : (h0 h2 h3 : History) → Goes (SoundAt run) h0 h2 (Unit {0}) → HoldsWhileShown h2 h3 (SoundAt run) → HoldsWhileShown h0 h3 (SoundAt run)
-  then_runs h0 h2 h3 first second = goes_shown (SoundAt run) h0 h3 (Unit {0}) (goes_then (SoundAt run) h0 h2 h3 (Unit {0}) (Unit {0}) first second.is_later (λ x. shown_goes (SoundAt run) h2 h3 second))
+  pub then_runs : (h0 h2 h3 : History) → Keeps (SoundAt run) h0 h2 (Unit {0}) → HoldsWhileShown h2 h3 (SoundAt run) → HoldsWhileShown h0 h3 (SoundAt run)
+  then_runs h0 h2 h3 first second = keeps_shown (SoundAt run) h0 h3 (Unit {0}) (keeps_then (SoundAt run) h0 h2 h3 (Unit {0}) (Unit {0}) first second.is_later (λ x. shown_keeps (SoundAt run) h2 h3 second))
 
   pub new_fits : (d : DiskState) (v : Vehicle) → IsNew label d → run.t0 ≡ v.gateway.tick → IsSound run.plan no_entry v run.v0 → Fits run no_entry (taken_up run) d v
   new_fits d v new tick sound = starts run d v tick (settled_covers run no_entry no_entry d new.settled new.records (λ e. refl)) sound

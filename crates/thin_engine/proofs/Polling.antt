@@ -40,9 +40,9 @@ use Rattle.thin_engine.specs.Leads.{LeadsTo}
 use Rattle.thin_engine.specs.Stages.{place_at}
 use Rattle.thin_engine.specs.declared.stage.Stage.{Stage}
 use Rattle.thin_engine.specs.declared.stage.Stage.TheVariants.{Program, Erase, Download, Block, Exit, Check, Finish, Reset, Done}
-use Rattle.thin_engine.specs.Talking.{Run, SoundAt, Covers, Fits, Rests, Stands, Waits, Hears, HasAccepting, HasAnswer, HasCome, IsCollected, Polls, event_of, task_of}
-use Rattle.thin_engine.specs.Shown.{Goes}
-use Rattle.thin_engine.proofs.Going.{goes_call}
+use Rattle.thin_engine.specs.Talking.{Run, SoundAt, Covers, Fits, IsResting, Stands, Waits, Hears, HasAccepting, HasAnswer, HasCome, IsCollected, Polls, event_of, task_of}
+use Rattle.thin_engine.specs.Shown.{Keeps}
+use Rattle.thin_engine.proofs.Parts.{keeps_call}
 use Rattle.thin_engine.proofs.Laters.{link_later}
 use Rattle.thin_engine.proofs.Events.{may_collect, may_poll, quiet_asks, quiet_awaits, piece_asks, piece_awaits, answered_rests, accepted_rests}
 
@@ -130,9 +130,9 @@ module _ (awaited : Awaited) (run : Run) (R : Entry → Bool) (place : Place) (g
 
   -- one receive, as long as it is shown
   pub receives : (out : List ℕ) (Clean : Type 0) (old new : History) (r : Result Got DeviceFault) → old.moment ≤ LAST → LinkCall Receive old new r → Received out Clean (vehicle_now old) (vehicle_now new) r → IfOk r (IsPiece (length out))
-      → Waits awaited run R place got quiet (disk_now old) (vehicle_now old) → Goes (SoundAt run) old new (Polls awaited run R place got quiet out (disk_now new) (vehicle_now new) r)
+      → Waits awaited run R place got quiet (disk_now old) (vehicle_now old) → Keeps (SoundAt run) old new (Polls awaited run R place got quiet out (disk_now new) (vehicle_now new) r)
   receives out Clean old new r bounded call did piece waits =
-      goes_call (SoundAt run) Receive old new r (Polls awaited run R place got quiet out (disk_now new) (vehicle_now new) r) (link_later Receive old new r bounded call) bounded call.passes
+      keeps_call (SoundAt run) Receive old new r (Polls awaited run R place got quiet out (disk_now new) (vehicle_now new) r) (link_later Receive old new r bounded call) bounded call.passes
       (fits_sound run R waits.core (disk_now old) (vehicle_now old) waits.fits)
       (stuck out (disk_now new) (vehicle_now new) r) (λ shown. polled out Clean (disk_now old) (disk_now new) (vehicle_now old) (vehicle_now new) r call.disk did piece shown waits)
 
@@ -147,18 +147,18 @@ module _ (run : Run) (R : Entry → Bool) (place : Place) (got : List ℕ) (quie
   waits_piece Answer piece d v read h = record { core = core_after (rules_of run.tester) run.plan (Collected 0 (heard.Piece piece)) h.core; stands = piece_awaits run.tester run.plan run.is_first.count R h.core place got piece quiet h.stands read; fits = h.fits }
 
 -- a positive answer brings it to the stage that it leads to
-pub answered : (run : Run) (R : Entry → Bool) (u : UnitPlan) (stage next : Stage) (body : List ℕ) (d : DiskState) (v : Vehicle) → task_of run ≡ u → LeadsTo u stage body next → HasAnswer run R (place_at u stage) body d v → Rests run R (place_at u next) d v
+pub answered : (run : Run) (R : Entry → Bool) (u : UnitPlan) (stage next : Stage) (body : List ℕ) (d : DiskState) (v : Vehicle) → task_of run ≡ u → LeadsTo u stage body next → HasAnswer run R (place_at u stage) body d v → IsResting run R (place_at u next) d v
 answered run R u stage next body d v is leads has =
     let good : judge (bytes_at (task_of run) (place_at u stage)) body ≡ Good leads.rest = ap (λ (w : UnitPlan). judge (bytes_at w (place_at u stage)) body) is ∙ leads.good in
     let there : place_next (task_of run) (place_at u stage) leads.rest ≡ place_at u next = ap (λ (w : UnitPlan). place_next w (place_at u stage) leads.rest) is ∙ leads.place in
-    subst (λ (p : Place). Rests run R p d v) there (record {
+    subst (λ (p : Place). IsResting run R p d v) there (record {
       core = core_after (rules_of run.tester) run.plan (Collected 0 (heard.Piece has.piece)) has.hears.core;
       rest = answered_rests run.tester run.plan run.is_first.count R has.hears.core (place_at u stage) has.got has.piece body leads.rest has.quiet has.hears.stands has.answer good;
       fits = has.hears.fits;
     })
 
 -- the accepting answer to an activation brings it to the beginning
-pub accepted : (run : Run) (R : Entry → Bool) (place : Place) (d : DiskState) (v : Vehicle) → HasAccepting run R place d v → Rests run R AtBegin d v
+pub accepted : (run : Run) (R : Entry → Bool) (place : Place) (d : DiskState) (v : Vehicle) → HasAccepting run R place d v → IsResting run R AtBegin d v
 accepted run R place d v has = record {
   core = core_after (rules_of run.tester) run.plan (Tended (Polled (heard.Piece has.piece))) has.hears.core;
   rest = accepted_rests run.tester run.plan run.is_first.count R has.hears.core has.got has.piece has.quiet has.hears.stands has.accepting;
@@ -167,16 +167,16 @@ accepted run R place d v has = record {
 
 -- what a loop of polls keeps, and what it ends with
 module _ (awaited : Awaited) (run : Run) (R : Entry → Bool) (place : Place) (got : List ℕ) (quiet : ℕ) (d : DiskState) (v : Vehicle) where
-  pub keeps_quiet : (now : List ℕ) (q : ℕ) → now ≡ got → q ≡ quiet + 1 → quiet + 1 < 1000 → Hears awaited run R place got quiet heard.Quiet d v → Waits awaited run R place now q d v
-  keeps_quiet now q same is few h = subst (λ (x : List ℕ × ℕ). Waits awaited run R place x.0 x.1 d v) (λ i. (sym same i, sym is i)) (waits_quiet run R place got quiet awaited d v few h)
+  pub quiet_waits : (now : List ℕ) (q : ℕ) → now ≡ got → q ≡ quiet + 1 → quiet + 1 < 1000 → Hears awaited run R place got quiet heard.Quiet d v → Waits awaited run R place now q d v
+  quiet_waits now q same is few h = subst (λ (x : List ℕ × ℕ). Waits awaited run R place x.0 x.1 d v) (λ i. (sym same i, sym is i)) (waits_quiet run R place got quiet awaited d v few h)
 
   -- a reading speaks of the run's addresses and of all bytes
   of_run : (t u : ℕ) (seen now : List ℕ) (reading : Reading) → t ≡ run.tester → u ≡ (task_of run).address → seen ≡ now → IsRead awaited t u seen reading → IsRead awaited run.tester (task_of run).address now reading
   of_run t u seen now reading st su ss read = subst (λ (x : ℕ × ℕ × List ℕ). IsRead awaited x.0 x.1 x.2 reading) (λ i. (st i, su i, ss i)) read
 
-  pub keeps_piece : (t u : ℕ) (seen now : List ℕ) (q : ℕ) → t ≡ run.tester → u ≡ (task_of run).address → seen ≡ now → q ≡ quiet → IsRead awaited t u seen Waiting
+  pub piece_waits : (t u : ℕ) (seen now : List ℕ) (q : ℕ) → t ≡ run.tester → u ≡ (task_of run).address → seen ≡ now → q ≡ quiet → IsRead awaited t u seen Waiting
       → (piece : List ℕ) × (now ≡ got ++ piece) × Hears awaited run R place got quiet (heard.Piece piece) d v → Waits awaited run R place now q d v
-  keeps_piece t u seen now q st su ss is read (piece, all, h) =
+  piece_waits t u seen now q st su ss is read (piece, all, h) =
       subst (λ (x : List ℕ × ℕ). Waits awaited run R place x.0 x.1 d v) (λ i. (sym all i, sym is i)) (waits_piece run R place got quiet awaited piece d v (of_run t u seen (got ++ piece) Waiting st su (ss ∙ all) read) h)
 
   came : (from : ℕ) (now body : List ℕ) → IsRead awaited run.tester (task_of run).address now (Answered from) → body ≡ drop from now → (piece : List ℕ) × (now ≡ got ++ piece) × Hears awaited run R place got quiet (heard.Piece piece) d v → HasCome awaited run R place body d v
@@ -211,6 +211,6 @@ due_at u w Done isnt = absurd (isnt refl)
 
 -- whatever is made of an answer, if it leads on it leads to the next stage
 pub judged : (run : Run) (R : Entry → Bool) (u : UnitPlan) (stage : Stage) (seen body : List ℕ) (d : DiskState) (v : Vehicle) (r : Result Stage Outcome) → task_of run ≡ u → seen ≡ body → IfOk r (LeadsTo u stage seen) → HasAnswer run R (place_at u stage) body d v
-    → IfOk r (λ s. Rests run R (place_at u s) d v)
+    → IfOk r (λ s. IsResting run R (place_at u s) d v)
 judged run R u stage seen body d v (Ok next) is same leads has = answered run R u stage next body d v is (subst (λ (xs : List ℕ). LeadsTo u stage xs next) same leads) has
 judged run R u stage seen body d v (Err e) is same leads has = tt

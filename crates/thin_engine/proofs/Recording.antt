@@ -22,11 +22,11 @@ use Rattle.bay_core.proofs.OneStep.{step_law}
 use Rattle.bay_core.specs.Core.{core_after}
 use Rattle.bay_core.specs.Joint.{IsJoint}
 use Rattle.bay_core.specs.declared.event.Event.TheVariants.{Began, Completed}
-use Rattle.thin_engine.specs.Shown.{Goes}
+use Rattle.thin_engine.specs.Shown.{Keeps}
 use Rattle.thin_engine.specs.Standing.{rules_of}
-use Rattle.thin_engine.specs.Talking.{Run, SoundAt, Covers, Fits, Rests, is_begun}
+use Rattle.thin_engine.specs.Talking.{Run, SoundAt, Covers, Fits, IsResting, is_begun}
 use Rattle.thin_engine.proofs.Events.{may_begin_now, begun_rests, may_complete}
-use Rattle.thin_engine.proofs.Going.{stays_goes}
+use Rattle.thin_engine.proofs.Parts.{stays_keeps}
 
 or_false : (b : Bool) → (b || false) ≡ b
 or_false true = refl
@@ -65,19 +65,19 @@ module _ (run : Run) where
   ]
 
   -- that the unit is begun is recorded
-  began : (d : DiskState) (v : Vehicle) (rests : Rests run no_entry AtBegin d v) → IsJoint (rules_of run.tester) run.plan (core_after (rules_of run.tester) run.plan (Began 0) rests.core) is_begun v run.v0 run.t0
+  began : (d : DiskState) (v : Vehicle) (rests : IsResting run no_entry AtBegin d v) → IsJoint (rules_of run.tester) run.plan (core_after (rules_of run.tester) run.plan (Began 0) rests.core) is_begun v run.v0 run.t0
   began d v rests = step_law (rules_of run.tester) run.plan rests.core (Began 0) no_entry is_begun v v run.v0 run.t0 run.is_first.accepted
       (may_begin_now run.tester run.plan run.is_first.count no_entry rests.core rests.rest refl) (record { vehicle = refl; records = refl }) rests.fits.joint
 
-  pub begin_goes : (old new : History) (r : Result Unit Outcome) → HoldsThrough old new (Stays (vehicle_now old) (AddsAtMost label no_entry (Begun 0))) → vehicle_now new ≡ vehicle_now old → OnOk r (HasBegun label (disk_now new))
-      → Rests run no_entry AtBegin (disk_now old) (vehicle_now old) → Goes (SoundAt run) old new (OnOk r (Rests run is_begun AtProgram (disk_now new) (vehicle_now new)))
-  begin_goes old new r through stays has rests = stays_goes (SoundAt run) (AddsAtMost label no_entry (Begun 0)) (vehicle_now old) old new _ through
+  pub begin_keeps : (old new : History) (r : Result Unit Outcome) → HoldsThrough old new (Stays (vehicle_now old) (AddsAtMost label no_entry (Begun 0))) → vehicle_now new ≡ vehicle_now old → OnOk r (HasBegun label (disk_now new))
+      → IsResting run no_entry AtBegin (disk_now old) (vehicle_now old) → Keeps (SoundAt run) old new (OnOk r (IsResting run is_begun AtProgram (disk_now new) (vehicle_now new)))
+  begin_keeps old new r through stays has rests = stays_keeps (SoundAt run) (AddsAtMost label no_entry (Begun 0)) (vehicle_now old) old new _ through
       (adds_sound no_entry no_entry is_begun (Begun 0) (vehicle_now old) (λ x. refl) begun_entry rests.fits.joint.sound joint.sound) (ended r has)
     where
       joint : IsJoint (rules_of run.tester) run.plan (core_after (rules_of run.tester) run.plan (Began 0) rests.core) is_begun (vehicle_now old) run.v0 run.t0
       joint = began (disk_now old) (vehicle_now old) rests
 
-      ended : (x : Result Unit Outcome) → OnOk x (HasBegun label (disk_now new)) → OnOk x (Rests run is_begun AtProgram (disk_now new) (vehicle_now new))
+      ended : (x : Result Unit Outcome) → OnOk x (HasBegun label (disk_now new)) → OnOk x (IsResting run is_begun AtProgram (disk_now new) (vehicle_now new))
       ended (Ok y) begun = record {
         core = core_after (rules_of run.tester) run.plan (Began 0) rests.core;
         rest = begun_rests run.tester run.plan run.is_first.count no_entry rests.core rests.rest;
@@ -89,10 +89,10 @@ module _ (run : Run) where
       ended (Err e) begun = tt
 
   -- that it is complete is recorded
-  completed : (d : DiskState) (v : Vehicle) (rests : Rests run is_begun AtDone d v) → IsSound run.plan (with_entry (Complete 0) is_begun) v run.v0
+  completed : (d : DiskState) (v : Vehicle) (rests : IsResting run is_begun AtDone d v) → IsSound run.plan (with_entry (Complete 0) is_begun) v run.v0
   completed d v rests = (step_law (rules_of run.tester) run.plan rests.core (Completed 0) is_begun (with_entry (Complete 0) is_begun) v v run.v0 run.t0 run.is_first.accepted
       (may_complete run.tester run.plan run.is_first.count is_begun rests.core rests.rest) (record { vehicle = refl; records = refl }) rests.fits.joint).sound
 
-  pub complete_goes : (old new : History) → HoldsThrough old new (Stays (vehicle_now old) (AddsAtMost label begun_alone (Complete 0))) → Rests run is_begun AtDone (disk_now old) (vehicle_now old) → Goes (SoundAt run) old new (Unit {0})
-  complete_goes old new through rests = stays_goes (SoundAt run) (AddsAtMost label begun_alone (Complete 0)) (vehicle_now old) old new (Unit {0}) through
+  pub complete_keeps : (old new : History) → HoldsThrough old new (Stays (vehicle_now old) (AddsAtMost label begun_alone (Complete 0))) → IsResting run is_begun AtDone (disk_now old) (vehicle_now old) → Keeps (SoundAt run) old new (Unit {0})
+  complete_keeps old new through rests = stays_keeps (SoundAt run) (AddsAtMost label begun_alone (Complete 0)) (vehicle_now old) old new (Unit {0}) through
       (adds_sound begun_alone is_begun (with_entry (Complete 0) is_begun) (Complete 0) (vehicle_now old) begun_entry both_entry rests.fits.joint.sound (completed (disk_now old) (vehicle_now old) rests)) tt

@@ -19,12 +19,12 @@ use Rattle.bay_core.specs.Joint.{IsJoint}
 use Rattle.bay_core.specs.Legal.{is_allowed, all_of}
 use Rattle.bay_core.specs.declared.event.Event.TheVariants.{Claimed, Sent as Was_sent, Tended}
 use Rattle.bay_core.specs.declared.event.Tend.TheVariants.{Dialed, Asked}
-use Rattle.thin_engine.specs.Shown.{Goes}
+use Rattle.thin_engine.specs.Shown.{Keeps}
 use Rattle.thin_engine.specs.Standing.{rules_of, IsNothing, IsTaken, Asks}
-use Rattle.thin_engine.specs.Talking.{Run, SoundAt, Covers, Fits, Rests, Waits, Delivers, Dials, task_of, taken_up}
+use Rattle.thin_engine.specs.Talking.{Run, SoundAt, Covers, Fits, IsResting, Waits, Delivers, Dials, task_of, taken_up}
 use Rattle.thin_engine.specs.declared.reading.Awaited.TheVariants.{Activation, Answer}
 use Rattle.thin_engine.proofs.Events.{may_send, sent_awaits}
-use Rattle.thin_engine.proofs.Going.{goes_call}
+use Rattle.thin_engine.proofs.Parts.{keeps_call}
 use Rattle.thin_engine.proofs.Laters.{link_later}
 use Rattle.thin_engine.proofs.Polling.{fits_on, fits_sound}
 
@@ -74,8 +74,8 @@ module _ (run : Run) where
       let f = fits_on run no_entry (taken_up run) (Tended (Dialed true)) d d2 v v2 same refl (did.err, refl) fits in
       (fits_sound run no_entry (core_after (rules_of run.tester) run.plan (Tended (Dialed true)) (taken_up run)) d2 v2 f, λ is. absurd (false≢true (sym says ∙ is)))
 
-  pub dial_goes : (old new : History) (done : Bool) → old.moment ≤ LAST → Dials old new done → Fits run no_entry (taken_up run) (disk_now old) (vehicle_now old) → Goes (SoundAt run) old new (done ≡ true → Fits run no_entry dialed (disk_now new) (vehicle_now new))
-  dial_goes old new done bounded dials fits = goes_call (SoundAt run) Redial old new dials.answer _ (link_later Redial old new dials.answer bounded dials.call) bounded dials.call.passes
+  pub dial_keeps : (old new : History) (done : Bool) → old.moment ≤ LAST → Dials old new done → Fits run no_entry (taken_up run) (disk_now old) (vehicle_now old) → Keeps (SoundAt run) old new (done ≡ true → Fits run no_entry dialed (disk_now new) (vehicle_now new))
+  dial_keeps old new done bounded dials fits = keeps_call (SoundAt run) Redial old new dials.answer _ (link_later Redial old new dials.answer bounded dials.call) bounded dials.call.passes
       (fits_sound run no_entry (taken_up run) (disk_now old) (vehicle_now old) fits) (failed dials.answer done dials.says)
       (λ shown. dial_moves done (disk_now old) (disk_now new) (vehicle_now old) (vehicle_now new) dials.answer dials.says dials.call.disk dials.vehicle fits)
 
@@ -88,9 +88,9 @@ module _ (run : Run) where
       let f = fits_on run no_entry dialed (Tended (Asked true)) d d2 v v2 same refl (did.err, refl) fits in
       (fits_sound run no_entry (core_after (rules_of run.tester) run.plan (Tended (Asked true)) dialed) d2 v2 f, λ is. absurd (false≢true (sym says ∙ is)))
 
-  pub ask_goes : (frame : List ℕ) (old new : History) (done : Bool) → old.moment ≤ LAST → Delivers frame old new done → frame ≡ activate_bytes run.tester → Fits run no_entry dialed (disk_now old) (vehicle_now old)
-      → Goes (SoundAt run) old new (done ≡ true → Waits Activation run no_entry AtBegin [] 0 (disk_now new) (vehicle_now new))
-  ask_goes frame old new done bounded sends is fits = goes_call (SoundAt run) (Send frame) old new sends.answer _ (link_later (Send frame) old new sends.answer bounded sends.call) bounded sends.call.passes
+  pub ask_keeps : (frame : List ℕ) (old new : History) (done : Bool) → old.moment ≤ LAST → Delivers frame old new done → frame ≡ activate_bytes run.tester → Fits run no_entry dialed (disk_now old) (vehicle_now old)
+      → Keeps (SoundAt run) old new (done ≡ true → Waits Activation run no_entry AtBegin [] 0 (disk_now new) (vehicle_now new))
+  ask_keeps frame old new done bounded sends is fits = keeps_call (SoundAt run) (Send frame) old new sends.answer _ (link_later (Send frame) old new sends.answer bounded sends.call) bounded sends.call.passes
       (fits_sound run no_entry dialed (disk_now old) (vehicle_now old) fits) (failed sends.answer done sends.says)
       (λ shown. ask_moves done (disk_now old) (disk_now new) (vehicle_now old) (vehicle_now new) sends.answer sends.says sends.call.disk (subst (λ (f : List ℕ). Sent f (vehicle_now old) (vehicle_now new) sends.answer) is sends.vehicle) fits)
 
@@ -99,7 +99,7 @@ module _ (run : Run) where
     abbrev frame_at : List ℕ
     frame_at = message_bytes run.tester (task_of run).address (bytes_at (task_of run) place)
 
-    send_moves : (done : Bool) (d d2 : DiskState) (v v2 : Vehicle) (r : Result Unit DeviceFault) → done ≡ is_ok r → d2 ≡ d → Sent frame_at v v2 r → Rests run R place d v
+    send_moves : (done : Bool) (d d2 : DiskState) (v v2 : Vehicle) (r : Result Unit DeviceFault) → done ≡ is_ok r → d2 ≡ d → Sent frame_at v v2 r → IsResting run R place d v
         → SoundAt run d2 v2 × (done ≡ true → Waits Answer run R place [] 0 d2 v2)
     send_moves done d d2 v v2 (Ok x) says same did rests =
         let n = (rests.core.slots 0).talk.number in
@@ -113,8 +113,8 @@ module _ (run : Run) where
         let f = fits_on run R rests.core (Was_sent 0 n true) d d2 v v2 same (may_send run.tester run.plan run.is_first.count R rests.core place rests.rest due true) (fed, refl) rests.fits in
         (fits_sound run R (core_after (rules_of run.tester) run.plan (Was_sent 0 n true) rests.core) d2 v2 f, λ is. absurd (false≢true (sym says ∙ is)))
 
-    pub send_goes : (frame : List ℕ) (old new : History) (done : Bool) → old.moment ≤ LAST → Delivers frame old new done → frame ≡ frame_at → Rests run R place (disk_now old) (vehicle_now old)
-        → Goes (SoundAt run) old new (done ≡ true → Waits Answer run R place [] 0 (disk_now new) (vehicle_now new))
-    send_goes frame old new done bounded sends is rests = goes_call (SoundAt run) (Send frame) old new sends.answer _ (link_later (Send frame) old new sends.answer bounded sends.call) bounded sends.call.passes
+    pub send_keeps : (frame : List ℕ) (old new : History) (done : Bool) → old.moment ≤ LAST → Delivers frame old new done → frame ≡ frame_at → IsResting run R place (disk_now old) (vehicle_now old)
+        → Keeps (SoundAt run) old new (done ≡ true → Waits Answer run R place [] 0 (disk_now new) (vehicle_now new))
+    send_keeps frame old new done bounded sends is rests = keeps_call (SoundAt run) (Send frame) old new sends.answer _ (link_later (Send frame) old new sends.answer bounded sends.call) bounded sends.call.passes
         (fits_sound run R rests.core (disk_now old) (vehicle_now old) rests.fits) (failed sends.answer done sends.says)
         (λ shown. send_moves done (disk_now old) (disk_now new) (vehicle_now old) (vehicle_now new) sends.answer sends.says sends.call.disk (subst (λ (f : List ℕ). Sent f (vehicle_now old) (vehicle_now new) sends.answer) is sends.vehicle) rests)

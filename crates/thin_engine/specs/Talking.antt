@@ -71,7 +71,7 @@ abbrev pub is_begun : Entry → Bool
 is_begun = with_entry (Begun 0) no_entry
 
 -- no answer is awaited
-pub record Rests (run : Run) (R : Entry → Bool) (place : Place) (d : DiskState) (v : Vehicle) : Type 0 where
+pub record IsResting (run : Run) (R : Entry → Bool) (place : Place) (d : DiskState) (v : Vehicle) : Type 0 where
   pub core : Core
   pub rest : AtRest R place core
   pub fits : Fits run R core d v

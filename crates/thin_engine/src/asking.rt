@@ -6,8 +6,8 @@ ghost use Rattle.shop_model.specs.History.{disk_now, vehicle_now};
 ghost use Rattle.thin_journal.specs.Make.{no_entry};
 ghost use Rattle.thin_engine.specs.declared.reading.Awaited.{Awaited as AnAwaited};
 ghost use Rattle.thin_engine.specs.declared.reading.Awaited.TheVariants.{Answer as ItsAnswer};
-ghost use Rattle.thin_engine.specs.Shown.{Goes};
-ghost use Rattle.thin_engine.specs.Talking.{Run, SoundAt, Fits, Rests, Waits, IsPolled, IsCollected, IsRoute, Delivers, Dials, task_of, taken_up};
+ghost use Rattle.thin_engine.specs.Shown.{Keeps};
+ghost use Rattle.thin_engine.specs.Talking.{Run, SoundAt, Fits, IsResting, Waits, IsPolled, IsCollected, IsRoute, Delivers, Dials, task_of, taken_up};
 ghost use Rattle.thin_engine.specs.Causes.{IsMidway};
 ghost use Rattle.thin_engine.specs.Later.{IsTalkLater, IsLinkLater};
 
@@ -43,9 +43,9 @@ enum Polled {
 fn poll<S: Shop>(shop: &mut S, got: &mut Vec<u8>) -> Polled
     requires { IsTrue (S.history shop.old).linked }
     ensures later { IsTalkLater (S.history shop.old) (S.history shop.new) }
-    ensures goes { IsTrue S.tells_vehicle → (awaited : AnAwaited) (run : Run) (R : AnEntry → Bool) (place : Place) (quiet : ℕ)
+    ensures sound { IsTrue S.tells_vehicle → (awaited : AnAwaited) (run : Run) (R : AnEntry → Bool) (place : Place) (quiet : ℕ)
         → Waits awaited run R place got.old.items quiet (disk_now (S.history shop.old)) (vehicle_now (S.history shop.old))
-        → Goes (SoundAt run) (S.history shop.old) (S.history shop.new)
+        → Keeps (SoundAt run) (S.history shop.old) (S.history shop.new)
         (IsPolled awaited run R place got.old.items quiet got.new.items (disk_now (S.history shop.new)) (vehicle_now (S.history shop.new)) result) }
 {
     let mut out = [0u8; 4096];
@@ -78,9 +78,9 @@ fn collect<S: Shop>(
 ) -> Result<Vec<u8>, Trouble>
     requires { IsTrue (S.history shop.old).linked }
     ensures later { IsTalkLater (S.history shop.old) (S.history shop.new) }
-    ensures goes { IsTrue S.tells_vehicle → (run : Run) (R : AnEntry → Bool) (place : Place) → IsRoute run route.now
+    ensures sound { IsTrue S.tells_vehicle → (run : Run) (R : AnEntry → Bool) (place : Place) → IsRoute run route.now
         → Waits awaited run R place [] 0 (disk_now (S.history shop.old)) (vehicle_now (S.history shop.old))
-        → Goes (SoundAt run) (S.history shop.old) (S.history shop.new)
+        → Keeps (SoundAt run) (S.history shop.old) (S.history shop.new)
         (IsCollected result awaited run R place (disk_now (S.history shop.new)) (vehicle_now (S.history shop.new))) }
 {
     let mut got = Vec::new(alloc);
@@ -112,7 +112,7 @@ fn deliver<S: Shop>(shop: &mut S, frame: &[u8]) -> bool
     requires some { 1 ≤ length frame.now }
     requires few { length frame.now ≤ 65600 }
     ensures later { IsTalkLater (S.history shop.old) (S.history shop.new) }
-    ensures call { IsTrue S.tells_vehicle → Delivers frame.now (S.history shop.old) (S.history shop.new) result }
+    ensures delivers { IsTrue S.tells_vehicle → Delivers frame.now (S.history shop.old) (S.history shop.new) result }
 {
     match shop.send(frame) {
         Ok(()) => true,
@@ -159,10 +159,10 @@ pub fn ask<S: Shop>(
     requires linked { IsTrue (S.history shop.old).linked }
     requires few { length body.now ≤ 300 }
     ensures later { IsTalkLater (S.history shop.old) (S.history shop.new) }
-    ensures goes { IsTrue S.tells_vehicle → (run : Run) (R : AnEntry → Bool) (place : Place) → IsRoute run route.now
+    ensures sound { IsTrue S.tells_vehicle → (run : Run) (R : AnEntry → Bool) (place : Place) → IsRoute run route.now
         → IsTrue (is_some (request_at (task_of run) place)) → body.now ≡ bytes_at (task_of run) place
-        → Rests run R place (disk_now (S.history shop.old)) (vehicle_now (S.history shop.old))
-        → Goes (SoundAt run) (S.history shop.old) (S.history shop.new)
+        → IsResting run R place (disk_now (S.history shop.old)) (vehicle_now (S.history shop.old))
+        → Keeps (SoundAt run) (S.history shop.old) (S.history shop.new)
         (IsCollected result ItsAnswer run R place (disk_now (S.history shop.new)) (vehicle_now (S.history shop.new))) }
 {
     let Ok(frame) = message(alloc, route, body) else {
@@ -178,7 +178,7 @@ pub fn ask<S: Shop>(
 fn dial<S: Shop>(shop: &mut S) -> bool
     ensures later { IsLinkLater (S.history shop.old) (S.history shop.new) }
     ensures linked { IsTrue result → IsTrue (S.history shop.new).linked }
-    ensures call { IsTrue S.tells_vehicle → Dials (S.history shop.old) (S.history shop.new) result }
+    ensures redials { IsTrue S.tells_vehicle → Dials (S.history shop.old) (S.history shop.new) result }
 {
     match shop.redial() {
         Ok(()) => true,
@@ -214,10 +214,10 @@ pub fn activate<S: Shop>(alloc: Global, shop: &mut S, route: &Route) -> Result<(
     ensures later { IsLinkLater (S.history shop.old) (S.history shop.new) }
     ensures linked { OnOk result (IsTrue (S.history shop.new).linked) }
     ensures outcome { IfErr result IsMidway }
-    ensures goes { IsTrue S.tells_vehicle → (run : Run) → IsRoute run route.now
+    ensures sound { IsTrue S.tells_vehicle → (run : Run) → IsRoute run route.now
         → Fits run no_entry (taken_up run) (disk_now (S.history shop.old)) (vehicle_now (S.history shop.old))
-        → Goes (SoundAt run) (S.history shop.old) (S.history shop.new)
-        (OnOk result (Rests run no_entry AtBegin (disk_now (S.history shop.new)) (vehicle_now (S.history shop.new)))) }
+        → Keeps (SoundAt run) (S.history shop.old) (S.history shop.new)
+        (OnOk result (IsResting run no_entry AtBegin (disk_now (S.history shop.new)) (vehicle_now (S.history shop.new)))) }
 {
     if !dial(shop) {
         return Err(Outcome::LinkLost { times: 1 });

@@ -13,10 +13,10 @@ ghost use Rattle.thin_journal.specs.Append.{AddsAtMost};
 ghost use Rattle.thin_journal.specs.Entries.{begun_alone, HasBegun, HasBoth, RecordsBoth};
 ghost use Rattle.thin_journal.specs.Later.{IsDiskLater, Stays};
 ghost use Rattle.thin_journal.specs.Make.{IsNew, no_entry};
-ghost use Rattle.thin_engine.specs.Shown.{Goes};
+ghost use Rattle.thin_engine.specs.Shown.{Keeps};
 ghost use Rattle.thin_engine.specs.Sounding.{KeepsSound};
 ghost use Rattle.thin_engine.specs.Stages.{IsFirst, IsFirstPlan, IsStage, place_at, work_left, segment_of};
-ghost use Rattle.thin_engine.specs.Talking.{Run, SoundAt, Fits, Rests, IsRoute, task_of, taken_up, is_begun};
+ghost use Rattle.thin_engine.specs.Talking.{Run, SoundAt, Fits, IsResting, IsRoute, task_of, taken_up, is_begun};
 ghost use Rattle.thin_engine.specs.declared.stage.Stage.TheVariants.{Done as ItIsDone};
 
 use crate::asking::{Trouble, activate, ask};
@@ -70,10 +70,10 @@ fn turn<S: Shop>(
     ensures smaller { IfOk result (λ s. work_left (length (segment_of unit.now).body) s < work_left (length (segment_of unit.now).body) stage) }
     ensures stage { IfOk result (IsStage unit.now) }
     ensures outcome { IfErr result IsMidway }
-    ensures goes { IsTrue S.tells_vehicle → (run : Run) (R : AnEntry → Bool) → IsRoute run route.now → task_of run ≡ unit.now → (stage ≡ ItIsDone → ⊥)
-        → Rests run R (place_at unit.now stage) (disk_now (S.history shop.old)) (vehicle_now (S.history shop.old))
-        → Goes (SoundAt run) (S.history shop.old) (S.history shop.new)
-        (IfOk result (λ s. Rests run R (place_at unit.now s) (disk_now (S.history shop.new)) (vehicle_now (S.history shop.new)))) }
+    ensures sound { IsTrue S.tells_vehicle → (run : Run) (R : AnEntry → Bool) → IsRoute run route.now → task_of run ≡ unit.now → (stage ≡ ItIsDone → ⊥)
+        → IsResting run R (place_at unit.now stage) (disk_now (S.history shop.old)) (vehicle_now (S.history shop.old))
+        → Keeps (SoundAt run) (S.history shop.old) (S.history shop.new)
+        (IfOk result (λ s. IsResting run R (place_at unit.now s) (disk_now (S.history shop.new)) (vehicle_now (S.history shop.new)))) }
 {
     let Ok(request) = request(alloc, unit, stage) else {
         return Err(Outcome::NoMemory);
@@ -96,10 +96,10 @@ fn program<S: Shop>(
     requires accepted { IsAcceptedUnit unit.now }
     ensures later { IsTalkLater (S.history shop.old) (S.history shop.new) }
     ensures outcome { IfErr result IsMidway }
-    ensures goes { IsTrue S.tells_vehicle → (run : Run) (R : AnEntry → Bool) → IsRoute run route.now → task_of run ≡ unit.now
-        → Rests run R AtProgram (disk_now (S.history shop.old)) (vehicle_now (S.history shop.old))
-        → Goes (SoundAt run) (S.history shop.old) (S.history shop.new)
-        (OnOk result (Rests run R AtDone (disk_now (S.history shop.new)) (vehicle_now (S.history shop.new)))) }
+    ensures sound { IsTrue S.tells_vehicle → (run : Run) (R : AnEntry → Bool) → IsRoute run route.now → task_of run ≡ unit.now
+        → IsResting run R AtProgram (disk_now (S.history shop.old)) (vehicle_now (S.history shop.old))
+        → Keeps (SoundAt run) (S.history shop.old) (S.history shop.new)
+        (OnOk result (IsResting run R AtDone (disk_now (S.history shop.new)) (vehicle_now (S.history shop.new)))) }
 {
     let mut stage = Stage::Program;
     'script: while stage != Stage::Done {

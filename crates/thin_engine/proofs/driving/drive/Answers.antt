@@ -11,8 +11,8 @@ use Rattle.thin_journal.specs.Make.{IsMade, IsMaking}
 use Rattle.thin_journal.proofs.Both.{records_both}
 use Rattle.thin_journal.proofs.File.{new_size, new_made}
 use Rattle.thin_engine.specs.Talking.{Run, SoundAt}
-use Rattle.thin_engine.proofs.Going.{goes_shown}
-use Rattle.thin_engine.proofs.Openings.{empty_of, empty_starts, empty_sound, len_goes, opens, then_runs, new_fits, same_sound}
+use Rattle.thin_engine.proofs.Parts.{keeps_shown}
+use Rattle.thin_engine.proofs.Openings.{empty_of, empty_starts, empty_sound, len_keeps, opens, then_runs, new_fits, same_sound}
 use Rattle.thin_engine.proofs.driving.drive.Goals as goal
 
 making_of : (P : Label) (file digest : List ℕ) → P.units ≡ 1 → length P.digest ≡ 32 → digest ≡ P.digest → file ≡ new_bytes (record { digest = digest; units = 1 }) → IsMaking P file
@@ -38,21 +38,21 @@ returns-then-length-ne0-clause-sound g c = λ told_disk told v0 sound.
     let h0 = g.S.Shop.history c.args.shop.now in
     let h1 = g.S.Shop.history c.len.new.self in
     let run : Run = record { plan = c.args.plan.now; is_first = c.requires; tester = c.args.tester; v0 = v0; t0 = (vehicle_now h1).gateway.tick } in
-    goes_shown (SoundAt run) h0 h1 (Unit {0}) (len_goes run h0 h1 c.len.result (g.met.S.Shop.bounded c.args.shop.now) c.len.ensures.call c.len.ensures.disk sound)
+    keeps_shown (SoundAt run) h0 h1 (Unit {0}) (len_keeps run h0 h1 c.len.result (g.met.S.Shop.bounded c.args.shop.now) c.len.ensures.call c.len.ensures.disk sound)
 
 pub returns-in-Err-clause-sound : goal.returns-in-Err-clause-sound
 returns-in-Err-clause-sound g c = λ told_disk told v0 sound.
     let h0 = g.S.Shop.history c.args.shop.now in
     let h1 = g.S.Shop.history c.len.new.self in
     let run : Run = record { plan = c.args.plan.now; is_first = c.requires; tester = c.args.tester; v0 = v0; t0 = (vehicle_now h1).gateway.tick } in
-    goes_shown (SoundAt run) h0 h1 (Unit {0}) (len_goes run h0 h1 c.len.result (g.met.S.Shop.bounded c.args.shop.now) c.len.ensures.call c.len.ensures.disk sound)
+    keeps_shown (SoundAt run) h0 h1 (Unit {0}) (len_keeps run h0 h1 c.len.result (g.met.S.Shop.bounded c.args.shop.now) c.len.ensures.call c.len.ensures.disk sound)
 
 pub returns-in_default-clause-sound : goal.returns-in_default-clause-sound
 returns-in_default-clause-sound g c = λ told_disk told v0 sound.
     let h0 = g.S.Shop.history c.args.shop.now in
     let h1 = g.S.Shop.history c.len.new.self in
     let run : Run = record { plan = c.args.plan.now; is_first = c.requires; tester = c.args.tester; v0 = v0; t0 = (vehicle_now h1).gateway.tick } in
-    goes_shown (SoundAt run) h0 h1 (Unit {0}) (len_goes run h0 h1 c.len.result (g.met.S.Shop.bounded c.args.shop.now) c.len.ensures.call c.len.ensures.disk sound)
+    keeps_shown (SoundAt run) h0 h1 (Unit {0}) (len_keeps run h0 h1 c.len.result (g.met.S.Shop.bounded c.args.shop.now) c.len.ensures.call c.len.ensures.disk sound)
 
 pub returns-clause-sound : goal.returns-clause-sound
 returns-clause-sound g c = λ told_disk told v0 sound.
@@ -69,7 +69,7 @@ returns-clause-sound g c = λ told_disk told v0 sound.
     let making = making_of P c.in-Ok-new_file.file.items _ c.requires.count (length-sha256 (canonical c.args.plan.now)) c.digest.ensures c.in-Ok-new_file.ensures.is in
     let making2 = subst (λ (xs : List ℕ). IsMaking P xs) (sym c.deref.ensures.value) making in
     let opened = opens run h0 h1 h2 c.len.result (g.met.S.Shop.bounded c.args.shop.now) c.len.ensures.call c.len.ensures.disk (c.make.ensures.any_moment told_disk P making2 (empty_starts P (disk_now h1) none1)) fits1 sound in
-    goes_shown (SoundAt run) h0 h2 (Unit {0}) opened
+    keeps_shown (SoundAt run) h0 h2 (Unit {0}) opened
 
 pub returns-in-Ok-run-clause-sound : goal.returns-in-Ok-run-clause-sound
 returns-in-Ok-run-clause-sound g c = λ told_disk told v0 sound.

@@ -3,10 +3,10 @@ use Rattle.std.specs.Prelude.{IsErr, OnOk}
 use Rattle.std.proofs.lemmas.Bool.{false≢true}
 use Rattle.shop_model.specs.History.{disk_now, vehicle_now}
 use Rattle.thin_engine.specs.Stages.{place_at}
-use Rattle.thin_engine.specs.Talking.{SoundAt, Rests}
+use Rattle.thin_engine.specs.Talking.{SoundAt, IsResting}
 use Rattle.thin_engine.specs.declared.stage.Stage.{Stage}
 use Rattle.thin_engine.specs.declared.stage.Stage.TheVariants.{Done}
-use Rattle.thin_engine.proofs.Going.{goes_same, goes_then, goes_map}
+use Rattle.thin_engine.proofs.Parts.{keeps_same, keeps_then, keeps_map}
 use Rattle.thin_engine.proofs.Laters.{talk_same, talk_then}
 use Rattle.thin_engine.proofs.Polling.{fits_sound}
 use Rattle.thin_engine.proofs.driving.program.Goals as goal
@@ -21,15 +21,15 @@ script-init g c =
     record {
       later = talk_same h;
       stage = tt;
-      goes = λ told run R route task rests. goes_same (SoundAt run) h _ (fits_sound run R rests.core (disk_now h) (vehicle_now h) rests.fits) rests;
+      sound = λ told run R route task rests. keeps_same (SoundAt run) h _ (fits_sound run R rests.core (disk_now h) (vehicle_now h) rests.fits) rests;
     }
 
-pub returns-in_err-stage-clause-goes : goal.returns-in_err-stage-clause-goes
-returns-in_err-stage-clause-goes g c = λ told run R route task rests.
+pub returns-in_err-stage-clause-sound : goal.returns-in_err-stage-clause-sound
+returns-in_err-stage-clause-sound g c = λ told run R route task rests.
     let h1 = g.S.Shop.history c.script.shop in
     let h2 = g.S.Shop.history c.turn.new.shop in
-    goes_then (SoundAt run) (g.S.Shop.history c.args.shop.now) h1 h2 _ _ (c.script.invariant.goes told run R route task rests) c.turn.ensures.later.is_later
-    (λ w. goes_map (SoundAt run) h1 h2 _ _ (λ x. none_of c.from_residual.result _ c.from_residual.ensures.0) (c.turn.ensures.goes told run R route task (λ e. search rules) w))
+    keeps_then (SoundAt run) (g.S.Shop.history c.args.shop.now) h1 h2 _ _ (c.script.invariant.sound told run R route task rests) c.turn.ensures.later.is_later
+    (λ w. keeps_map (SoundAt run) h1 h2 _ _ (λ x. none_of c.from_residual.result _ c.from_residual.ensures.0) (c.turn.ensures.sound told run R route task (λ e. search rules) w))
 
 pub script-preserved : goal.script-preserved
 script-preserved g c =
@@ -38,13 +38,13 @@ script-preserved g c =
     record {
       later = talk_then _ _ _ c.script.invariant.later c.turn.ensures.later;
       stage = c.in_ok-stage.ensures.stage;
-      goes = λ told run R route task rests.
-          goes_then (SoundAt run) (g.S.Shop.history c.args.shop.now) h1 h2 _ _ (c.script.invariant.goes told run R route task rests) c.turn.ensures.later.is_later
-          (λ w. c.in_ok-stage.ensures.goes told run R route task (λ e. search rules) w);
+      sound = λ told run R route task rests.
+          keeps_then (SoundAt run) (g.S.Shop.history c.args.shop.now) h1 h2 _ _ (c.script.invariant.sound told run R route task rests) c.turn.ensures.later.is_later
+          (λ w. c.in_ok-stage.ensures.sound told run R route task (λ e. search rules) w);
     }
 
-pub returns-clause-goes : goal.returns-clause-goes
-returns-clause-goes g c = λ told run R route task rests.
+pub returns-clause-sound : goal.returns-clause-sound
+returns-clause-sound g c = λ told run R route task rests.
     let h1 = g.S.Shop.history c.script.shop in
     let is : c.script.stage ≡ Done = search rules in
-    goes_map (SoundAt run) (g.S.Shop.history c.args.shop.now) h1 _ _ (λ w. subst (λ (s : Stage). Rests run R (place_at c.args.unit.now s) (disk_now h1) (vehicle_now h1)) is w) (c.script.invariant.goes told run R route task rests)
+    keeps_map (SoundAt run) (g.S.Shop.history c.args.shop.now) h1 _ _ (λ w. subst (λ (s : Stage). IsResting run R (place_at c.args.unit.now s) (disk_now h1) (vehicle_now h1)) is w) (c.script.invariant.sound told run R route task rests)

@@ -4,18 +4,18 @@ use Rattle.flash_plan.specs.declared.outcome.Entry.{Entry}
 use Rattle.run_model.specs.Script.{AtProgram}
 use Rattle.shop_model.specs.History.{disk_now, vehicle_now}
 use Rattle.thin_engine.specs.Later.{IsTalkLater}
-use Rattle.thin_engine.specs.Shown.{Goes}
+use Rattle.thin_engine.specs.Shown.{Keeps}
 use Rattle.thin_engine.specs.Stages.{IsStage, place_at, work_left, segment_of}
-use Rattle.thin_engine.specs.Talking.{Run, SoundAt, Rests, IsRoute, task_of}
+use Rattle.thin_engine.specs.Talking.{Run, SoundAt, IsResting, IsRoute, task_of}
 use Rattle.thin_engine.proofs.driving.program.Given as goal
 
 abbrev pub invariant-script : goal.invariant-script
 invariant-script g l = record {
   later : IsTalkLater (g.S.Shop.history l.initial.shop) (g.S.Shop.history l.shop);
   stage : IsStage l.unit l.stage;
-  goes : IsTrue g.S.Shop.tells_vehicle → (run : Run) (R : Entry → Bool) → IsRoute run l.route → task_of run ≡ l.unit
-      → Rests run R AtProgram (disk_now (g.S.Shop.history l.initial.shop)) (vehicle_now (g.S.Shop.history l.initial.shop))
-      → Goes (SoundAt run) (g.S.Shop.history l.initial.shop) (g.S.Shop.history l.shop) (Rests run R (place_at l.unit l.stage) (disk_now (g.S.Shop.history l.shop)) (vehicle_now (g.S.Shop.history l.shop)));
+  sound : IsTrue g.S.Shop.tells_vehicle → (run : Run) (R : Entry → Bool) → IsRoute run l.route → task_of run ≡ l.unit
+      → IsResting run R AtProgram (disk_now (g.S.Shop.history l.initial.shop)) (vehicle_now (g.S.Shop.history l.initial.shop))
+      → Keeps (SoundAt run) (g.S.Shop.history l.initial.shop) (g.S.Shop.history l.shop) (IsResting run R (place_at l.unit l.stage) (disk_now (g.S.Shop.history l.shop)) (vehicle_now (g.S.Shop.history l.shop)));
 }
 
 abbrev pub decreases-script : goal.decreases-script

@@ -8,8 +8,8 @@ use Rattle.thin_journal.specs.Make.{IsNew}
 use Rattle.thin_journal.proofs.Laters.{later_then}
 use Rattle.thin_engine.specs.Talking.{Run, SoundAt, IsRoute, task_of, is_begun}
 use Rattle.thin_engine.specs.declared.reading.Route.{Route}
-use Rattle.thin_engine.proofs.Going.{goes_then, goes_shown}
-use Rattle.thin_engine.proofs.Recording.{begin_goes, complete_goes}
+use Rattle.thin_engine.proofs.Parts.{keeps_then, keeps_shown}
+use Rattle.thin_engine.proofs.Recording.{begin_keeps, complete_keeps}
 use Rattle.thin_engine.proofs.driving.run.Goals as goal
 
 pub returns-in_err-record_begun-clause-later : goal.returns-in_err-record_begun-clause-later
@@ -37,7 +37,7 @@ returns-in_err-activate-clause-sound g c = λ told_disk told run tester task new
     let route : IsRoute run addresses = record { tester = sym tester; unit = sym (ap (λ (u : UnitPlan). u.address) task) } in
     let h0 = g.S.Shop.history c.args.shop.now in
     let h1 = g.S.Shop.history c.activate.new.shop in
-    goes_shown (SoundAt run) h0 h1 _ (c.activate.ensures.goes told run route fits)
+    keeps_shown (SoundAt run) h0 h1 _ (c.activate.ensures.sound told run route fits)
 
 pub returns-in_err-record_begun-clause-sound : goal.returns-in_err-record_begun-clause-sound
 returns-in_err-record_begun-clause-sound g c = λ told_disk told run tester task new fits.
@@ -48,8 +48,8 @@ returns-in_err-record_begun-clause-sound g c = λ told_disk told run tester task
     let h2 = g.S.Shop.history c.record_begun.new.shop in
     let new1 = subst (λ (d : DiskState). IsNew (label_of run.plan) d) (sym c.activate.ensures.later.disk) new in
     let through = c.record_begun.ensures.any_moment told_disk (label_of run.plan) run.is_first.count new1 in
-    goes_shown (SoundAt run) h0 h2 _ (goes_then (SoundAt run) h0 h1 h2 _ _ (c.in_ok-activate.ensures.goes told run route fits) c.record_begun.ensures.later.is_later
-    (λ rests. begin_goes run h1 h2 (Err DiskFault) through c.record_begun.ensures.later.vehicle tt rests))
+    keeps_shown (SoundAt run) h0 h2 _ (keeps_then (SoundAt run) h0 h1 h2 _ _ (c.in_ok-activate.ensures.sound told run route fits) c.record_begun.ensures.later.is_later
+    (λ rests. begin_keeps run h1 h2 (Err DiskFault) through c.record_begun.ensures.later.vehicle tt rests))
 
 pub returns-in_err-program-clause-sound : goal.returns-in_err-program-clause-sound
 returns-in_err-program-clause-sound g c = λ told_disk told run tester task new fits.
@@ -62,9 +62,9 @@ returns-in_err-program-clause-sound g c = λ told_disk told run tester task new 
     let through = c.record_begun.ensures.any_moment told_disk (label_of run.plan) run.is_first.count new1 in
     let h3 = g.S.Shop.history c.program.new.shop in
     let has = c.in_ok-record_begun.ensures.begun told_disk (label_of run.plan) run.is_first.count new1 in
-    let begun = goes_then (SoundAt run) h0 h1 h2 _ _ (c.in_ok-activate.ensures.goes told run route fits) c.record_begun.ensures.later.is_later
-    (λ rests. begin_goes run h1 h2 (Ok tt) through c.record_begun.ensures.later.vehicle has rests) in
-    goes_shown (SoundAt run) h0 h3 _ (goes_then (SoundAt run) h0 h2 h3 _ _ begun c.program.ensures.later.is_later (λ rests. c.program.ensures.goes told run is_begun route task rests))
+    let begun = keeps_then (SoundAt run) h0 h1 h2 _ _ (c.in_ok-activate.ensures.sound told run route fits) c.record_begun.ensures.later.is_later
+    (λ rests. begin_keeps run h1 h2 (Ok tt) through c.record_begun.ensures.later.vehicle has rests) in
+    keeps_shown (SoundAt run) h0 h3 _ (keeps_then (SoundAt run) h0 h2 h3 _ _ begun c.program.ensures.later.is_later (λ rests. c.program.ensures.sound told run is_begun route task rests))
 
 pub returns-in_err-record_complete-clause-sound : goal.returns-in_err-record_complete-clause-sound
 returns-in_err-record_complete-clause-sound g c = λ told_disk told run tester task new fits.
@@ -77,13 +77,13 @@ returns-in_err-record_complete-clause-sound g c = λ told_disk told run tester t
     let through = c.record_begun.ensures.any_moment told_disk (label_of run.plan) run.is_first.count new1 in
     let h3 = g.S.Shop.history c.program.new.shop in
     let has = c.in_ok-record_begun.ensures.begun told_disk (label_of run.plan) run.is_first.count new1 in
-    let begun = goes_then (SoundAt run) h0 h1 h2 _ _ (c.in_ok-activate.ensures.goes told run route fits) c.record_begun.ensures.later.is_later
-    (λ rests. begin_goes run h1 h2 (Ok tt) through c.record_begun.ensures.later.vehicle has rests) in
-    let programmed = goes_then (SoundAt run) h0 h2 h3 _ _ begun c.program.ensures.later.is_later (λ rests. c.in_ok-program.ensures.goes told run is_begun route task rests) in
+    let begun = keeps_then (SoundAt run) h0 h1 h2 _ _ (c.in_ok-activate.ensures.sound told run route fits) c.record_begun.ensures.later.is_later
+    (λ rests. begin_keeps run h1 h2 (Ok tt) through c.record_begun.ensures.later.vehicle has rests) in
+    let programmed = keeps_then (SoundAt run) h0 h2 h3 _ _ begun c.program.ensures.later.is_later (λ rests. c.in_ok-program.ensures.sound told run is_begun route task rests) in
     let h4 = g.S.Shop.history c.record_complete.new.shop in
     let has3 = subst (λ (d : DiskState). HasBegun (label_of run.plan) d) (sym c.program.ensures.later.disk) has in
-    goes_shown (SoundAt run) h0 h4 _ (goes_then (SoundAt run) h0 h3 h4 _ (Unit {0}) programmed c.record_complete.ensures.later.is_later
-    (λ rests. complete_goes run h3 h4 (c.record_complete.ensures.any_moment told_disk (label_of run.plan) run.is_first.count has3) rests))
+    keeps_shown (SoundAt run) h0 h4 _ (keeps_then (SoundAt run) h0 h3 h4 _ (Unit {0}) programmed c.record_complete.ensures.later.is_later
+    (λ rests. complete_keeps run h3 h4 (c.record_complete.ensures.any_moment told_disk (label_of run.plan) run.is_first.count has3) rests))
 
 pub returns-clause-sound : goal.returns-clause-sound
 returns-clause-sound g c = λ told_disk told run tester task new fits.
@@ -96,10 +96,10 @@ returns-clause-sound g c = λ told_disk told run tester task new fits.
     let through = c.record_begun.ensures.any_moment told_disk (label_of run.plan) run.is_first.count new1 in
     let h3 = g.S.Shop.history c.program.new.shop in
     let has = c.in_ok-record_begun.ensures.begun told_disk (label_of run.plan) run.is_first.count new1 in
-    let begun = goes_then (SoundAt run) h0 h1 h2 _ _ (c.in_ok-activate.ensures.goes told run route fits) c.record_begun.ensures.later.is_later
-    (λ rests. begin_goes run h1 h2 (Ok tt) through c.record_begun.ensures.later.vehicle has rests) in
-    let programmed = goes_then (SoundAt run) h0 h2 h3 _ _ begun c.program.ensures.later.is_later (λ rests. c.in_ok-program.ensures.goes told run is_begun route task rests) in
+    let begun = keeps_then (SoundAt run) h0 h1 h2 _ _ (c.in_ok-activate.ensures.sound told run route fits) c.record_begun.ensures.later.is_later
+    (λ rests. begin_keeps run h1 h2 (Ok tt) through c.record_begun.ensures.later.vehicle has rests) in
+    let programmed = keeps_then (SoundAt run) h0 h2 h3 _ _ begun c.program.ensures.later.is_later (λ rests. c.in_ok-program.ensures.sound told run is_begun route task rests) in
     let h4 = g.S.Shop.history c.record_complete.new.shop in
     let has3 = subst (λ (d : DiskState). HasBegun (label_of run.plan) d) (sym c.program.ensures.later.disk) has in
-    goes_shown (SoundAt run) h0 h4 _ (goes_then (SoundAt run) h0 h3 h4 _ (Unit {0}) programmed c.record_complete.ensures.later.is_later
-    (λ rests. complete_goes run h3 h4 (c.record_complete.ensures.any_moment told_disk (label_of run.plan) run.is_first.count has3) rests))
+    keeps_shown (SoundAt run) h0 h4 _ (keeps_then (SoundAt run) h0 h3 h4 _ (Unit {0}) programmed c.record_complete.ensures.later.is_later
+    (λ rests. complete_keeps run h3 h4 (c.record_complete.ensures.any_moment told_disk (label_of run.plan) run.is_first.count has3) rests))

@@ -8,7 +8,7 @@ use Rattle.shop_model.specs.History.{History, Call, LAST, Passes, disk_now, vehi
 use Rattle.shop_model.specs.Through.{IsLater, IsShownCall, AreShown, HoldsThrough, HoldsWhileShown}
 use Rattle.thin_journal.proofs.Laters.{later_same, later_then}
 use Rattle.thin_journal.specs.Later.{Stays}
-use Rattle.thin_engine.specs.Shown.{Goes}
+use Rattle.thin_engine.specs.Shown.{Keeps}
 
 order : (a b : ℕ) → (a ≤ b) ⊎ (b < a)
 order a b = grind arith
@@ -25,16 +25,16 @@ module _ (P : DiskState → Vehicle → Type 0) where
   at_moment : (d d2 : DiskState) (v v2 : Vehicle) → d2 ≡ d → v2 ≡ v → P d v → P d2 v2
   at_moment d d2 v v2 sd sv here = subst (λ (x : DiskState × Vehicle). P x.0 x.1) (λ i. (sym sd i, sym sv i)) here
 
-  pub goes_same : (old : History) (E : Type 0) → P (disk_now old) (vehicle_now old) → E → Goes P old old E
-  goes_same old E here end = record {
+  pub keeps_same : (old : History) (E : Type 0) → P (disk_now old) (vehicle_now old) → E → Keeps P old old E
+  keeps_same old E here end = record {
     is_later = later_same old;
     each = λ m ge le shown. let same : old.moment ≡ m = omega (arith, ge, le) in subst (λ (k : ℕ). P (old.disk_at k) (old.vehicle_at k)) same here;
     end = λ shown. end;
   }
 
-  pub goes_call : {T : Type 0} (call : Call) (old new : History) (r : Result T DeviceFault) (E : Type 0) → IsLater old new → old.moment ≤ LAST → Passes call old new r → P (disk_now old) (vehicle_now old) → (IsErr r → E)
-      → (IsShownCall call (vehicle_now old) (vehicle_now new) → P (disk_now new) (vehicle_now new) × E) → Goes P old new E
-  goes_call call old new r E later bounded passes here stuck step = record {
+  pub keeps_call : {T : Type 0} (call : Call) (old new : History) (r : Result T DeviceFault) (E : Type 0) → IsLater old new → old.moment ≤ LAST → Passes call old new r → P (disk_now old) (vehicle_now old) → (IsErr r → E)
+      → (IsShownCall call (vehicle_now old) (vehicle_now new) → P (disk_now new) (vehicle_now new) × E) → Keeps P old new E
+  keeps_call call old new r E later bounded passes here stuck step = record {
     is_later = later;
     each = λ m ge le shown. elim (order m old.moment) [
       | inl before ↦
@@ -61,8 +61,8 @@ module _ (P : DiskState → Vehicle → Type 0) where
           let d : new.vehicle_at (old.moment + 1) ≡ vehicle_now new = ap (λ (k : ℕ). new.vehicle_at k) (sym one) in
           subst (λ (x : Call × Vehicle × Vehicle). IsShownCall x.0 x.1 x.2) (λ i. (a i, b i, d i)) shown
 
-  pub goes_then : (old mid new : History) (E F : Type 0) → Goes P old mid E → IsLater mid new → (E → Goes P mid new F) → Goes P old new F
-  goes_then old mid new E F first later then = record {
+  pub keeps_then : (old mid new : History) (E F : Type 0) → Keeps P old mid E → IsLater mid new → (E → Keeps P mid new F) → Keeps P old new F
+  keeps_then old mid new E F first later then = record {
     is_later = later_then old mid new first.is_later later;
     each = λ m ge le shown. elim (order m mid.moment) [
       | inl before ↦ at_moment (mid.disk_at m) (new.disk_at m) (mid.vehicle_at m) (new.vehicle_at m) (later.disk_past m before) (later.vehicle_past m before) (first.each m ge before (shown_past old.moment m mid new later before shown))
@@ -77,18 +77,18 @@ module _ (P : DiskState → Vehicle → Type 0) where
         (then e).end (λ k kge klt. shown k (omega (arith, kge, first.is_later.later)) klt);
   }
 
-  pub goes_map : (old new : History) (E F : Type 0) → (E → F) → Goes P old new E → Goes P old new F
-  goes_map old new E F f goes = record { is_later = goes.is_later; each = goes.each; end = λ shown. f (goes.end shown) }
+  pub keeps_map : (old new : History) (E F : Type 0) → (E → F) → Keeps P old new E → Keeps P old new F
+  keeps_map old new E F f goes = record { is_later = goes.is_later; each = goes.each; end = λ shown. f (goes.end shown) }
 
-  pub goes_shown : (old new : History) (E : Type 0) → Goes P old new E → HoldsWhileShown old new P
-  goes_shown old new E goes = record { is_later = goes.is_later; each = goes.each }
+  pub keeps_shown : (old new : History) (E : Type 0) → Keeps P old new E → HoldsWhileShown old new P
+  keeps_shown old new E goes = record { is_later = goes.is_later; each = goes.each }
 
-  pub shown_goes : (old new : History) → HoldsWhileShown old new P → Goes P old new (Unit {0})
-  shown_goes old new holds = record { is_later = holds.is_later; each = holds.each; end = λ shown. tt }
+  pub shown_keeps : (old new : History) → HoldsWhileShown old new P → Keeps P old new (Unit {0})
+  shown_keeps old new holds = record { is_later = holds.is_later; each = holds.each; end = λ shown. tt }
 
   -- disk calls, through which the vehicle stays
-  pub stays_goes : (Q : DiskState → Type 0) (v : Vehicle) (old new : History) (E : Type 0) → HoldsThrough old new (Stays v Q) → ((d : DiskState) → Q d → P d v) → E → Goes P old new E
-  stays_goes Q v old new E through sound end = record {
+  pub stays_keeps : (Q : DiskState → Type 0) (v : Vehicle) (old new : History) (E : Type 0) → HoldsThrough old new (Stays v Q) → ((d : DiskState) → Q d → P d v) → E → Keeps P old new E
+  stays_keeps Q v old new E through sound end = record {
     is_later = through.is_later;
     each = λ m ge le shown. let s = through.each m ge le in subst (λ (w : Vehicle). P (new.disk_at m) w) (sym s.vehicle) (sound (new.disk_at m) s.disk);
     end = λ shown. end;
