@@ -1,3 +1,8 @@
+pub mod IdealCalm
+pub mod IdealCounts
+pub mod IdealPoll
+pub mod IdealSend
+pub mod IdealUnit
 pub mod Laters
 pub mod Leads
 pub mod Limits

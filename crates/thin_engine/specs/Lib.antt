@@ -1,7 +1,12 @@
 pub mod Causes
+pub mod Coming
+pub mod Growing
 pub mod Judging
 pub mod Later
 pub mod Leads
 pub mod Look
 pub mod Reading
+pub mod Reads
+pub mod Said
 pub mod Stages
+pub mod Undisturbed
