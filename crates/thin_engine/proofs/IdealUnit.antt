@@ -23,18 +23,11 @@ use Rattle.run_model.specs.Script.{bytes_at, range_record, is_empty}
 use Rattle.run_model.specs.Sound.{HoldsBytes, has_range}
 use Rattle.run_model.specs.States.{StateAt, HasTransfer, HasFilled}
 use Rattle.thin_engine.proofs.Leads.{stage_says}
+use Rattle.thin_engine.specs.Programming.{CanTake}
 use Rattle.thin_engine.specs.Said.{said_at}
 use Rattle.thin_engine.specs.Stages.{IsFirst, IsStage, place_at, segment_of, cursor_of}
 use Rattle.thin_engine.specs.declared.stage.Stage.{Stage}
 use Rattle.thin_engine.specs.declared.stage.Stage.TheVariants.{Program, Erase, Download, Block, Exit, Check, Finish, Reset as at_reset, Done}
-
--- the unit can be programmed by its task, and has the addresses of the segment
-pub record CanTake (plan : UnitPlan) (u : ControlUnit) : Type 0 where
-  pub key : u.key ≡ Free
-  pub check : u.check ≡ plan.check
-  pub low : 3 ≤ u.block
-  pub high : u.block < 4294967296
-  pub room : has_each (segment_of plan).at (length (segment_of plan).body) u.memory ≡ true
 
 -- ------ memory
 fill_domain : (at n x : ℕ) (m : ByteMap) (a : ℕ) → is_some (byte_at (fill at n x m) a) ≡ is_some (byte_at m a)
@@ -71,7 +64,7 @@ same_self (x ∷ xs) = and_from _ _ (eq-eqb x x refl) (same_self xs)
 
 -- ------ the answers
 -- the obedient step gives this answer, and the unit can go on
-pub record Says (plan : UnitPlan) (u : ControlUnit) (stage : Stage) : Type 0 where
+pub record SaysIt (plan : UnitPlan) (u : ControlUnit) (stage : Stage) : Type 0 where
   pub answer : (obedient u (bytes_at plan (place_at plan stage))).1 ≡ said_at plan u.block stage
   pub able : CanTake plan (obedient u (bytes_at plan (place_at plan stage))).0
   pub block : (obedient u (bytes_at plan (place_at plan stage))).0.block ≡ u.block
@@ -80,7 +73,7 @@ module _ (plan : UnitPlan) (first : IsFirst plan) (ok : IsAcceptedUnit plan) whe
   abbrev seg : Segment
   seg = segment_of plan
 
-  by_request : (u : ControlUnit) (stage : Stage) (r : Request) (w : ControlUnit) → request_of (bytes_at plan (place_at plan stage)) ≡ Some r → obey u r ≡ (w, said_at plan u.block stage) → CanTake plan w → w.block ≡ u.block → Says plan u stage
+  by_request : (u : ControlUnit) (stage : Stage) (r : Request) (w : ControlUnit) → request_of (bytes_at plan (place_at plan stage)) ≡ Some r → obey u r ≡ (w, said_at plan u.block stage) → CanTake plan w → w.block ≡ u.block → SaysIt plan u stage
   by_request u stage r w reads is able block =
       let e : obedient u (bytes_at plan (place_at plan stage)) ≡ (w, said_at plan u.block stage) = ap (obey_in u (sid_of (bytes_at plan (place_at plan stage)))) reads ∙ is in
       record {
@@ -106,17 +99,17 @@ module _ (plan : UnitPlan) (first : IsFirst plan) (ok : IsAcceptedUnit plan) whe
     size_some : (length seg.body == 0) ≡ false
     size_some = ne_eqb (length seg.body) 0 (λ e. omega (arith, e, first.some))
 
-    pub program_says : Says plan u Program
+    pub program_says : SaysIt plan u Program
     program_says = by_request u Program (Session 2) (in_session u 2) refl refl (able (in_session u 2) refl refl refl (λ a. refl)) refl
 
-    pub reset_says : Says plan u at_reset
+    pub reset_says : SaysIt plan u at_reset
     reset_says = by_request u at_reset Reset (in_session u 1) refl refl (able (in_session u 1) refl refl refl (λ a. refl)) refl
 
     module _ (programs : u.session ≡ 2) where
       in_two : (u.session == 2) ≡ true
       in_two = eq-eqb u.session 2 programs
 
-      pub erase_says : Says plan u Erase
+      pub erase_says : SaysIt plan u Erase
       erase_says =
           let reads = ap range_of (sym (append-nil (range_record plan seg))) ∙ (cursor_reads plan (cursor_of plan) [] ok (sym first.one)).reads in
           let at : erase_in u (range_of (range_record plan seg)) ≡ (erased u seg.at (length seg.body), 113 ∷ 1 ∷ 255 ∷ 0 ∷ 0 ∷ []) =
@@ -125,7 +118,7 @@ module _ (plan : UnitPlan) (first : IsFirst plan) (ok : IsAcceptedUnit plan) whe
           (let a = in_two in let b = unlocked in rw (a, b) at)
           (able (erased u seg.at (length seg.body)) refl refl refl (fill_domain seg.at (length seg.body) 255 u.memory)) refl
 
-      pub download_says : Says plan u Download
+      pub download_says : SaysIt plan u Download
       download_says =
           by_request u Download (download_request plan.width seg.at (length seg.body)) (downloading u seg.at (length seg.body)) (stage_says plan first ok Download tt refl).reads
           (let a = in_two in let b = unlocked in let c = can.room in rw (a, b, c) refl)
@@ -149,7 +142,7 @@ module _ (plan : UnitPlan) (first : IsFirst plan) (ok : IsAcceptedUnit plan) whe
           never true = refl
           never false = refl
 
-      pub block_says : (sent counter limit : ℕ) → IsStage plan (Block sent counter limit) → limit ≤ u.block → StateAt plan (place_at plan (Block sent counter limit)) u → Says plan u (Block sent counter limit)
+      pub block_says : (sent counter limit : ℕ) → IsStage plan (Block sent counter limit) → limit ≤ u.block → StateAt plan (place_at plan (Block sent counter limit)) u → SaysIt plan u (Block sent counter limit)
       block_says sent counter limit is few state =
           let body : List ℕ = take (limit - 2) (drop sent seg.body) in
           let has = state.2 in
@@ -164,13 +157,13 @@ module _ (plan : UnitPlan) (first : IsFirst plan) (ok : IsAcceptedUnit plan) whe
       exiting : (t : OpenTransfer) → t.rest ≡ 0 → exit_in u (Some t) ≡ (record u { transfer = None }, 119 ∷ [])
       exiting t none = let e : (t.rest == 0) ≡ true = eq-eqb t.rest 0 none in rw e refl
 
-      pub exit_says : HasFilled (cursor_of plan) u → Says plan u Exit
+      pub exit_says : HasFilled (cursor_of plan) u → SaysIt plan u Exit
       exit_says filled =
           by_request u Exit exit_request (record u { transfer = None }) (stage_says plan first ok Exit tt refl).reads
           (let a = in_two in rw a (ap (exit_in u) filled.transfer ∙ exiting filled.last filled.rest))
           (able (record u { transfer = None }) refl refl refl (λ a. refl)) refl
 
-      pub check_says : HoldsBytes seg.at seg.body u.memory → Says plan u Check
+      pub check_says : HoldsBytes seg.at seg.body u.memory → SaysIt plan u Check
       check_says holds =
           let option : List ℕ = range_record plan seg ++ sha256 seg.body in
           let reads = (cursor_reads plan (cursor_of plan) (sha256 seg.body) ok (sym first.one)).reads in
@@ -191,7 +184,7 @@ module _ (plan : UnitPlan) (first : IsFirst plan) (ok : IsAcceptedUnit plan) whe
       finishing [] at size has = absurd (false≢true has)
       finishing (r ∷ rs) at size has = refl
 
-      pub finish_says : has_range u.checked seg.at (length seg.body) ≡ true → Says plan u Finish
+      pub finish_says : has_range u.checked seg.at (length seg.body) ≡ true → SaysIt plan u Finish
       finish_says has =
           by_request u Finish (Routine 65281 []) (record u { passed = true }) (stage_says plan first ok Finish tt refl).reads
           (let a = in_two in let b = unlocked in rw (a, b) (finishing u.checked seg.at (length seg.body) has))

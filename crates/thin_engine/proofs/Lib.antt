@@ -1,6 +1,13 @@
+pub mod IdealAsk
+pub mod IdealCalls
 pub mod IdealCalm
+pub mod IdealCollect
 pub mod IdealCounts
+pub mod IdealDrive
+pub mod IdealLimits
 pub mod IdealPoll
+pub mod IdealProgram
+pub mod IdealRead
 pub mod IdealSend
 pub mod IdealUnit
 pub mod Laters

@@ -1,12 +1,15 @@
 pub mod Causes
+pub mod Collecting
 pub mod Coming
 pub mod Growing
 pub mod Judging
 pub mod Later
 pub mod Leads
 pub mod Look
+pub mod Programming
 pub mod Reading
 pub mod Reads
 pub mod Said
+pub mod SameUnits
 pub mod Stages
 pub mod Undisturbed

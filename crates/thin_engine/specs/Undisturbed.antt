@@ -3,6 +3,7 @@ use Rattle.std.specs.Prelude.{◌≡◌, ◌⊎◌, ℕ, ◌<◌, ◌≤◌, Boo
 use Rattle.doip_frame.specs.Frame.{stream_of}
 use Rattle.doip_frame.specs.declared.frame.Frame.{Frame}
 use Rattle.doip_frame.specs.declared.frame.Frame.TheVariants.{HeaderNack, Activate, Activated, AliveAsk, AliveSay, Message, Ack, Nack, Other}
+use Rattle.flash_plan.specs.declared.outcome.Entry.{Entry}
 use Rattle.flash_plan.specs.declared.outcome.Outcome.TheVariants as outcome
 use Rattle.flash_plan.specs.declared.unit.UnitPlan.{UnitPlan}
 use Rattle.run_model.specs.Sound.{IsFinalVehicle}
@@ -77,6 +78,21 @@ pub record IsPlainRun (old new : History) : Type 0 where
   pub served : (k m : ℕ) → old.moment ≤ k → k < m → m ≤ new.moment → new.call_at k ≡ Redial → IsServed (new.vehicle_at m).gateway
 
 -- ------ a part of it
+-- nothing failed or departed on the link, and on a connection that is dialed in it all is served
+pub record IsUndisturbed (old new : History) : Type 0 where
+  pub link_count : IsCount old.link_faults
+  pub link : IsCalm old.link_faults new.link_faults
+  pub counts : IsCounted (vehicle_now old)
+  pub vehicle : IsVehicleCalm (vehicle_now old) (vehicle_now new)
+  pub served : (k m : ℕ) → old.moment ≤ k → k < m → m ≤ new.moment → new.call_at k ≡ Redial → IsServed (new.vehicle_at m).gateway
+
+-- a connection was dialed
+pub record IsDialed (old new : History) : Type 0 where
+  pub moment : ℕ
+  pub from : old.moment ≤ moment
+  pub to : moment < new.moment
+  pub call : new.call_at moment ≡ Redial
+
 -- over one connection, nothing failed or departed
 pub record IsQuietPart (old new : History) : Type 0 where
   pub link_count : IsCount old.link_faults
@@ -85,7 +101,10 @@ pub record IsQuietPart (old new : History) : Type 0 where
   pub vehicle : IsVehicleCalm (vehicle_now old) (vehicle_now new)
   pub served : (m : ℕ) → old.moment ≤ m → m ≤ new.moment → IsServed (new.vehicle_at m).gateway
 
--- ------ how it ends
+-- ------ how it starts and ends
+abbrev pub none_recorded : Entry → Bool
+none_recorded e = false
+
 -- There was no memory, or the run is complete and the memory of each unit is that of one plain overwrite by its image.
 abbrev pub IsDriven : List UnitPlan → Vehicle → Vehicle → Ended → Type 0
 IsDriven P v0 v1 ended = (ended ≡ NoMemory) ⊎ (ended ≡ Ran outcome.NoMemory) ⊎ (ended ≡ Ran outcome.Complete) × IsFinalVehicle P v0 v1

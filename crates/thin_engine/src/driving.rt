@@ -1,8 +1,15 @@
-ghost use Rattle.std.specs.Prelude.{◌≡◌, ◌⊎◌, ◌<◌, ◌≤◌, [], length, IsTrue, IsErr, OnOk, IfOk, IfErr};
+ghost use Rattle.std.specs.Prelude.{◌≡◌, ◌⊎◌, ◌<◌, ◌≤◌, Some, [], length, IsTrue, IsErr, OnOk, IfOk, IfErr};
 ghost use Rattle.flash_plan.specs.Plan.{IsAcceptedUnit, plan_of};
 ghost use Rattle.flash_base.specs.Counts.{Rises};
 ghost use Rattle.shop_model.specs.History.{disk_now, vehicle_now};
 ghost use Rattle.shop_model.specs.Through.{IsLater};
+ghost use Rattle.run_model.specs.Matching.{Matches};
+ghost use Rattle.run_model.specs.Troubles.{IsCalm, IsUntroubled};
+ghost use Rattle.unit_model.specs.Unit.{ControlUnit};
+ghost use Rattle.unit_model.specs.Vehicle.{unit_at};
+ghost use Rattle.thin_engine.specs.Growing.{VehicleUp};
+ghost use Rattle.thin_engine.specs.Programming.{CanTake, AtStage, Turned, Programmed, HasRun};
+ghost use Rattle.thin_engine.specs.Undisturbed.{IsCount, IsQuietPart, IsUndisturbed, IsPlainRun, IsDriven, none_recorded};
 ghost use Rattle.thin_engine.specs.Later.{IsTalkLater, IsUnchanged};
 ghost use Rattle.thin_engine.specs.Causes.{IsMidway, HasCause};
 ghost use Rattle.journal_model.specs.Records.{Label, label_of};
@@ -36,7 +43,8 @@ pub enum Ended {
 
 /// The outcome of a request with this service that got no answer.
 fn outcome_of(trouble: Trouble, sid: u8) -> Outcome
-    ensures { IsMidway result }
+    ensures midway { IsMidway result }
+    ensures memory { trouble ≡ Trouble.NoMemory → result ≡ Outcome.NoMemory }
 {
     match trouble {
         Trouble::NoMemory => Outcome::NoMemory,
@@ -62,6 +70,10 @@ fn turn<S: Shop>(
     ensures smaller { IfOk result (λ s. work_left (length (segment_of unit.now).body) s < work_left (length (segment_of unit.now).body) stage) }
     ensures stage { IfOk result (IsStage unit.now) }
     ensures outcome { IfErr result IsMidway }
+    ensures grows { IsTrue S.tells_vehicle → VehicleUp (vehicle_now (S.history shop.old)) (vehicle_now (S.history shop.new)) }
+    ensures turns { IsTrue S.tells_vehicle → IsQuietPart (S.history shop.old) (S.history shop.new) → (u : ControlUnit) → (stage ≡ Stage.Done → ⊥)
+        → AtStage route.now.tester route.now.unit unit.now u stage (vehicle_now (S.history shop.old))
+        → Turned result route.now.tester route.now.unit unit.now u (vehicle_now (S.history shop.new)) }
 {
     let Ok(request) = request(alloc, unit, stage) else {
         return Err(Outcome::NoMemory);
@@ -84,6 +96,10 @@ fn program<S: Shop>(
     requires accepted { IsAcceptedUnit unit.now }
     ensures later { IsTalkLater (S.history shop.old) (S.history shop.new) }
     ensures outcome { IfErr result IsMidway }
+    ensures grows { IsTrue S.tells_vehicle → VehicleUp (vehicle_now (S.history shop.old)) (vehicle_now (S.history shop.new)) }
+    ensures programs { IsTrue S.tells_vehicle → IsQuietPart (S.history shop.old) (S.history shop.new) → (u : ControlUnit)
+        → AtStage route.now.tester route.now.unit unit.now u Stage.Program (vehicle_now (S.history shop.old))
+        → Programmed result route.now.tester route.now.unit unit.now u (vehicle_now (S.history shop.new)) }
 {
     let mut stage = Stage::Program;
     'script: while stage != Stage::Done {
@@ -100,6 +116,7 @@ fn record_begun<S: Shop>(shop: &mut S) -> Result<(), Outcome>
     ensures cause { IfErr result (λ o. HasCause o (S.history shop.old) (S.history shop.new)) }
     ensures begun { OnOk result (IsTrue S.tells_disk → (P : Label) → P.units ≡ 1 → IsNew P (disk_now (S.history shop.old))
         → HasBegun P (disk_now (S.history shop.new))) }
+    ensures fault { IsErr result → Rises (S.history shop.old).disk_faults (S.history shop.new).disk_faults }
 {
     match begin(shop) {
         Ok(()) => Ok(()),
@@ -114,6 +131,7 @@ fn record_complete<S: Shop>(shop: &mut S) -> Result<(), Outcome>
     ensures cause { IfErr result (λ o. HasCause o (S.history shop.old) (S.history shop.new)) }
     ensures complete { OnOk result (IsTrue S.tells_disk → (P : Label) → P.units ≡ 1 → HasBegun P (disk_now (S.history shop.old))
         → HasBoth P (disk_now (S.history shop.new))) }
+    ensures fault { IsErr result → Rises (S.history shop.old).disk_faults (S.history shop.new).disk_faults }
 {
     match complete(shop) {
         Ok(()) => Ok(()),
@@ -130,6 +148,11 @@ fn run<S: Shop>(alloc: Global, shop: &mut S, tester: u16, unit: &UnitPlan) -> Re
     ensures cause { IfErr result (λ o. HasCause o (S.history shop.old) (S.history shop.new)) }
     ensures complete { OnOk result (IsTrue S.tells_disk → (P : Label) → P.units ≡ 1 → IsNew P (disk_now (S.history shop.old))
         → HasBoth P (disk_now (S.history shop.new))) }
+    ensures grows { IsTrue S.tells_vehicle → VehicleUp (vehicle_now (S.history shop.old)) (vehicle_now (S.history shop.new)) }
+    ensures runs { IsTrue S.tells_vehicle → IsUndisturbed (S.history shop.old) (S.history shop.new)
+        → IsCount (S.history shop.old).disk_faults → IsCalm (S.history shop.old).disk_faults (S.history shop.new).disk_faults
+        → (u : ControlUnit) → unit_at (vehicle_now (S.history shop.old)).units unit.now.address ≡ Some u → CanTake unit.now u
+        → HasRun result unit.now.address unit.now u (vehicle_now (S.history shop.new)) }
 {
     let route = Route {
         tester,
@@ -158,6 +181,12 @@ pub fn drive<S: Shop>(alloc: Global, shop: &mut S, tester: u16, plan: &Plan) -> 
     // At Complete, whatever a crash leaves records that the unit is begun and complete, and nothing else.
     ensures recorded { result ≡ Ended.Ran Outcome.Complete → IsTrue S.tells_disk → RecordsBoth (label_of plan.now) (disk_now (S.history shop.new)) }
     ensures disk { (result ≡ Ended.Disk) ⊎ (result ≡ Ended.Ran Outcome.DiskFault) → Rises (S.history shop.old).disk_faults (S.history shop.new).disk_faults }
+
+    // Where nothing fails or departs, units that fit are programmed: but for want of memory the run ends Complete.
+    ensures complete { IsTrue S.tells_disk → IsTrue S.tells_vehicle → (disk_now (S.history shop.old)).bytes ≡ []
+        → Matches plan.now none_recorded (vehicle_now (S.history shop.old))
+        → IsUntroubled (S.history shop.old) (S.history shop.new) → IsPlainRun (S.history shop.old) (S.history shop.new)
+        → IsDriven plan.now (vehicle_now (S.history shop.old)) (vehicle_now (S.history shop.new)) result }
 {
     match shop.len() {
         Ok(length) => {
