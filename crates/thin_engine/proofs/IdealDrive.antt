@@ -1,5 +1,5 @@
 -- A run from the first call to the last.
-use Rattle.std.proofs.Common.{◌≡◌, ◌⊎◌, inl, inr, ℕ, ◌+◌, ◌<◌, ◌≤◌, List, [], length, Result, Ok, Err, refl, sym, ◌∙◌, ap, subst, arith}
+use Rattle.std.proofs.Common.{◌≡◌, ◌⊎◌, inl, inr, ℕ, ◌+◌, ◌<◌, ◌≤◌, false, List, [], length, Result, Ok, Err, refl, sym, ◌∙◌, ap, subst, arith}
 use Rattle.std.specs.Prelude.{Option, Some, None, MatchOption, IsErr}
 use Rattle.flash_base.specs.ByteMaps.{byte_at}
 use Rattle.flash_base.specs.Counts.{Rises}
@@ -19,10 +19,11 @@ use Rattle.run_model.specs.States.{HasRoom}
 use Rattle.run_model.specs.Troubles.{IsCalm, IsUntroubled, IsVehicleCalm}
 use Rattle.thin_engine.proofs.IdealCalls.{same_unit, quiet_after}
 use Rattle.thin_engine.proofs.IdealCalm.{no_fault, parts, quiet_parts}
+use Rattle.thin_engine.proofs.IdealCounts.{vehicle_same}
 use Rattle.thin_engine.proofs.IdealUnit.{room_held}
 use Rattle.thin_engine.specs.Coming.{Rests}
 use Rattle.thin_engine.specs.Growing.{VehicleUp}
-use Rattle.thin_engine.specs.Programming.{CanTake, AtStage, HasImage}
+use Rattle.thin_engine.specs.Programming.{CanTake, AtStage, Programmed, HasImage, HasRun}
 use Rattle.thin_engine.specs.SameUnits.{AreSame}
 use Rattle.thin_engine.specs.Stages.{IsFirst, IsFirstPlan, segment_of}
 use Rattle.thin_engine.specs.Undisturbed.{IsCount, IsCounted, IsServed, IsQuietPart, IsUndisturbed, IsDialed, IsPlainRun, IsDriven, none_recorded}
@@ -114,3 +115,42 @@ run_begins tester unit plan u0 a b d e ad de up up2 dialed same activated q ther
   quiet = quiet_after a d e ad de up up2 dialed q;
   stands = stage_moved tester unit plan u0 (vehicle_now b) (vehicle_now d) same (begins tester unit plan u0 (vehicle_now a) (vehicle_now b) there can activated.0 activated.1);
 }
+
+pub kept_up : (v w : Vehicle) → w ≡ v → VehicleUp v w
+kept_up v w is = subst (λ (x : Vehicle). VehicleUp v x) (sym is) (vehicle_same v)
+
+-- a disk call that failed raised the count
+pub disk_fails : (a b c d : ℕ) → b ≡ a → b ≤ c → c ≤ d → IsCount a → IsCalm a d → Rises b c → ⊥
+disk_fails a b c d same le le2 count calm rises =
+    let p = parts a c d (omega (arith, same, le)) le2 count calm in
+    no_fault a c count (omega (arith, same, le)) p.first (subst (λ (n : ℕ). Rises n c) same rises)
+
+pub image_kept : (unit : ℕ) (plan : UnitPlan) (u0 : ControlUnit) (v w : Vehicle) → w ≡ v → HasImage unit plan u0 v → HasImage unit plan u0 w
+image_kept unit plan u0 v w is image = subst (λ (x : Vehicle). HasImage unit plan u0 x) (sym is) image
+
+-- ------ the whole
+abbrev pub ended_by : Result Unit Outcome → Ended
+ended_by (Ok done) = Ran outcome.Complete
+ended_by (Err e) = Ran e
+
+module _ (P : List UnitPlan) (first : IsFirstPlan P) (a b c : History) (same : vehicle_now b ≡ vehicle_now a) (link : b.link_faults ≡ a.link_faults) (later : a.moment ≤ b.moment) (disk : a.disk_faults ≤ b.disk_faults) where
+  pub run_ends : (r : Result Unit Outcome) (p : UnitPlan) → p ≡ plan_of P 0 → b.disk_faults ≤ c.disk_faults
+      → (IsUndisturbed b c → IsCount b.disk_faults → IsCalm b.disk_faults c.disk_faults → (u : ControlUnit) → unit_at (vehicle_now b).units p.address ≡ Some u → CanTake p u → HasRun r p.address p u (vehicle_now c))
+      → Matches P none_recorded (vehicle_now a) → IsUntroubled a c → IsPlainRun a c → IsDriven P (vehicle_now a) (vehicle_now c) (ended_by r)
+  run_ends r p is disk2 runs matches untroubled plain =
+      let ready = is_ready P (vehicle_now a) first matches in
+      let disks = parts a.disk_faults b.disk_faults c.disk_faults disk disk2 plain.disk_count untroubled.disk in
+      let there : unit_at (vehicle_now b).units p.address ≡ Some ready.unit = (λ i. unit_at (same i).units (is i).address) ∙ ready.at in
+      let can : CanTake p ready.unit = subst (λ (x : UnitPlan). CanTake x ready.unit) (sym is) ready.can in
+      go r ready (subst (λ (x : UnitPlan). HasRun r x.address x ready.unit (vehicle_now c)) is (runs (whole_run a b c same link later untroubled plain) disks.count disks.second ready.unit there can))
+    where
+      go : (r : Result Unit Outcome) (ready : IsReady P (vehicle_now a)) → HasRun r (plan_of P 0).address (plan_of P 0) ready.unit (vehicle_now c) → IsDriven P (vehicle_now a) (vehicle_now c) (ended_by r)
+      go (Ok done) ready image = inr (inr (refl, final P ready.unit (vehicle_now a) (vehicle_now c) first.count ready.at image))
+      go (Err e) ready is = starved P (vehicle_now a) (vehicle_now c) e is
+
+-- ------ what a `?` hands on
+pub starved_run : (unit : ℕ) (plan : UnitPlan) (u0 : ControlUnit) (v : Vehicle) (r : Result Unit Outcome) (y : Outcome) → r ≡ Err y → y ≡ outcome.NoMemory → HasRun r unit plan u0 v
+starved_run unit plan u0 v r y is none = subst (λ (x : Result Unit Outcome). HasRun x unit plan u0 v) (sym is) none
+
+pub starved_program : (tester unit : ℕ) (plan : UnitPlan) (u0 : ControlUnit) (v : Vehicle) (r : Result Unit Outcome) (y : Outcome) → r ≡ Err y → y ≡ outcome.NoMemory → Programmed r tester unit plan u0 v
+starved_program tester unit plan u0 v r y is none = subst (λ (x : Result Unit Outcome). Programmed x tester unit plan u0 v) (sym is) none

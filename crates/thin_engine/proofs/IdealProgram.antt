@@ -115,7 +115,7 @@ module _ (plan : UnitPlan) (first : IsFirst plan) (ok : IsAcceptedUnit plan) whe
         }
 
   -- ------ the image
-  over_byte : Option ℕ → Option ℕ → Option ℕ
+  abbrev over_byte : Option ℕ → Option ℕ → Option ℕ
   over_byte None y = None
   over_byte (Some x) y = Some (byte_or x y)
 

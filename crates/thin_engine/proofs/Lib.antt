@@ -4,7 +4,6 @@ pub mod IdealCalm
 pub mod IdealCollect
 pub mod IdealCounts
 pub mod IdealDrive
-pub mod IdealLimits
 pub mod IdealPoll
 pub mod IdealProgram
 pub mod IdealRead
