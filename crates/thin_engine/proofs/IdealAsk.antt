@@ -1,6 +1,6 @@
 -- A request and an activation, from the first call to the last piece of the answer.
-use Rattle.std.proofs.Common.{◌≡◌, ℕ, ◌<◌, List, [], ◌∷◌, length, drop, arith, Result, Ok, Err, Vec, refl, sym, ◌∙◌, ap, subst}
-use Rattle.std.specs.Prelude.{Option, Some, IsTrue}
+use Rattle.std.proofs.Common.{◌≡◌, ℕ, List, [], ◌∷◌, drop, arith, Result, Ok, Err, Vec, sym, ◌∙◌, ap, subst}
+use Rattle.std.specs.Prelude.{Option, Some}
 use Rattle.std.specs.declared.alloc.Global.{Global}
 use Rattle.doip_frame.specs.Frame.{message_bytes, activate_bytes}
 use Rattle.shop_model.specs.History.{History, vehicle_now}
@@ -32,17 +32,16 @@ module _ (tester unit : ℕ) where
   pub ask_ends : (body frame : List ℕ) (sent : Type 0) (a b c : History) (r : Result (Vec ℕ Global) Trouble) → IsLater a b → IsLater b c → VehicleUp (vehicle_now a) (vehicle_now b) → VehicleUp (vehicle_now b) (vehicle_now c)
       → frame ≡ message_bytes tester unit body → CanSend body → (IsQuietPart a b → sent × Feeds frame (vehicle_now a) (vehicle_now b))
       → FromAwaits Answer tester unit b c (λ all. Collected r tester (drop (body_at Answer) all) (vehicle_now b) (vehicle_now c))
-      → IsQuietPart a c → (u : ControlUnit) → unit_at (vehicle_now a).units unit ≡ Some u → Rests tester (vehicle_now a).gateway → HasAsked r tester unit u (obedient u body) (vehicle_now a) (vehicle_now c)
+      → IsQuietPart a c → (u : ControlUnit) → unit_at (vehicle_now a).units unit ≡ Some u → Rests tester (vehicle_now a).gateway → HasAsked r tester unit (obedient u body) (vehicle_now a) (vehicle_now c)
   ask_ends body frame sent a b c r ab bc up up2 is can sends collects q u there rests =
       let p = quiet_parts a b c ab bc up up2 q in
       let feeds : Feeds (message_bytes tester unit body) (vehicle_now a) (vehicle_now b) = subst (λ (xs : List ℕ). Feeds xs (vehicle_now a) (vehicle_now b)) is (sends p.first).1 in
       let s = asked tester unit body u (vehicle_now a) (vehicle_now b) rests there can feeds p.first.counts p.first.vehicle (served_now a b ab p.first) in
       go r s (collects p.second s.after 0 (obedient u body).1 s.can s.at s.awaits)
     where
-      go : (r : Result (Vec ℕ Global) Trouble) → (s : Asked tester unit body u (vehicle_now a) (vehicle_now b)) → Collected r tester (obedient u body).1 (vehicle_now b) (vehicle_now c) → HasAsked r tester unit u (obedient u body) (vehicle_now a) (vehicle_now c)
+      go : (r : Result (Vec ℕ Global) Trouble) → (s : Asked tester unit body u (vehicle_now a) (vehicle_now b)) → Collected r tester (obedient u body).1 (vehicle_now b) (vehicle_now c) → HasAsked r tester unit (obedient u body) (vehicle_now a) (vehicle_now c)
       go (Ok v) s (items, rests2, same) =
-          let w = same_unit s.after _ _ s.at (same unit) in
-          (
+          let w = same_unit s.after _ _ s.at (same unit) in (
             items,
             rests2,
             record {

@@ -1,14 +1,13 @@
 -- What a link call brings in a part of a run that nothing disturbs.
-use Rattle.std.proofs.Common.{◌≡◌, ◌⊎◌, inl, inr, ℕ, ◌+◌, ◌<◌, ◌≤◌, List, [], ◌∷◌, ◌++◌, length, take, Result, Ok, Err, refl, sym, ◌∙◌, ap, subst, arith, length-take}
+use Rattle.std.proofs.Common.{◌≡◌, ◌⊎◌, inl, inr, ℕ, ◌<◌, ◌≤◌, List, ◌++◌, length, take, Result, Ok, Err, refl, sym, ◌∙◌, subst, arith, length-take}
 use Rattle.std.specs.Prelude.{Option, Some, None, IfOk, IsErr}
 use Rattle.disk_model.specs.declared.device.DeviceFault.{DeviceFault}
 use Rattle.flash_base.specs.Counts.{Rises}
 use Rattle.std.proofs.lemmas.Bool.{cases_lt, false≢true}
-use Rattle.shop_model.specs.History.{History, Call, LAST, LinkCall, Sent, Received, Redialed, IsPiece, Redial, vehicle_now}
+use Rattle.shop_model.specs.History.{History, Call, LAST, LinkCall, Sent, Received, Redialed, IsPiece, vehicle_now}
 use Rattle.shop_model.specs.Through.{IsLater}
-use Rattle.unit_model.proofs.Units.{SameIn, SameUnits, SameState}
+use Rattle.unit_model.proofs.Units.{SameIn, SameUnits}
 use Rattle.unit_model.specs.Feed.{Feeds}
-use Rattle.unit_model.specs.Poll.{Ticks, Carries, IsShown, IsPlain}
 use Rattle.unit_model.specs.Unit.{ControlUnit}
 use Rattle.unit_model.specs.Vehicle.{Vehicle, unit_at, redialed}
 use Rattle.unit_model.specs.declared.reply.Got.{Got}

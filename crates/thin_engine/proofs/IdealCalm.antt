@@ -1,9 +1,9 @@
 -- In a part of a run that is calm no count rose, in none of its parts either.
-use Rattle.std.proofs.Common.{◌≡◌, inl, inr, ℕ, ◌+◌, ◌-◌, ◌≤◌, true, false, Some, None, refl, sym, ◌∙◌, ap, subst, arith}
-use Rattle.std.specs.Prelude.{Bool, Option, ◌==◌, if◌then◌else◌}
+use Rattle.std.proofs.Common.{◌≡◌, inl, inr, ℕ, ◌-◌, ◌≤◌, true, false, Some, None, refl, sym, ◌∙◌, subst, arith}
+use Rattle.std.specs.Prelude.{Option, ◌==◌, if◌then◌else◌}
 use Rattle.std.proofs.lemmas.Bool.{cases_Bool, both_ways, eqb-true, eq-eqb, ne_eqb}
 use Rattle.flash_base.specs.Counts.{Rises}
-use Rattle.run_model.specs.Troubles.{IsCalm, AreCalm, IsUnitCalm, IsVehicleCalm, trouble}
+use Rattle.run_model.specs.Troubles.{IsCalm, AreCalm, IsUnitCalm, IsVehicleCalm}
 use Rattle.shop_model.specs.History.{History, vehicle_now}
 use Rattle.shop_model.specs.Through.{IsLater}
 use Rattle.unit_model.specs.Unit.{ControlUnit, Counts, LAST_COUNT, one_more}

@@ -1,14 +1,13 @@
 -- The bytes of an answer come one piece after another until all are there.
-use Rattle.std.proofs.Common.{◌≡◌, inl, inr, ℕ, ◌+◌, ◌<◌, ◌≤◌, true, false, List, [], ◌∷◌, ◌++◌, length, drop, Result, Ok, Err, Vec, Some, refl, sym, ◌∙◌, ap, subst, arith, append_assoc, length-append}
-use Rattle.std.specs.Prelude.{Bool, Option, IfOk, IfErr, if◌then◌else◌}
+use Rattle.std.proofs.Common.{◌≡◌, ℕ, ◌+◌, ◌<◌, ◌≤◌, List, [], ◌∷◌, ◌++◌, length, drop, Result, Ok, Err, Vec, refl, sym, ◌∙◌, ap, subst, arith, length-append}
+use Rattle.std.specs.Prelude.{Option, IfOk, IfErr}
 use Rattle.std.specs.declared.alloc.Global.{Global}
 use Rattle.std.proofs.lemmas.List.{append-nil}
 use Rattle.shop_model.specs.History.{History, vehicle_now}
 use Rattle.shop_model.specs.Through.{IsLater}
 use Rattle.unit_model.specs.Step.{CanSend}
 use Rattle.unit_model.specs.Unit.{ControlUnit}
-use Rattle.unit_model.specs.Vehicle.{Vehicle, Gateway, unit_at}
-use Rattle.run_model.specs.Script.{is_empty}
+use Rattle.unit_model.specs.Vehicle.{Vehicle, Gateway}
 use Rattle.thin_engine.proofs.IdealCalls.{are_same, are_same_self, are_same_then, same_unit}
 use Rattle.thin_engine.proofs.IdealCalm.{quiet_parts, served_now}
 use Rattle.thin_engine.proofs.IdealPoll.{quiet_on, piece_on, all_come, ticks_same, carries_same}
@@ -18,7 +17,7 @@ use Rattle.thin_engine.specs.Coming.{Rests, Awaits, awaited_bytes, body_at, read
 use Rattle.thin_engine.specs.Growing.{VehicleUp}
 use Rattle.thin_engine.specs.Reads.{read_of}
 use Rattle.thin_engine.specs.SameUnits.{AreSame}
-use Rattle.thin_engine.specs.Undisturbed.{AreCounts, HasCounts, IsQuietPart}
+use Rattle.thin_engine.specs.Undisturbed.{HasCounts, IsQuietPart}
 use Rattle.thin_engine.specs.declared.asking.Polled.TheVariants as polled
 use Rattle.thin_engine.specs.declared.asking.Trouble.{Trouble}
 use Rattle.thin_engine.specs.declared.asking.Trouble.TheVariants.{NoMemory}

@@ -1,7 +1,7 @@
 -- No step of a vehicle lets a count fall.
-use Rattle.std.proofs.Common.{◌≡◌, ◌⊎◌, inl, inr, ℕ, zero, suc, ◌+◌, ◌≤◌, true, false, List, [], ◌∷◌, ◌++◌, length, take, Some, None, refl, sym, ◌∙◌, ap, subst, arith}
-use Rattle.std.specs.Prelude.{Bool, Option, ◌==◌, ◌&&◌, ◌||◌, not, min, map, nat_le, nat_lt, MatchBool, if◌then◌else◌}
-use Rattle.std.proofs.lemmas.Bool.{cases_Bool, cases_eq, MatchBool-at_false}
+use Rattle.std.proofs.Common.{◌≡◌, ◌⊎◌, inl, inr, ℕ, zero, suc, ◌+◌, true, false, List, [], ◌∷◌, ◌++◌, length, Some, None, refl, sym, ◌∙◌, ap, subst, arith}
+use Rattle.std.specs.Prelude.{Bool, Option, ◌==◌, ◌&&◌, ◌||◌, not, map, nat_le, nat_lt, MatchBool, if◌then◌else◌}
+use Rattle.std.proofs.lemmas.Bool.{cases_Bool, cases_eq}
 use Rattle.doip_frame.specs.Frame.{Cut, Partial, Wrong, Whole, cut_frame}
 use Rattle.doip_frame.specs.declared.frame.Frame.{Frame}
 use Rattle.doip_frame.specs.declared.frame.Frame.TheVariants.{HeaderNack, Activate, Activated, AliveAsk, AliveSay, Message, Ack, Nack, Other}
@@ -14,10 +14,10 @@ use Rattle.uds_codec.specs.declared.request.Request.{Request}
 use Rattle.uds_codec.specs.declared.request.Request.TheVariants.{Session, Reset, ReadId, Seed, Key, Routine, Download, Transfer, Exit}
 use Rattle.unit_model.proofs.Steps.{step_frames}
 use Rattle.unit_model.proofs.Units.{hit, miss, with_same, with_other}
-use Rattle.unit_model.specs.Feed.{Word, with_unit, queue_word, queue_words, Handles, HandlesMessage, HandlesAt, Refuses, Nacks, Hears, Activation, Accepts, Denies, Delays, Ignores, activation, Activates, Nothing, AfterCut, FeedsAll, Feeds, FeedsHearing, FeedsPart}
-use Rattle.unit_model.specs.Poll.{Ticks, Carries, Misses, ticked, raises, raised_by}
-use Rattle.unit_model.specs.Step.{UnitStep, Obeys, Holds, Departs, Departure, Refuses as refuses, Odd, Fails, Mutes, Busies, Leaves, raised, raise_code, raise_if, timed}
-use Rattle.unit_model.specs.Unit.{ControlUnit, OpenTransfer, Counts, one_more, obey, obey_in, obedient, heard_one, programming, read_in, has_level, give_seed, key_in, routine, is_locked, erase_in, check_in, finish_in, download, receive, receive_in, exit_in, ident_of, next_counter}
+use Rattle.unit_model.specs.Feed.{Word, with_unit, queue_word, queue_words, Handles, HandlesMessage, HandlesAt, Refuses, Activation, Accepts, Denies, Delays, Ignores, activation, Nothing, AfterCut, FeedsAll, Feeds, FeedsHearing, FeedsPart}
+use Rattle.unit_model.specs.Poll.{Ticks, Carries, Misses, raises, raised_by}
+use Rattle.unit_model.specs.Step.{UnitStep, Obeys, Holds, Departs, Departure, Refuses as refuses, Odd, Fails, Mutes, Busies, Leaves, raised, raise_code, raise_if}
+use Rattle.unit_model.specs.Unit.{ControlUnit, OpenTransfer, Counts, one_more, obey, obey_in, obedient, read_in, has_level, key_in, is_locked, erase_in, check_in, finish_in, receive_in, exit_in, ident_of, next_counter}
 use Rattle.unit_model.specs.Vehicle.{HeldAnswer, Gateway, Vehicle, unit_at, redialed}
 use Rattle.unit_model.specs.declared.reply.Due.{Due}
 use Rattle.unit_model.specs.declared.reply.Due.TheVariants.{At, Held}
@@ -168,9 +168,6 @@ unit_up_then (Some u) (Some v) (Some w) f g = counts_then _ _ _ f g
 
 abbrev UnitsUp : List ControlUnit → List ControlUnit → Type 0
 UnitsUp us ws = (a : ℕ) → UnitUp (unit_at us a) (unit_at ws a)
-
-units_is : (us ws : List ControlUnit) → ws ≡ us → UnitsUp us ws
-units_is us ws is a = subst (λ (x : List ControlUnit). UnitUp (unit_at us a) (unit_at x a)) (sym is) (unit_up_same (unit_at us a))
 
 with_up : (us : List ControlUnit) (t : ℕ) (u w : ControlUnit) → unit_at us t ≡ Some u → w.address ≡ t → CountsUp u.counts w.counts → UnitsUp us (with_unit us t w)
 with_up us t u w there at up a = elim (cases_eq a t) [

@@ -1,10 +1,10 @@
 -- A run from the first call to the last.
-use Rattle.std.proofs.Common.{◌≡◌, ◌⊎◌, inl, inr, ℕ, ◌+◌, ◌<◌, ◌≤◌, false, List, [], length, Result, Ok, Err, refl, sym, ◌∙◌, ap, subst, arith}
-use Rattle.std.specs.Prelude.{Option, Some, None, MatchOption, IsErr}
+use Rattle.std.proofs.Common.{◌≡◌, inl, inr, ℕ, ◌≤◌, false, List, length, Result, Ok, Err, refl, sym, ◌∙◌, ap, subst, arith}
+use Rattle.std.specs.Prelude.{Option, Some, None, MatchOption}
 use Rattle.flash_base.specs.ByteMaps.{byte_at}
 use Rattle.flash_base.specs.Counts.{Rises}
 use Rattle.flash_base.specs.Lists.{Each}
-use Rattle.flash_plan.specs.Plan.{IsInImage, plan_of, count_of, final_memory}
+use Rattle.flash_plan.specs.Plan.{plan_of, count_of, final_memory}
 use Rattle.flash_plan.specs.declared.outcome.Outcome.{Outcome}
 use Rattle.flash_plan.specs.declared.outcome.Outcome.TheVariants as outcome
 use Rattle.flash_plan.specs.declared.unit.Segment.{Segment}
@@ -18,7 +18,7 @@ use Rattle.run_model.specs.Sound.{HasFinalMemory, IsFinalVehicle}
 use Rattle.run_model.specs.States.{HasRoom}
 use Rattle.run_model.specs.Troubles.{IsCalm, IsUntroubled, IsVehicleCalm}
 use Rattle.thin_engine.proofs.IdealCalls.{same_unit, quiet_after}
-use Rattle.thin_engine.proofs.IdealCalm.{no_fault, parts, quiet_parts}
+use Rattle.thin_engine.proofs.IdealCalm.{no_fault, parts}
 use Rattle.thin_engine.proofs.IdealCounts.{vehicle_same}
 use Rattle.thin_engine.proofs.IdealUnit.{room_held}
 use Rattle.thin_engine.specs.Coming.{Rests}
@@ -26,9 +26,9 @@ use Rattle.thin_engine.specs.Growing.{VehicleUp}
 use Rattle.thin_engine.specs.Programming.{CanTake, AtStage, Programmed, HasImage, HasRun}
 use Rattle.thin_engine.specs.SameUnits.{AreSame}
 use Rattle.thin_engine.specs.Stages.{IsFirst, IsFirstPlan, segment_of}
-use Rattle.thin_engine.specs.Undisturbed.{IsCount, IsCounted, IsServed, IsQuietPart, IsUndisturbed, IsDialed, IsPlainRun, IsDriven, none_recorded}
+use Rattle.thin_engine.specs.Undisturbed.{IsCount, IsCounted, IsQuietPart, IsUndisturbed, IsDialed, IsPlainRun, IsDriven, none_recorded}
 use Rattle.thin_engine.specs.declared.driving.Ended.{Ended}
-use Rattle.thin_engine.specs.declared.driving.Ended.TheVariants.{NoMemory, Ran}
+use Rattle.thin_engine.specs.declared.driving.Ended.TheVariants.{Ran}
 use Rattle.thin_engine.specs.declared.stage.Stage.TheVariants.{Program}
 
 -- ------ the units of a vehicle that matches
@@ -71,11 +71,6 @@ stage_moved : (tester unit : ℕ) (plan : UnitPlan) (u0 : ControlUnit) (v w : Ve
 stage_moved tester unit plan u0 v w is s = subst (λ (x : Vehicle). AtStage tester unit plan u0 Program x) (sym is) s
 
 -- ------ disk calls
-pub disk_works : (a b c : ℕ) → a ≤ b → b ≤ c → IsCount a → IsCalm a c → (IsCount b) × IsCalm b c × (Rises a b → ⊥)
-disk_works a b c le le2 count calm =
-    let p = parts a b c le le2 count calm in
-    (p.count, p.second, no_fault a b count le p.first)
-
 pub whole_run : (a b c : History) → vehicle_now b ≡ vehicle_now a → b.link_faults ≡ a.link_faults → a.moment ≤ b.moment → IsUntroubled a c → IsPlainRun a c → IsUndisturbed b c
 whole_run a b c same link later untroubled plain = record {
   link_count = subst IsCount (sym link) plain.link_count;

@@ -1,16 +1,16 @@
 -- What a receive does to a vehicle whose answer is awaited, where nothing departs.
-use Rattle.std.proofs.Common.{◌≡◌, ◌⊎◌, inl, inr, ℕ, ◌+◌, ◌-◌, ◌%◌, ◌<◌, ◌≤◌, true, false, List, [], ◌∷◌, ◌++◌, length, Some, None, refl, sym, ◌∙◌, ap, subst, arith, append_assoc, length-append}
-use Rattle.std.specs.Prelude.{Bool, Option, ◌==◌, ◌&&◌, not, map, filter, nat_le, is_some, if◌then◌else◌}
+use Rattle.std.proofs.Common.{◌≡◌, ◌⊎◌, inl, inr, ℕ, ◌+◌, ◌-◌, ◌%◌, ◌<◌, true, false, List, [], ◌∷◌, ◌++◌, length, Some, None, refl, sym, ◌∙◌, ap, subst, arith, append_assoc, length-append}
+use Rattle.std.specs.Prelude.{Bool, Option, ◌==◌, ◌&&◌, not, map, nat_le, is_some, if◌then◌else◌}
 use Rattle.std.proofs.Math.Nat.{mod_self}
 use Rattle.std.proofs.lemmas.Bool.{cases_Bool, cases_lt, cases_eq, and_from, both_ways, eq-eqb, le-leb, lt-leb, false≢true}
 use Rattle.std.proofs.lemmas.List.{append-nil}
-use Rattle.doip_frame.specs.Frame.{Stream, stream_of, message_bytes, alive_ask_bytes}
+use Rattle.doip_frame.specs.Frame.{stream_of, message_bytes, alive_ask_bytes}
 use Rattle.doip_frame.specs.declared.frame.Bad.{Bad}
-use Rattle.unit_model.proofs.Units.{hit, miss, SameIn, SameUnits, raised_same}
+use Rattle.unit_model.proofs.Units.{hit, miss, SameUnits, raised_same}
 use Rattle.unit_model.specs.Feed.{tester_of}
-use Rattle.unit_model.specs.Poll.{bytes_due, not_due, has_tick, alive_bytes, is_turn, pending_of, held_on, raises, raised_by, ticked, ticked_gateway, Ticks, Carries, IsPlain, IsSeen, IsShown}
-use Rattle.unit_model.specs.Step.{pending_bytes, raise_if}
-use Rattle.unit_model.specs.Unit.{ControlUnit, Counts, one_more}
+use Rattle.unit_model.specs.Poll.{bytes_due, not_due, has_tick, alive_bytes, is_turn, pending_of, held_on, raises, raised_by, ticked_gateway, Ticks, Carries, IsPlain, IsSeen, IsShown}
+use Rattle.unit_model.specs.Step.{pending_bytes}
+use Rattle.unit_model.specs.Unit.{ControlUnit, one_more}
 use Rattle.unit_model.specs.Vehicle.{HeldAnswer, Gateway, Vehicle, unit_at}
 use Rattle.run_model.proofs.Hearing.{found_address, all_same}
 use Rattle.run_model.proofs.Whole.{whole_append, whole_none, alive_whole, message_whole}
@@ -19,7 +19,7 @@ use Rattle.run_model.specs.Ways.{IsWhole}
 use Rattle.thin_engine.proofs.IdealCalm.{not_risen}
 use Rattle.thin_engine.proofs.IdealSend.{served_parts, pending_can, pending_unserved}
 use Rattle.thin_engine.specs.Coming.{IsUp, Rests, IsLate, IsHeldBack, IsOut, Awaits}
-use Rattle.thin_engine.specs.Undisturbed.{AreCounts, IsCounted, IsServed, all_served, later_served}
+use Rattle.thin_engine.specs.Undisturbed.{AreCounts, IsServed, all_served}
 
 -- no alive check is sent
 no_alive : (tick : ℕ) (g : Gateway) (front back : List ℕ) → IsWhole g.carried → IsWhole front → all_served (stream_of (g.carried ++ (front ++ (alive_bytes tick g ++ back)))).frames ≡ true → alive_bytes tick g ≡ []
@@ -173,8 +173,8 @@ module _ (tester unit : ℕ) (all got : List ℕ) (quiet : ℕ) where
               let address : (u.address == h.unit) ≡ true = eq-eqb u.address h.unit (found_address v.units unit u there ∙ sym k.unit_is) in
               let late_is : (raises tick h u).counts.late ≡ one_more u.counts.late = rw address (rw is_so refl) in
               let now : unit_at w.units unit ≡ Some (raises tick h u) =
-                  ap (λ (us : List ControlUnit). unit_at us unit) (ap (λ (x : Vehicle). x.units) ticks.becomes ∙ ap (λ (hs : List HeldAnswer). raised_by tick hs v.units) k.held)
-                  ∙ mapped_at (raises tick h) (raises_at tick h) v.units unit u there in
+              ap (λ (us : List ControlUnit). unit_at us unit) (ap (λ (x : Vehicle). x.units) ticks.becomes ∙ ap (λ (hs : List HeldAnswer). raised_by tick hs v.units) k.held)
+              ∙ mapped_at (raises tick h) (raises_at tick h) v.units unit u there in
               let c : AreCalm u.counts (raises tick h u).counts = subst (λ (x : Option ControlUnit × Option ControlUnit). IsUnitCalm x.0 x.1) (λ i. (there i, now i)) (calm.units unit) in
               absurd (not_risen u.counts.late counts.late (subst (λ (n : ℕ). IsCalm u.counts.late n) late_is c.late))
         ]

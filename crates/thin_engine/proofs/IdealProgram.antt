@@ -1,44 +1,35 @@
 -- A unit goes from stage to stage, and at the end it has its image.
-use Rattle.std.proofs.Common.{◌≡◌, inl, inr, ℕ, zero, suc, ◌+◌, ◌-◌, ◌<◌, ◌≤◌, min, true, false, List, [], ◌∷◌, ◌++◌, length, Some, None, Result, Ok, Err, Vec, refl, sym, ◌∙◌, ap, subst, arith}
+use Rattle.std.proofs.Common.{◌≡◌, inl, inr, ℕ, zero, suc, ◌+◌, ◌-◌, ◌<◌, ◌≤◌, min, true, false, List, [], ◌∷◌, ◌++◌, length, Some, None, Result, Ok, Vec, refl, sym, ◌∙◌, ap, subst, arith}
 use Rattle.std.specs.declared.alloc.Global.{Global}
-use Rattle.std.specs.Prelude.{Bool, Option, IfOk, ◌==◌, ◌&&◌, is_some, nat_lt, slice_index, if◌then◌else◌}
-use Rattle.std.proofs.lemmas.Bool.{cases_Bool, cases_lt, cases_eq, and_parts, eqb-true, eq-eqb, ne_eqb, both_ways, false≢true}
-use Rattle.std.proofs.lemmas.List.{append-nil}
+use Rattle.std.specs.Prelude.{Option, IfOk, ◌==◌, is_some, nat_lt, slice_index}
+use Rattle.std.proofs.lemmas.Bool.{cases_Bool, cases_lt, and_parts, eqb-true, eq-eqb, ne_eqb, false≢true}
 use Rattle.flash_base.specs.ByteMaps.{ByteMap, byte_at, has_each}
 use Rattle.flash_base.specs.Lists.{Each}
 use Rattle.flash_plan.specs.Plan.{IsAcceptedUnit, IsInImage, final_memory, over, byte_or, addressed, image_of}
 use Rattle.flash_plan.specs.declared.outcome.Outcome.{Outcome}
-use Rattle.flash_plan.specs.declared.outcome.Outcome.TheVariants as outcome
 use Rattle.flash_plan.specs.declared.unit.Segment.{Segment}
 use Rattle.flash_plan.specs.declared.unit.UnitPlan.{UnitPlan}
 use Rattle.uds_codec.specs.Answer.{Good, judge}
-use Rattle.uds_codec.specs.Request.{request_of}
-use Rattle.shop_model.specs.History.{History, vehicle_now}
-use Rattle.shop_model.specs.Through.{IsLater}
 use Rattle.unit_model.proofs.Steps.{obedient_frames, Frames}
 use Rattle.unit_model.specs.Unit.{ControlUnit, obedient}
-use Rattle.unit_model.specs.Step.{Spoil, spoil_in}
-use Rattle.unit_model.specs.Vehicle.{Vehicle, unit_at}
+use Rattle.unit_model.specs.Step.{spoil_in}
+use Rattle.unit_model.specs.Vehicle.{Vehicle}
 use Rattle.run_model.proofs.Alike.{state_same}
-use Rattle.run_model.proofs.Ranges.{IsWithin, place_within, outside_kept}
+use Rattle.run_model.proofs.Ranges.{place_within, outside_kept}
 use Rattle.run_model.proofs.States.{state_next}
 use Rattle.run_model.specs.Places.{needs_request}
 use Rattle.run_model.specs.Script.{bytes_at, request_at, place_next}
 use Rattle.run_model.specs.Sound.{HasSegment}
 use Rattle.run_model.specs.States.{StateAt, SameButCounts}
-use Rattle.thin_engine.proofs.IdealCalm.{quiet_parts}
 use Rattle.thin_engine.proofs.IdealUnit.{SaysIt, program_says, erase_says, download_says, block_says, exit_says, check_says, finish_says, reset_says}
 use Rattle.thin_engine.proofs.Leads.{stage_says, stage_place}
 use Rattle.thin_engine.specs.Collecting.{HasStepped, HasAsked}
 use Rattle.thin_engine.specs.Coming.{Rests}
-use Rattle.thin_engine.specs.Growing.{VehicleUp}
 use Rattle.thin_engine.specs.Leads.{LeadsTo, stage_from}
 use Rattle.thin_engine.specs.Programming.{CanTake, FitsBlock, AtStage, Turned, HasImage}
 use Rattle.thin_engine.specs.Said.{said_at, stage_next}
 use Rattle.thin_engine.specs.Stages.{IsFirst, IsStage, place_at, segment_of}
-use Rattle.thin_engine.specs.Undisturbed.{IsQuietPart}
 use Rattle.thin_engine.specs.declared.asking.Trouble.{Trouble}
-use Rattle.thin_engine.specs.declared.asking.Trouble.TheVariants as trouble
 use Rattle.thin_engine.specs.declared.stage.Stage.{Stage}
 use Rattle.thin_engine.specs.declared.stage.Stage.TheVariants.{Program, Erase, Download, Block, Exit, Check, Finish, Reset, Done}
 
@@ -194,28 +185,15 @@ module _ (plan : UnitPlan) (first : IsFirst plan) (ok : IsAcceptedUnit plan) whe
 -- ------ one turn
 module _ (plan : UnitPlan) (first : IsFirst plan) (ok : IsAcceptedUnit plan) (tester unit : ℕ) (u0 : ControlUnit) where
   pub turn_ends : (stage : Stage) → IsStage plan stage → (stage ≡ Done → ⊥) → (v w : Vehicle) → (s : AtStage tester unit plan u0 stage v) (request heard : List ℕ) (r : Result (Vec ℕ Global) Trouble) (answer : Vec ℕ Global) (x : Result Stage Outcome)
-      → request ≡ bytes_at plan (place_at plan stage) → HasAsked r tester unit s.now (obedient s.now request) v w → r ≡ Ok answer → heard ≡ answer.items → IfOk x (LeadsTo plan stage heard)
+      → request ≡ bytes_at plan (place_at plan stage) → HasAsked r tester unit (obedient s.now request) v w → r ≡ Ok answer → heard ≡ answer.items → IfOk x (LeadsTo plan stage heard)
       → ((block : ℕ) → 3 ≤ block → block < 4294967296 → (stage ≡ Done → ⊥) → heard ≡ said_at plan block stage → x ≡ Ok (stage_next plan block stage)) → Turned x tester unit plan u0 w
   turn_ends stage is isnt v w s request heard r answer x asks has came same leads met =
-      let has2 : HasAsked (Ok answer) tester unit s.now (obedient s.now (bytes_at plan (place_at plan stage))) v w = subst (λ (y : Result (Vec ℕ Global) Trouble × List ℕ). HasAsked y.0 tester unit s.now (obedient s.now y.1) v w) (λ i. (came i, asks i)) has in
+      let has2 : HasAsked (Ok answer) tester unit (obedient s.now (bytes_at plan (place_at plan stage))) v w = subst (λ (y : Result (Vec ℕ Global) Trouble × List ℕ). HasAsked y.0 tester unit (obedient s.now y.1) v w) (λ i. (came i, asks i)) has in
       let said : heard ≡ (obedient s.now (bytes_at plan (place_at plan stage))).1 = same ∙ has2.0 in
       let says = says_at plan first ok s.now stage s.able s.fits is isnt s.state in
       let next : x ≡ Ok (stage_next plan s.now.block stage) = met s.now.block s.able.low s.able.high isnt (said ∙ says.answer) in
       let on : LeadsTo plan stage heard (stage_next plan s.now.block stage) = subst (λ (y : Result Stage Outcome). IfOk y (LeadsTo plan stage heard)) next leads in
       subst (λ (y : Result Stage Outcome). Turned y tester unit plan u0 w) (sym next) (turned plan first ok tester unit u0 stage is isnt v w s heard said has2.1 has2.2 on)
 
-  pub starved_turn : (v w : Vehicle) (u : ControlUnit) (step : ControlUnit × List ℕ) (r : Result (Vec ℕ Global) Trouble) (e : Trouble) (o : Outcome) → r ≡ Err e → HasAsked r tester unit u step v w → (e ≡ trouble.NoMemory → o ≡ outcome.NoMemory) → o ≡ outcome.NoMemory
-  starved_turn v w u step r e o came has memory = memory (subst (λ (y : Result (Vec ℕ Global) Trouble). HasAsked y tester unit u step v w) came has)
-
   pub request_some : (stage : Stage) → IsStage plan stage → (stage ≡ Done → ⊥) → (request : List ℕ) → request ≡ bytes_at plan (place_at plan stage) → 1 ≤ length request
   request_some stage is isnt request same = subst (λ (xs : List ℕ). 1 ≤ length xs) (sym same) (stage_says plan first ok stage is (asks plan first ok stage isnt)).can.some
-
-  -- turn after turn
-  abbrev Stands : History → History → Stage → Type 0
-  Stands a b stage = IsQuietPart a b → AtStage tester unit plan u0 Program (vehicle_now a) → AtStage tester unit plan u0 stage (vehicle_now b)
-
-  pub stands_next : (a b c : History) (stage : Stage) (r : Result Stage Outcome) → IsLater a b → IsLater b c → VehicleUp (vehicle_now a) (vehicle_now b) → VehicleUp (vehicle_now b) (vehicle_now c)
-      → Stands a b stage → (IsQuietPart b c → AtStage tester unit plan u0 stage (vehicle_now b) → Turned r tester unit plan u0 (vehicle_now c)) → IsQuietPart a c → AtStage tester unit plan u0 Program (vehicle_now a) → Turned r tester unit plan u0 (vehicle_now c)
-  stands_next a b c stage r ab bc up up2 stands turns q at =
-      let p = quiet_parts a b c ab bc up up2 q in
-      turns p.second (stands p.first at)

@@ -1,27 +1,24 @@
 -- What is awaited is waited for until all of it has come.
-use Rattle.std.proofs.Common.{◌≡◌, inl, inr, ℕ, zero, suc, ◌+◌, ◌*◌, ◌<◌, ◌≤◌, true, false, List, [], ◌∷◌, ◌++◌, length, take, drop, None, refl, sym, ◌∙◌, ap, subst, arith, length-append, length-take, length-drop}
-use Rattle.std.specs.Prelude.{Bool, ◌==◌, ◌&&◌, not, if◌then◌else◌}
+use Rattle.std.proofs.Common.{◌≡◌, inl, inr, ℕ, ◌+◌, ◌<◌, ◌≤◌, true, false, List, [], ◌∷◌, ◌++◌, length, take, drop, None, refl, sym, ◌∙◌, ap, subst, arith, length-append, length-take, length-drop}
+use Rattle.std.specs.Prelude.{◌==◌, ◌&&◌, if◌then◌else◌}
 use Rattle.std.proofs.lemmas.Bool.{cases_lt, eq-eqb, false≢true}
 use Rattle.std.proofs.lemmas.List.{append-nil}
 use Rattle.doip_frame.proofs.Again.{cut_written}
 use Rattle.doip_frame.proofs.Cuts.{partial, number2_of}
-use Rattle.doip_frame.specs.Form.{IsFrame}
 use Rattle.doip_frame.specs.Frame.{Cut, Partial, Wrong, Whole, cut_frame, is_length, frame_bytes, ack_bytes, message_bytes, activated_bytes, addressed, payload_of}
 use Rattle.doip_frame.specs.declared.frame.Frame.TheVariants.{Ack, Message, Activated}
 use Rattle.unit_model.specs.Step.{CanSend}
 use Rattle.run_model.proofs.Whole.{message_length}
 use Rattle.run_model.specs.Script.{is_empty}
 use Rattle.thin_engine.proofs.Looks.{cuts}
-use Rattle.thin_engine.specs.Coming.{awaited_bytes, body_at, read_with}
+use Rattle.thin_engine.specs.Coming.{awaited_bytes, read_with}
 use Rattle.thin_engine.specs.Look.{Cuts, look_of, two_at}
 use Rattle.thin_engine.specs.Reads.{stand_at, message_seen, behind_seen, behind_at, answer_seen, activation_seen, read_of}
 use Rattle.thin_engine.specs.declared.reading.Awaited.{Awaited}
 use Rattle.thin_engine.specs.declared.reading.Awaited.TheVariants as awaited
-use Rattle.thin_engine.specs.declared.reading.Behind.{Behind}
 use Rattle.thin_engine.specs.declared.reading.Behind.TheVariants as behind
 use Rattle.thin_engine.specs.declared.reading.Look.{Look}
 use Rattle.thin_engine.specs.declared.reading.Look.TheVariants.{Part, Refused, Complete}
-use Rattle.thin_engine.specs.declared.reading.Reading.{Reading}
 use Rattle.thin_engine.specs.declared.reading.Reading.TheVariants.{Waiting, Lost, Denied, Answered}
 
 -- ------ what is seen, by what is cut

@@ -1,7 +1,7 @@
 -- What a request does to a vehicle that rests, where nothing departs.
-use Rattle.std.proofs.Common.{◌≡◌, ◌⊎◌, inl, inr, ℕ, zero, suc, ◌+◌, ◌<◌, ◌≤◌, true, false, List, [], ◌∷◌, ◌++◌, length, Some, None, refl, sym, ◌∙◌, ap, subst, arith, append_assoc}
-use Rattle.std.specs.Prelude.{Bool, Option, ◌==◌, ◌&&◌, not, nat_le, is_some, unwrap_or, MatchBool, if◌then◌else◌}
-use Rattle.std.proofs.lemmas.Bool.{cases_Bool, cases_lt, and_parts, both_ways, eq-eqb, le-leb, lt-leb, leb-true, false≢true}
+use Rattle.std.proofs.Common.{◌≡◌, ◌⊎◌, inl, inr, ℕ, ◌+◌, ◌<◌, ◌≤◌, true, false, List, [], ◌∷◌, ◌++◌, length, Some, None, refl, sym, ◌∙◌, ap, subst, arith}
+use Rattle.std.specs.Prelude.{Bool, Option, ◌&&◌, nat_le, if◌then◌else◌}
+use Rattle.std.proofs.lemmas.Bool.{cases_Bool, cases_lt, and_parts, eq-eqb, le-leb, lt-leb, false≢true}
 use Rattle.std.proofs.lemmas.List.{append-nil}
 use Rattle.doip_frame.proofs.Cuts.{number2_of}
 use Rattle.doip_frame.specs.Frame.{Stream, stream_of, message_bytes, ack_bytes, activate_bytes, activated_bytes, addressed, payload_of}
@@ -12,13 +12,13 @@ use Rattle.uds_codec.specs.Request.{sid_of}
 use Rattle.unit_model.proofs.Feeding.{Handled, fed_whole}
 use Rattle.unit_model.proofs.Steps.{step_frames}
 use Rattle.unit_model.proofs.Units.{with_same, with_other}
-use Rattle.unit_model.specs.Feed.{Word, with_unit, queue_word, queue_words, words_of, HandlesAt, HandlesMessage, Nacks, Hears, Activation, Accepts, Denies, Delays, Ignores, activation, Activates, Feeds}
-use Rattle.unit_model.specs.Step.{CanSend, UnitStep, Obeys, Holds, Departs, Departure, Refuses, Odd, Fails, Mutes, Busies, Leaves, raised, raise_code, raise_if, pendings, pending_bytes, reply_at, is_late, ascends}
+use Rattle.unit_model.specs.Feed.{with_unit, queue_words, words_of, HandlesAt, Nacks, Hears, Activation, Accepts, Denies, Delays, Ignores, activation, Feeds}
+use Rattle.unit_model.specs.Step.{CanSend, UnitStep, Obeys, Holds, Departs, Departure, Refuses, Odd, Fails, Mutes, Busies, Leaves, raised, raise_code, raise_if, pendings, pending_bytes, reply_at, is_late}
 use Rattle.unit_model.specs.Unit.{ControlUnit, Counts, obedient, one_more}
 use Rattle.unit_model.specs.Vehicle.{Gateway, Vehicle, unit_at, redialed}
 use Rattle.unit_model.specs.declared.reply.Due.TheVariants.{Held}
 use Rattle.unit_model.specs.declared.reply.UnitReply.{UnitReply}
-use Rattle.run_model.proofs.Gateway.{Queues, queues_words}
+use Rattle.run_model.proofs.Gateway.{queues_words}
 use Rattle.run_model.proofs.Hearing.{found_address}
 use Rattle.run_model.proofs.Whole.{stream_more, whole_append, whole_none, message_whole, message_length, message_frames, ack_whole, activated_whole}
 use Rattle.run_model.specs.States.{SameButCounts}
@@ -26,7 +26,7 @@ use Rattle.run_model.specs.Troubles.{IsCalm, AreCalm, IsUnitCalm, IsVehicleCalm}
 use Rattle.run_model.specs.Ways.{IsWhole}
 use Rattle.thin_engine.proofs.IdealCalm.{not_risen}
 use Rattle.thin_engine.proofs.IdealCounts.{obedient_counts}
-use Rattle.thin_engine.specs.Coming.{IsUp, Rests, IsLate, IsHeldBack, Awaits}
+use Rattle.thin_engine.specs.Coming.{Rests, Awaits}
 use Rattle.thin_engine.specs.Undisturbed.{AreCounts, HasCounts, IsCounted, IsServed, all_served, later_served, is_served}
 
 -- ------ frames that are served
@@ -74,7 +74,7 @@ module _ (tester unit : ℕ) (g : Gateway) (whole : IsWhole g.carried) where
         let q = queues_words mid (words_of unit sid more) (words_can unit sid more can) in
         let s : IsServed (queue_words mid (words_of unit sid more)) = subst (λ (b : Bool). IsServed (queue_words (if b then record acked { ready = ack_bytes unit tester ++ message_bytes unit tester (pending_bytes sid) } else record acked { later = (t, message_bytes unit tester (pending_bytes sid)) ∷ [] }) (words_of unit sid more))) e served in
         let a : all_served (stream_of (g.carried ++ ((ack_bytes unit tester ++ message_bytes unit tester (pending_bytes sid)) ++ q.more))).frames ≡ true =
-            (λ i. all_served (stream_of (sym q.carried i ++ sym q.ready i)).frames) ∙ s.now in
+        (λ i. all_served (stream_of (sym q.carried i ++ sym q.ready i)).frames) ∙ s.now in
         let b = (served_parts g.carried _ whole a).1 in
         let both = whole_append (ack_bytes unit tester) (message_bytes unit tester (pending_bytes sid)) (ack_whole unit tester) (message_whole unit tester (pending_bytes sid) (pending_can sid)) in
         let c = (served_parts (ack_bytes unit tester ++ message_bytes unit tester (pending_bytes sid)) q.more both b).0 in
@@ -89,9 +89,6 @@ module _ (tester unit : ℕ) (g : Gateway) (whole : IsWhole g.carried) where
 
   abbrev all_of : List ℕ → List ℕ
   all_of said = ack_bytes unit tester ++ message_bytes unit tester said
-
-  up_now : IsUp tester acked
-  up_now = record { hears = refl; unfinished = refl; active = refl }
 
   message_some : (said : List ℕ) → 1 ≤ length (message_bytes unit tester said)
   message_some said = omega arith
@@ -200,7 +197,7 @@ module _ (tester unit : ℕ) (body : List ℕ) (u : ControlUnit) (g : Gateway) (
       obeyed : (o : Obeys u body g.tick replies w) (ticks : List ℕ) → o.ticks ≡ ticks → Asked tester unit body u v (after_of replies w)
       obeyed o (t ∷ ts) is =
           let gives : replies ≡ reply_at t (pending_bytes (sid_of body)) ∷ (pendings (sid_of body) ts ++ (reply_at o.due (obedient u body).1 ∷ [])) =
-              o.gives ∙ ap (λ (xs : List ℕ). pendings (sid_of body) xs ++ (reply_at o.due (obedient u body).1 ∷ [])) is in
+          o.gives ∙ ap (λ (xs : List ℕ). pendings (sid_of body) xs ++ (reply_at o.due (obedient u body).1 ∷ [])) is in
           let sizes = subst (λ (rs : List UnitReply). Each (λ r. CanSend r.body) rs) gives step.sizes in
           absurd (no_pending tester unit g whole (sid_of body) t (pendings (sid_of body) ts ++ (reply_at o.due (obedient u body).1 ∷ [])) sizes.1
           (subst (λ (rs : List UnitReply). IsServed (queue_words (acked tester unit g whole) (words_of unit (sid_of body) rs))) gives served))
@@ -208,7 +205,7 @@ module _ (tester unit : ℕ) (body : List ℕ) (u : ControlUnit) (g : Gateway) (
           let gives : replies ≡ reply_at o.due (obedient u body).1 ∷ [] = o.gives ∙ ap (λ (xs : List ℕ). pendings (sid_of body) xs ++ (reply_at o.due (obedient u body).1 ∷ [])) is in
           let sizes = subst (λ (rs : List UnitReply). Each (λ r. CanSend r.body) rs) gives step.sizes in
           let late_is : w.counts.late ≡ raise_if (is_late g.tick (o.due ∷ [])) u.counts.late =
-              (λ i. (o.becomes i).counts.late) ∙ (λ i. raise_if (is_late g.tick (is i ++ (o.due ∷ []))) (obedient_counts u body i).late) in
+          (λ i. (o.becomes i).counts.late) ∙ (λ i. raise_if (is_late g.tick (is i ++ (o.due ∷ []))) (obedient_counts u body i).late) in
           let soon = not_late g.tick o.due u.counts.late counts.late (subst (λ (n : ℕ). IsCalm u.counts.late n) late_is calm.late) in
           record {
             awaits = subst (λ (rs : List UnitReply). Awaits tester unit (all_of tester unit g whole (obedient u body).1) [] 0 (queue_words (acked tester unit g whole) (words_of unit (sid_of body) rs))) (sym gives)
@@ -252,7 +249,7 @@ module _ (tester unit : ℕ) (body : List ℕ) (u : ControlUnit) (g : Gateway) (
       go (inr y) =
           let at : y.after.address ≡ unit = (step_frames u y.after body g.tick y.replies y.step).address ∙ found_address us unit u there in
           let is : new ≡ after_of y.replies y.after =
-              h.becomes ∙ (λ i. record (y.becomes i) { gateway = queue_words (record (y.becomes i).gateway { unfinished = [] }) (y.lets_out i) }) in
+          h.becomes ∙ (λ i. record (y.becomes i) { gateway = queue_words (record (y.becomes i).gateway { unfinished = [] }) (y.lets_out i) }) in
           subst (λ (x : Vehicle). Asked tester unit body u v x) (sym is)
           (stepped y.replies y.after y.step (unit_calm new y.after calm (λ i. (is i).units) at) (subst (λ (x : Vehicle). IsServed x.gateway) is served)
           (with_same us unit u y.after there at) (λ a isnt. with_other us unit a y.after at isnt))
@@ -282,7 +279,7 @@ activating tester unit v new feeds counted calm =
     how_is : (h : Handled (Activate tester 0 None) (redialed v) new) (how : Activation) → h.mid ≡ activation how tester (redialed v) → h.out ≡ [] → Activating tester unit (redialed v) new
     how_is h how mid none =
         let is : new ≡ record (activation how tester (redialed v)) { gateway = record (activation how tester (redialed v)).gateway { unfinished = [] } } =
-            h.becomes ∙ (λ i. record (mid i) { gateway = queue_words (record (mid i).gateway { unfinished = [] }) (none i) }) in
+        h.becomes ∙ (λ i. record (mid i) { gateway = queue_words (record (mid i).gateway { unfinished = [] }) (none i) }) in
         by how is
       where
         by : (how : Activation) → new ≡ record (activation how tester (redialed v)) { gateway = record (activation how tester (redialed v)).gateway { unfinished = [] } } → Activating tester unit (redialed v) new

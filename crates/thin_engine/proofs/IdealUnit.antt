@@ -1,33 +1,30 @@
 -- A fitting unit that obeys answers each request of the script well.
-use Rattle.std.proofs.Common.{◌≡◌, inl, inr, ℕ, zero, suc, ◌+◌, ◌-◌, ◌<◌, ◌≤◌, true, false, List, [], ◌∷◌, ◌++◌, length, take, drop, Some, None, refl, sym, ◌∙◌, ap, subst, arith, length-take, length-drop}
-use Rattle.std.specs.Prelude.{Bool, Option, ◌==◌, ◌&&◌, not, is_some, nat_lt, nat_le, slice_index, if◌then◌else◌}
-use Rattle.std.proofs.lemmas.Bool.{cases_Bool, cases_lt, and_from, and_parts, eqb-true, eq-eqb, ne_eqb, le-ltb, false≢true}
+use Rattle.std.proofs.Common.{◌≡◌, inl, inr, ℕ, zero, suc, ◌+◌, ◌-◌, ◌<◌, ◌≤◌, true, false, List, [], ◌∷◌, ◌++◌, length, take, drop, Some, None, refl, sym, ◌∙◌, ap, subst, arith, length-take}
+use Rattle.std.specs.Prelude.{Bool, Option, ◌==◌, ◌&&◌, not, is_some, nat_lt}
+use Rattle.std.proofs.lemmas.Bool.{cases_Bool, and_from, and_parts, eqb-true, eq-eqb, ne_eqb, le-ltb, false≢true}
 use Rattle.std.proofs.lemmas.List.{append-nil}
 use Rattle.sha2.proofs.Facts256.{length-sha256}
 use Rattle.sha2.specs.Sha256.{sha256}
-use Rattle.flash_base.specs.ByteMaps.{ByteMap, byte_at, byte_or_0, put, fill, is_in, has_each, bytes_of}
+use Rattle.flash_base.specs.ByteMaps.{ByteMap, byte_at, byte_or_0, put, fill, has_each, bytes_of}
 use Rattle.flash_base.specs.Lists.{same_bytes}
-use Rattle.flash_base.specs.Numbers.{big_endian}
 use Rattle.flash_base.specs.declared.unit.KeyRule.{KeyRule}
-use Rattle.flash_base.specs.declared.unit.KeyRule.TheVariants.{Free}
 use Rattle.flash_plan.specs.Plan.{IsAcceptedUnit}
 use Rattle.flash_plan.specs.declared.unit.Segment.{Segment}
 use Rattle.flash_plan.specs.declared.unit.UnitPlan.{UnitPlan}
-use Rattle.uds_codec.specs.Request.{Range, range_of, request_of, sid_of}
+use Rattle.uds_codec.specs.Request.{range_of, request_of, sid_of}
 use Rattle.uds_codec.specs.declared.request.Request.{Request}
 use Rattle.uds_codec.specs.declared.request.Request.TheVariants.{Session, Reset, Routine, Download as download_request, Transfer, Exit as exit_request}
-use Rattle.unit_model.specs.Unit.{ControlUnit, OpenTransfer, obey, obey_in, obedient, has_key, erase_in, check_in, finish_in, receive_in, exit_in, in_session, erased, downloading, written, next_counter, block_bytes, is_locked}
+use Rattle.unit_model.specs.Unit.{ControlUnit, OpenTransfer, obey, obey_in, obedient, has_key, erase_in, check_in, finish_in, receive_in, exit_in, in_session, erased, downloading, written, next_counter, is_locked}
 use Rattle.run_model.proofs.Ranges.{cursor_reads}
-use Rattle.run_model.specs.Places.{needs_request}
 use Rattle.run_model.specs.Script.{bytes_at, range_record, is_empty}
 use Rattle.run_model.specs.Sound.{HoldsBytes, has_range}
-use Rattle.run_model.specs.States.{StateAt, HasTransfer, HasFilled}
+use Rattle.run_model.specs.States.{StateAt, HasFilled}
 use Rattle.thin_engine.proofs.Leads.{stage_says}
 use Rattle.thin_engine.specs.Programming.{CanTake}
 use Rattle.thin_engine.specs.Said.{said_at}
 use Rattle.thin_engine.specs.Stages.{IsFirst, IsStage, place_at, segment_of, cursor_of}
 use Rattle.thin_engine.specs.declared.stage.Stage.{Stage}
-use Rattle.thin_engine.specs.declared.stage.Stage.TheVariants.{Program, Erase, Download, Block, Exit, Check, Finish, Reset as at_reset, Done}
+use Rattle.thin_engine.specs.declared.stage.Stage.TheVariants.{Program, Erase, Download, Block, Exit, Check, Finish, Reset as at_reset}
 
 -- ------ memory
 fill_domain : (at n x : ℕ) (m : ByteMap) (a : ℕ) → is_some (byte_at (fill at n x m) a) ≡ is_some (byte_at m a)
@@ -113,7 +110,7 @@ module _ (plan : UnitPlan) (first : IsFirst plan) (ok : IsAcceptedUnit plan) whe
       erase_says =
           let reads = ap range_of (sym (append-nil (range_record plan seg))) ∙ (cursor_reads plan (cursor_of plan) [] ok (sym first.one)).reads in
           let at : erase_in u (range_of (range_record plan seg)) ≡ (erased u seg.at (length seg.body), 113 ∷ 1 ∷ 255 ∷ 0 ∷ 0 ∷ []) =
-              ap (erase_in u) reads ∙ (let a = size_some in let b = can.room in rw (a, b) refl) in
+          ap (erase_in u) reads ∙ (let a = size_some in let b = can.room in rw (a, b) refl) in
           by_request u Erase (Routine 65280 (range_record plan seg)) (erased u seg.at (length seg.body)) (stage_says plan first ok Erase tt refl).reads
           (let a = in_two in let b = unlocked in rw (a, b) at)
           (able (erased u seg.at (length seg.body)) refl refl refl (fill_domain seg.at (length seg.body) 255 u.memory)) refl
@@ -149,7 +146,7 @@ module _ (plan : UnitPlan) (first : IsFirst plan) (ok : IsAcceptedUnit plan) whe
           let t : OpenTransfer = record { at = seg.at + length (take sent seg.body); rest = length (drop sent seg.body); counter = counter; taken = not (is_empty (take sent seg.body)) } in
           let size = length-take (limit - 2) (drop sent seg.body) in
           let step : receive_in u u.transfer counter body ≡ (written u t body, 118 ∷ counter ∷ []) =
-              ap (λ (o : Option OpenTransfer). receive_in u o counter body) has.transfer ∙ taking t counter body refl (omega (arith, size, few, is.low)) (omega (arith, size)) in
+          ap (λ (o : Option OpenTransfer). receive_in u o counter body) has.transfer ∙ taking t counter body refl (omega (arith, size, few, is.low)) (omega (arith, size)) in
           by_request u (Block sent counter limit) (Transfer counter body) (written u t body) (stage_says plan first ok (Block sent counter limit) is refl).reads
           (let a = in_two in rw a step)
           (able (written u t body) refl refl refl (put_domain t.at body u.memory)) refl
@@ -168,11 +165,11 @@ module _ (plan : UnitPlan) (first : IsFirst plan) (ok : IsAcceptedUnit plan) whe
           let option : List ℕ = range_record plan seg ++ sha256 seg.body in
           let reads = (cursor_reads plan (cursor_of plan) (sha256 seg.body) ok (sym first.one)).reads in
           let same : same_bytes (sha256 seg.body) (sha256 (bytes_of seg.at (length seg.body) u.memory)) ≡ true =
-              ap (λ (xs : List ℕ). same_bytes (sha256 seg.body) (sha256 xs)) (bytes_held seg.at seg.body u.memory holds) ∙ same_self (sha256 seg.body) in
+          ap (λ (xs : List ℕ). same_bytes (sha256 seg.body) (sha256 xs)) (bytes_held seg.at seg.body u.memory holds) ∙ same_self (sha256 seg.body) in
           let long : (length (sha256 seg.body) == 32) ≡ true = eq-eqb _ _ (length-sha256 seg.body) in
           let w : ControlUnit = record u { checked = (seg.at, length seg.body) ∷ u.checked } in
           let at : check_in u plan.check (range_of option) ≡ (w, said_at plan u.block Check) =
-              ap (check_in u plan.check) reads ∙ (let a = size_some in let b = can.room in rw (a, long, b, same) refl) in
+          ap (check_in u plan.check) reads ∙ (let a = size_some in let b = can.room in rw (a, long, b, same) refl) in
           let not_erase : (plan.check == 65280) ≡ false = ne_eqb _ _ ok.check in
           let not_finish : (plan.check == 65281) ≡ false = ne_eqb _ _ ok.check_too in
           let ours : (plan.check == u.check) ≡ true = eq-eqb _ _ (sym can.check) in

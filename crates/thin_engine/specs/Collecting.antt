@@ -60,6 +60,6 @@ pub record HasStepped (unit : ℕ) (after : ControlUnit) (v w : Vehicle) : Type 
   pub others : (a : ℕ) → (a ≡ unit → ⊥) → IsSame (unit_at v.units a) (unit_at w.units a)
 
 -- the answer of the obedient step has come, or there was no memory
-abbrev pub HasAsked : Result (Vec ℕ Global) Trouble → ℕ → ℕ → ControlUnit → ControlUnit × List ℕ → Vehicle → Vehicle → Type 0
-HasAsked (Ok body) tester unit u step v w = (body.items ≡ step.1) × Rests tester w.gateway × HasStepped unit step.0 v w
-HasAsked (Err e) tester unit u step v w = e ≡ NoMemory
+abbrev pub HasAsked : Result (Vec ℕ Global) Trouble → ℕ → ℕ → ControlUnit × List ℕ → Vehicle → Vehicle → Type 0
+HasAsked (Ok body) tester unit step v w = (body.items ≡ step.1) × Rests tester w.gateway × HasStepped unit step.0 v w
+HasAsked (Err e) tester unit step v w = e ≡ NoMemory

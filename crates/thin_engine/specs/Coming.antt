@@ -1,5 +1,5 @@
 -- What is on its way to the tester in a run that nothing disturbs.
-use Rattle.std.specs.Prelude.{◌≡◌, ◌⊎◌, ℕ, ◌+◌, ◌<◌, ◌≤◌, Bool, true, false, List, [], ◌∷◌, ◌++◌, length, Option, Some, None, if◌then◌else◌}
+use Rattle.std.specs.Prelude.{◌≡◌, ◌⊎◌, ℕ, ◌+◌, ◌<◌, ◌≤◌, false, List, [], ◌∷◌, ◌++◌, length, Some, if◌then◌else◌}
 use Rattle.doip_frame.specs.Frame.{ack_bytes, message_bytes, activated_bytes}
 use Rattle.unit_model.specs.Vehicle.{HeldAnswer, Gateway}
 use Rattle.run_model.specs.Script.{is_empty}

@@ -164,7 +164,7 @@ pub fn ask<S: Shop>(
     ensures grows { IsTrue S.tells_vehicle → VehicleUp (vehicle_now (S.history shop.old)) (vehicle_now (S.history shop.new)) }
     ensures answers { IsTrue S.tells_vehicle → IsQuietPart (S.history shop.old) (S.history shop.new)
         → (u : ControlUnit) → 1 ≤ length body.now → unit_at (vehicle_now (S.history shop.old)).units route.now.unit ≡ Some u → Rests route.now.tester (vehicle_now (S.history shop.old)).gateway
-        → HasAsked result route.now.tester route.now.unit u (obedient u body.now) (vehicle_now (S.history shop.old)) (vehicle_now (S.history shop.new)) }
+        → HasAsked result route.now.tester route.now.unit (obedient u body.now) (vehicle_now (S.history shop.old)) (vehicle_now (S.history shop.new)) }
 {
     let Ok(frame) = message(alloc, route, body) else {
         return Err(Trouble::NoMemory);

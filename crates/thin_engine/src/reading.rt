@@ -125,7 +125,10 @@ fn read_message(route: &Route, rest: &[u8]) -> Behind
         Look::Part => Behind::Waiting,
         Look::Refused => Behind::Lost,
         Look::Complete { kind, size } => {
-            if kind == 0x8001 && 8 + size == rest.len() && are_at(rest, 8, route.unit, route.tester) {
+            if kind == 0x8001
+                && 8 + size == rest.len()
+                && are_at(rest, 8, route.unit, route.tester)
+            {
                 Behind::Message
             } else {
                 Behind::Lost

@@ -1,4 +1,4 @@
-use Rattle.std.proofs.Common.{◌≡◌, ◌∙◌, ap, arith, Ok, Err, refl}
+use Rattle.std.proofs.Common.{◌∙◌, ap, arith, Err}
 use Rattle.std.specs.Prelude.{IsTrue}
 use Rattle.std.proofs.lemmas.Bool.{both_ways}
 use Rattle.thin_engine.proofs.IdealAsk.{activate_ends, collected_ok, only_memory, no_answer, no_link, no_denial}
@@ -41,7 +41,7 @@ returns-in-Ok-clause-activates g c = λ told q u there.
     let up2 = c.collect.ensures.grows told in
     let later = (talk_then b d e c.deliver.ensures.later c.collect.ensures.later).is_later in
     let has = activate_ends c.args.route.now.tester c.args.route.now.unit c.activation.result (IsTrue c.deliver.result) a b d e c.collect.result c.dial.ensures.later.is_later c.deliver.ensures.later.is_later c.collect.ensures.later.is_later later
-        (c.dial.ensures.grows told) up up2 (vehicle_then _ _ _ up up2) dialed (c.dial.ensures.dials told c.if-not-dial.false) c.activation.ensures (λ p. c.deliver.ensures.sends told p) (c.collect.ensures.collects told) q u there in
+    (c.dial.ensures.grows told) up up2 (vehicle_then _ _ _ up up2) dialed (c.dial.ensures.dials told c.if-not-dial.false) c.activation.ensures (λ p. c.deliver.ensures.sends told p) (c.collect.ensures.collects told) q u there in
     collected_ok _ _ _ _ c.collect.result _ c.in-Ok.is has.1
 
 pub returns-in-Err-Denied-clause-activates : goal.returns-in-Err-Denied-clause-activates
@@ -55,7 +55,7 @@ returns-in-Err-Denied-clause-activates g c = λ told q u there.
     let up2 = c.collect.ensures.grows told in
     let later = (talk_then b d e c.deliver.ensures.later c.collect.ensures.later).is_later in
     let has = activate_ends c.args.route.now.tester c.args.route.now.unit c.activation.result (IsTrue c.deliver.result) a b d e c.collect.result c.dial.ensures.later.is_later c.deliver.ensures.later.is_later c.collect.ensures.later.is_later later
-        (c.dial.ensures.grows told) up up2 (vehicle_then _ _ _ up up2) dialed (c.dial.ensures.dials told c.if-not-dial.false) c.activation.ensures (λ p. c.deliver.ensures.sends told p) (c.collect.ensures.collects told) q u there in
+    (c.dial.ensures.grows told) up up2 (vehicle_then _ _ _ up up2) dialed (c.dial.ensures.dials told c.if-not-dial.false) c.activation.ensures (λ p. c.deliver.ensures.sends told p) (c.collect.ensures.collects told) q u there in
     absurd (no_denial _ (only_memory _ _ _ _ c.collect.result _ (c.in-Err-Denied.is ∙ ap (λ (x : Trouble). Err x) c.in-Err-Denied.field-0-is) has.1))
 
 pub returns-in-Err-NoAnswer-clause-activates : goal.returns-in-Err-NoAnswer-clause-activates
@@ -69,7 +69,7 @@ returns-in-Err-NoAnswer-clause-activates g c = λ told q u there.
     let up2 = c.collect.ensures.grows told in
     let later = (talk_then b d e c.deliver.ensures.later c.collect.ensures.later).is_later in
     let has = activate_ends c.args.route.now.tester c.args.route.now.unit c.activation.result (IsTrue c.deliver.result) a b d e c.collect.result c.dial.ensures.later.is_later c.deliver.ensures.later.is_later c.collect.ensures.later.is_later later
-        (c.dial.ensures.grows told) up up2 (vehicle_then _ _ _ up up2) dialed (c.dial.ensures.dials told c.if-not-dial.false) c.activation.ensures (λ p. c.deliver.ensures.sends told p) (c.collect.ensures.collects told) q u there in
+    (c.dial.ensures.grows told) up up2 (vehicle_then _ _ _ up up2) dialed (c.dial.ensures.dials told c.if-not-dial.false) c.activation.ensures (λ p. c.deliver.ensures.sends told p) (c.collect.ensures.collects told) q u there in
     absurd (no_answer (only_memory _ _ _ _ c.collect.result _ (c.in-Err-NoAnswer.is ∙ ap (λ (x : Trouble). Err x) c.in-Err-NoAnswer.field-0-is) has.1))
 
 pub returns-in-Err-LinkLost-clause-activates : goal.returns-in-Err-LinkLost-clause-activates
@@ -83,5 +83,5 @@ returns-in-Err-LinkLost-clause-activates g c = λ told q u there.
     let up2 = c.collect.ensures.grows told in
     let later = (talk_then b d e c.deliver.ensures.later c.collect.ensures.later).is_later in
     let has = activate_ends c.args.route.now.tester c.args.route.now.unit c.activation.result (IsTrue c.deliver.result) a b d e c.collect.result c.dial.ensures.later.is_later c.deliver.ensures.later.is_later c.collect.ensures.later.is_later later
-        (c.dial.ensures.grows told) up up2 (vehicle_then _ _ _ up up2) dialed (c.dial.ensures.dials told c.if-not-dial.false) c.activation.ensures (λ p. c.deliver.ensures.sends told p) (c.collect.ensures.collects told) q u there in
+    (c.dial.ensures.grows told) up up2 (vehicle_then _ _ _ up up2) dialed (c.dial.ensures.dials told c.if-not-dial.false) c.activation.ensures (λ p. c.deliver.ensures.sends told p) (c.collect.ensures.collects told) q u there in
     absurd (no_link (only_memory _ _ _ _ c.collect.result _ (c.in-Err-LinkLost.is ∙ ap (λ (x : Trouble). Err x) c.in-Err-LinkLost.field-0-is) has.1))

@@ -1,4 +1,4 @@
-use Rattle.std.proofs.Common.{◌≡◌, List, ◌∙◌, arith}
+use Rattle.std.proofs.Common.{◌≡◌, ◌∙◌, arith}
 use Rattle.std.specs.Prelude.{IsTrue}
 use Rattle.doip_frame.specs.Frame.{message_bytes}
 use Rattle.thin_engine.proofs.IdealAsk.{ask_ends}

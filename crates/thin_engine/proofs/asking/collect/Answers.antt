@@ -1,4 +1,4 @@
-use Rattle.std.proofs.Common.{◌≡◌, ℕ, ◌+◌, ◌<◌, ◌≤◌, List, drop, refl, sym, ◌∙◌, ap, subst, arith}
+use Rattle.std.proofs.Common.{◌≡◌, ℕ, ◌+◌, List, drop, refl, sym, ◌∙◌, ap, subst, arith}
 use Rattle.shop_model.specs.History.{vehicle_now}
 use Rattle.thin_engine.proofs.IdealCalm.{quiet_parts}
 use Rattle.thin_engine.proofs.IdealCollect.{goes_start, goes_quiet, comes, never_lost, never_denied, goes_on, ends, impatient, runs_out, parted}
@@ -123,7 +123,7 @@ loop-preserved g c =
         later = later;
         grows = λ told. vehicle_then _ _ _ (c.loop.invariant.grows told) (c.poll.ensures.grows told);
         goes = λ told.
-        let a = g.S.Shop.history c.args.shop.now in
+            let a = g.S.Shop.history c.args.shop.now in
             let b = g.S.Shop.history c.loop.shop in
             let d = g.S.Shop.history c.poll.new.shop in
             let t = c.args.route.now.tester in
@@ -140,7 +140,7 @@ loop-preserved g c =
         later = later;
         grows = λ told. vehicle_then _ _ _ (c.loop.invariant.grows told) (c.poll.ensures.grows told);
         goes = λ told.
-        let a = g.S.Shop.history c.args.shop.now in
+            let a = g.S.Shop.history c.args.shop.now in
             let b = g.S.Shop.history c.loop.shop in
             let d = g.S.Shop.history c.poll.new.shop in
             let t = c.args.route.now.tester in

@@ -1,5 +1,4 @@
 use Rattle.std.proofs.Common.{refl}
-use Rattle.shop_model.specs.History.{Send}
 use Rattle.thin_engine.proofs.IdealCalls.{sent_up, fed, never_fails}
 use Rattle.thin_engine.proofs.asking.deliver.Goals as goal
 

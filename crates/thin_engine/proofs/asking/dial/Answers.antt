@@ -1,5 +1,3 @@
-use Rattle.std.proofs.lemmas.Bool.{false≢true}
-use Rattle.std.proofs.Common.{sym}
 use Rattle.thin_engine.proofs.IdealCalls.{dialed_up, dialed_now, goes_forward, was_called, rises}
 use Rattle.thin_engine.proofs.asking.dial.Goals as goal
 

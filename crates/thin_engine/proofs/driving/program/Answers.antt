@@ -1,6 +1,5 @@
 use Rattle.std.proofs.Common.{◌≡◌, ◌∙◌, rules, tests}
 use Rattle.std.proofs.lemmas.Result.{err_from_is_err_and}
-use Rattle.shop_model.specs.History.{vehicle_now}
 use Rattle.thin_engine.proofs.IdealCalm.{quiet_parts}
 use Rattle.thin_engine.proofs.IdealCounts.{vehicle_then}
 use Rattle.thin_engine.proofs.IdealDrive.{starved_program}

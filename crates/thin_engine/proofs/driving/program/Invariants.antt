@@ -16,7 +16,7 @@ invariant-script g l = record {
   stage : IsStage l.unit l.stage;
   grows : IsTrue g.S.Shop.tells_vehicle → VehicleUp (vehicle_now (g.S.Shop.history l.initial.shop)) (vehicle_now (g.S.Shop.history l.shop));
   stands : IsTrue g.S.Shop.tells_vehicle → (u : ControlUnit) → IsQuietPart (g.S.Shop.history l.initial.shop) (g.S.Shop.history l.shop)
-  → AtStage l.route.tester l.route.unit l.unit u Program (vehicle_now (g.S.Shop.history l.initial.shop)) → AtStage l.route.tester l.route.unit l.unit u l.stage (vehicle_now (g.S.Shop.history l.shop));
+      → AtStage l.route.tester l.route.unit l.unit u Program (vehicle_now (g.S.Shop.history l.initial.shop)) → AtStage l.route.tester l.route.unit l.unit u l.stage (vehicle_now (g.S.Shop.history l.shop));
 }
 
 abbrev pub decreases-script : goal.decreases-script

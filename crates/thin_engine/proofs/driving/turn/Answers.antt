@@ -1,4 +1,4 @@
-use Rattle.std.proofs.Common.{◌≡◌, ◌∙◌, List}
+use Rattle.std.proofs.Common.{◌≡◌, ◌∙◌}
 use Rattle.run_model.specs.Script.{bytes_at}
 use Rattle.shop_model.specs.History.{vehicle_now}
 use Rattle.thin_engine.proofs.IdealProgram.{turn_ends, request_some}
