@@ -1,5 +1,16 @@
 pub mod Events
 pub mod Frames
+pub mod IdealAsk
+pub mod IdealCalls
+pub mod IdealCalm
+pub mod IdealCollect
+pub mod IdealCounts
+pub mod IdealDrive
+pub mod IdealPoll
+pub mod IdealProgram
+pub mod IdealRead
+pub mod IdealSend
+pub mod IdealUnit
 pub mod Laters
 pub mod Leads
 pub mod Limits

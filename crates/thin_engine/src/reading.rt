@@ -1,8 +1,8 @@
 ghost use Rattle.std.specs.Prelude.{◌≡◌, ◌+◌, ◌≤◌, ◌<◌, IsTrue, drop, length};
-ghost use Rattle.doip_frame.specs.Frame.{is_length};
+ghost use Rattle.doip_frame.specs.Frame.{is_length, stream_of};
 ghost use Rattle.thin_engine.specs.Look.{Cuts, look_of, look_sized, two_at, four_at};
-ghost use Rattle.doip_frame.specs.Frame.{stream_of};
 ghost use Rattle.thin_engine.specs.Reading.{IsWithin, IsBehindRead, IsBehindAt, IsAnswerRead, IsActivationRead, IsRead};
+ghost use Rattle.thin_engine.specs.Reads.{stand_at, message_seen, behind_at, answer_seen, activation_seen, read_of};
 
 /// The two logical addresses of a conversation.
 #[derive(Clone, Copy, Debug)]
@@ -84,7 +84,8 @@ fn seen(stream: &[u8]) -> Look
 
 /// What stands at the front of a stream (ISO 13400-2:2019, section 9).
 fn front(stream: &[u8]) -> Look
-    ensures { Cuts result stream.now }
+    ensures cuts { Cuts result stream.now }
+    ensures is { result ≡ look_of stream.now }
 {
     seen(stream)
 }
@@ -102,7 +103,8 @@ pub enum Reading {
 /// Whether these addresses stand at `i`.
 fn are_at(s: &[u8], i: usize, source: u16, target: u16) -> bool
     requires { i + 4 ≤ length s.now }
-    ensures { IsTrue result → (two_at s.now i ≡ source) × (two_at s.now (i + 2) ≡ target) }
+    ensures places { IsTrue result → (two_at s.now i ≡ source) × (two_at s.now (i + 2) ≡ target) }
+    ensures is { result ≡ stand_at s.now i source target }
 {
     two(s, i) == source && two(s, i + 2) == target
 }
@@ -118,7 +120,9 @@ enum Behind {
 /// The unit's message alone.
 #[tactic(auto, using(crate::proofs::Frames::lone_message, crate::proofs::Frames::nothing_yet))]
 fn read_message(route: &Route, rest: &[u8]) -> Behind
-    ensures { IsBehindRead route.now.tester route.now.unit rest.now result }
+    ensures read { IsBehindRead route.now.tester route.now.unit rest.now result }
+    ensures is { result ≡ message_seen route.now.tester route.now.unit rest.now (look_of rest.now) }
+    ensures long { result ≡ Behind.Message → 12 ≤ length rest.now }
 {
     match front(rest) {
         Look::Part => Behind::Waiting,
@@ -148,6 +152,7 @@ fn read_behind(route: &Route, got: &[u8], from: usize) -> Reading
     requires { from ≤ length got.now }
     ensures within { IsWithin (length got.now) result }
     ensures read { IsBehindAt route.now.tester route.now.unit from got.now result }
+    ensures is { result ≡ behind_at route.now.tester route.now.unit from got.now }
 {
     match read_message(route, from_on(got, from)) {
         Behind::Waiting => Reading::Waiting,
@@ -161,6 +166,7 @@ fn read_behind(route: &Route, got: &[u8], from: usize) -> Reading
 fn read_answer(route: &Route, got: &[u8]) -> Reading
     ensures within { IsWithin (length got.now) result }
     ensures read { IsAnswerRead route.now.tester route.now.unit got.now result }
+    ensures is { result ≡ answer_seen route.now.tester route.now.unit got.now (look_of got.now) }
 {
     match front(got) {
         Look::Part => Reading::Waiting,
@@ -182,6 +188,7 @@ fn read_answer(route: &Route, got: &[u8]) -> Reading
 fn read_activation(got: &[u8]) -> Reading
     ensures within { IsWithin (length got.now) result }
     ensures read { IsActivationRead got.now result }
+    ensures is { result ≡ activation_seen got.now (look_of got.now) }
 {
     match front(got) {
         Look::Part => Reading::Waiting,
@@ -208,6 +215,7 @@ pub enum Awaited {
 pub fn read_awaited(awaited: Awaited, route: &Route, got: &[u8]) -> Reading
     ensures within { IsWithin (length got.now) result }
     ensures read { IsRead awaited route.now.tester route.now.unit got.now result }
+    ensures is { result ≡ read_of awaited route.now.tester route.now.unit got.now }
 {
     match awaited {
         Awaited::Activation => read_activation(got),

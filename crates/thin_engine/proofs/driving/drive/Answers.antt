@@ -1,4 +1,4 @@
-use Rattle.std.proofs.Common.{◌≡◌, ℕ, List, [], length, refl, sym, subst, ap, ◌∙◌, arith}
+use Rattle.std.proofs.Common.{◌≡◌, ℕ, List, [], length, refl, sym, subst, ap, ◌∙◌, arith, ◌≤◌, Result}
 use Rattle.disk_model.specs.Disk.{DiskState}
 use Rattle.sha2.proofs.Facts256.{length-sha256}
 use Rattle.flash_plan.specs.Canonical.{canonical}
@@ -13,6 +13,9 @@ use Rattle.thin_journal.proofs.File.{new_size, new_made}
 use Rattle.thin_engine.specs.Talking.{Run, SoundAt}
 use Rattle.thin_engine.proofs.Parts.{keeps_shown}
 use Rattle.thin_engine.proofs.Openings.{empty_of, empty_starts, empty_sound, len_keeps, opens, then_runs, new_fits, same_sound}
+use Rattle.flash_plan.specs.declared.outcome.Outcome.{Outcome}
+use Rattle.thin_engine.proofs.IdealDrive.{run_ends, ended_by}
+use Rattle.thin_engine.specs.Undisturbed.{IsDriven}
 use Rattle.thin_engine.proofs.driving.drive.Goals as goal
 
 making_of : (P : Label) (file digest : List ℕ) → P.units ≡ 1 → length P.digest ≡ 32 → digest ≡ P.digest → file ≡ new_bytes (record { digest = digest; units = 1 }) → IsMaking P file
@@ -110,3 +113,29 @@ returns-in-Ok-make-clause-sound g c = λ told_disk told v0 sound.
     let fits2 = same_sound run (vehicle_now h1) (vehicle_now h2) c.make.ensures.later.vehicle fits1 in
     let new = c.in-Ok-make.ensures.made told_disk P making2 in
     then_runs run h0 h2 h3 opened (c.run.ensures.sound told_disk told run refl (sym c.unit.ensures) new (new_fits run (disk_now h2) (vehicle_now h2) new refl fits2))
+
+pub returns-in-Ok-run-clause-complete : goal.returns-in-Ok-run-clause-complete
+returns-in-Ok-run-clause-complete g c = λ td tv empty matches untroubled plain.
+    let a = g.S.Shop.history c.args.shop.now in
+    let n = g.S.Shop.history c.len.new.self in
+    let b = g.S.Shop.history c.make.new.shop in
+    let e = g.S.Shop.history c.run.new.shop in
+    let same = c.make.ensures.later.vehicle ∙ c.len.ensures.call.vehicle in
+    let link = c.make.ensures.later.link_faults ∙ c.len.ensures.call.link_faults in
+    let later : a.moment ≤ b.moment = omega (arith, c.make.ensures.later.is_later.later, c.len.ensures.call.passes.moment, g.met.S.Shop.bounded c.args.shop.now) in
+    let disk : a.disk_faults ≤ b.disk_faults = omega (arith, c.make.ensures.later.is_later.disk_faults, c.len.ensures.call.never_falls) in
+    let ends = run_ends c.args.plan.now c.requires a b e same link later disk c.run.result c.unit.result.now c.unit.ensures c.run.ensures.later.disk_faults (c.run.ensures.runs tv) matches untroubled plain in
+    subst (λ (r : Result Unit Outcome). IsDriven c.args.plan.now (vehicle_now a) (vehicle_now e) (ended_by r)) c.in-Ok-run.is ends
+
+pub returns-in-Ok-make-clause-complete : goal.returns-in-Ok-make-clause-complete
+returns-in-Ok-make-clause-complete g c = λ td tv empty matches untroubled plain.
+    let a = g.S.Shop.history c.args.shop.now in
+    let n = g.S.Shop.history c.len.new.self in
+    let b = g.S.Shop.history c.make.new.shop in
+    let e = g.S.Shop.history c.run.new.shop in
+    let same = c.make.ensures.later.vehicle ∙ c.len.ensures.call.vehicle in
+    let link = c.make.ensures.later.link_faults ∙ c.len.ensures.call.link_faults in
+    let later : a.moment ≤ b.moment = omega (arith, c.make.ensures.later.is_later.later, c.len.ensures.call.passes.moment, g.met.S.Shop.bounded c.args.shop.now) in
+    let disk : a.disk_faults ≤ b.disk_faults = omega (arith, c.make.ensures.later.is_later.disk_faults, c.len.ensures.call.never_falls) in
+    let ends = run_ends c.args.plan.now c.requires a b e same link later disk c.run.result c.unit.result.now c.unit.ensures c.run.ensures.later.disk_faults (c.run.ensures.runs tv) matches untroubled plain in
+    subst (λ (r : Result Unit Outcome). IsDriven c.args.plan.now (vehicle_now a) (vehicle_now e) (ended_by r)) c.in-Err-run.is ends
