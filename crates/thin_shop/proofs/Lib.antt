@@ -9,3 +9,4 @@ pub mod OneFrame
 pub mod Prefixes
 pub mod Refusals
 pub mod Sends
+pub mod Works

@@ -45,12 +45,12 @@ in_header (p ∷ q ∷ rest) = elim (cases_Bool (p == 3 && q == 252)) [ inl e �
 
 of_stream : (n : ℕ) (s : List ℕ) → IsOfHeader (stream_in n s).bad
 of_stream zero s = tt
-of_stream (suc n) s = go (cut_frame s) (in_header s)
+of_stream (suc n) s = go (of_stream n) (cut_frame s) (in_header s)
   where
-    go : (cut : Cut) → InHeader cut → IsOfHeader (stream_after cut (stream_in n) s).bad
-    go Partial is = tt
-    go (Wrong bad) is = is
-    go (Whole kind payload rest) is = of_stream n rest
+    go : ((rest : List ℕ) → IsOfHeader (stream_in n rest).bad) → (cut : Cut) → InHeader cut → IsOfHeader (stream_after cut (stream_in n) s).bad
+    go again Partial is = tt
+    go again (Wrong bad) is = is
+    go again (Whole kind payload rest) is = again rest
 
 pub of_header : (s : List ℕ) → IsOfHeader (stream_of s).bad
 of_header s = of_stream (suc (length s)) s

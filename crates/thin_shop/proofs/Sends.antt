@@ -148,6 +148,10 @@ held_deaf (Some held) bytes deaf = cc
 runs_from : (c : Car) (a e : Desk) (u w : ControlUnit) (fs gs : List Frame) (out : List Word) → a.active ≡ c.active → a.answers.items ≡ [] → u ≡ control_unit c.unit → fs ≡ gs → Runs fs (at_desk c a u) (at_desk c e w) out → Runs gs (vehicle_of c) (at_desk c e w) out
 runs_from c a e u w fs gs out active none unit same runs = subst (λ (v : Vehicle). Runs gs v (at_desk c e w) out) (begins_is c a u active none unit) (subst (λ (hs : List Frame). Runs hs (at_desk c a u) (at_desk c e w) out) same runs)
 
+take_none : (n : ℕ) → take {A = Frame} n [] ≡ []
+take_none zero = refl
+take_none (suc n) = refl
+
 no_words : (unit tick : ℕ) (said : List (List ℕ)) (out : List Word) → out ≡ [] → AreWords unit tick said out → said ≡ []
 no_words unit tick [] out none are = refl
 no_words unit tick (b ∷ bs) [] none are = absurd are
@@ -233,13 +237,6 @@ module _ (old mid part new : Car) (bytes : List ℕ) (fs : List Frame) (bad : Op
         feeds = subst (λ (deaf : Bool). MatchBool deaf (vehicle_of old ≡ vehicle_of old) (FeedsHearing [] (vehicle_of old) (vehicle_of old))) (sym deaf) refl;
         broken = inr (again ∙ (λ i. redialed (record { gateway = record (gateway_of old) { entity = entity i; tick = tick i }; units = control_unit part.unit ∷ [] })) ∙ ap redialed runs.0);
       }
-    where
-      take_none : (n : ℕ) → take n (the_nothing) ≡ []
-      take_none zero = refl
-      take_none (suc n) = refl
-
-      the_nothing : List Frame
-      the_nothing = []
 
   pub part_fed : FeedsPart bytes (vehicle_of old) (vehicle_of new)
   part_fed = go (is_deaf old.deframer) refl
