@@ -4,6 +4,7 @@ use Rattle.flash_base.specs.Lists.{Each}
 use Rattle.doip_frame.specs.declared.frame.Bad.{Bad}
 use Rattle.doip_frame.specs.declared.frame.Bad.TheVariants.{Pattern, Length, TooLarge, Failed}
 use Rattle.doip_frame.specs.declared.frame.Frame.{Frame}
+use Rattle.doip_frame.specs.declared.frame.Frame.TheVariants.{HeaderNack, Activate, Activated, AliveAsk, AliveSay, Message, Ack, Nack, Other}
 use Rattle.doip_frame.specs.Frame.{header_nack_bytes, message_bytes}
 use Rattle.unit_model.specs.Unit.{ControlUnit}
 use Rattle.unit_model.specs.Step.{CanSend, reply_at}
@@ -38,6 +39,22 @@ AreWords unit tick (b ∷ bs) (w ∷ ws) = (w.unit ≡ unit) × (w.reply ≡ rep
 abbrev pub listed : Option (List ℕ) → List (List ℕ)
 listed None = []
 listed (Some body) = body ∷ []
+
+-- the body of a message, and that of one that was answered
+abbrev pub body_in : Frame → List (List ℕ)
+body_in (Message source target body) = body ∷ []
+body_in (Activate source kind oem) = []
+body_in (HeaderNack code) = []
+body_in (Activated tester entity code oem) = []
+body_in AliveAsk = []
+body_in (AliveSay source) = []
+body_in (Ack source target code before) = []
+body_in (Nack source target code before) = []
+body_in (Other kind payload) = []
+
+abbrev pub body_heard : Option (List ℕ) → Frame → List (List ℕ)
+body_heard None f = []
+body_heard (Some said) f = body_in f
 
 pub record Does (f : Frame) (c : Car) (old new : Desk) (u w : ControlUnit) (said : List (List ℕ)) : Type 0 where
   pub out : List Word

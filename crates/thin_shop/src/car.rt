@@ -6,7 +6,7 @@ ghost use Rattle.thin_shop.specs.Holding.{unfinished_of};
 use crate::handling::{Desk, handle_all, refuse_header, reply_all};
 use disk_model::DeviceFault;
 use doip_frame::{Deframer, Fed};
-use flash_base::NoMemory;
+use flash_base::{Bytes, Items, NoMemory};
 use std::alloc::Global;
 use unit_model::{Got, Unit, UnitSpec};
 
@@ -24,6 +24,8 @@ pub struct Car {
     carried: Vec<u8>,
     pub(crate) tick: u64,
     unit: Unit,
+    /// The messages that the unit heard, in order.
+    heard: Items<Bytes>,
     ghost order: { start ≤ length ready.items },
     ghost partial: { IsTrue (is_partial (cut_frame (unfinished_of deframer))) },
 }
@@ -32,7 +34,10 @@ impl Car {
     ghost use Rattle.unit_model.specs.Vehicle.{Vehicle, redialed};
     ghost use Rattle.unit_model.specs.Running.{IsUnitSpec, unit_of};
     ghost use Rattle.shop_model.specs.History.{Received, IsPiece, Sent};
-    ghost use Rattle.thin_shop.specs.Cars.{vehicle_of};
+    ghost use Rattle.std.specs.Prelude.{MatchOption, None};
+    ghost use Rattle.flash_base.specs.ByteMaps.{byte_at};
+    ghost use Rattle.unit_model.specs.Regions.{IsPart};
+    ghost use Rattle.thin_shop.specs.Cars.{vehicle_of, memory_in, heard_in};
     ghost use Rattle.thin_shop.specs.New.{new_vehicle};
     ghost use Rattle.thin_shop.specs.Feeding.{CarCut, CarWorked, CarPart};
 
@@ -50,6 +55,7 @@ impl Car {
             carried: Vec::new(alloc),
             tick: 0,
             unit: Unit::new(alloc, spec)?,
+            heard: Items::new(alloc),
         })
     }
 
@@ -109,6 +115,21 @@ impl Car {
         }
     }
 
+    /// The next bytes of the unit's memory from an address on, at most so many; None where it has no such address.
+    pub fn memory(&self, at: u64, most: u64) -> Option<&[u8]>
+        requires { 1 ≤ most }
+        ensures { MatchOption result (byte_at (memory_in self.now) at ≡ None) (λ p. IsPart at most (memory_in self.now) p.now) }
+    {
+        self.unit.memory.part(at, most)
+    }
+
+    /// The requests that the unit heard, in order, over every connection.
+    pub fn heard(&self) -> &[Bytes]
+        ensures { result.now ≡ heard_in self.now }
+    {
+        self.heard.as_slice()
+    }
+
     fn cut(&mut self, bytes: &[u8]) -> Result<Fed, NoMemory>
         ensures ok { IfOk result (λ fed. CarCut bytes.now self.old self.new fed.frames fed.bad) }
         ensures err { OnErr result (vehicle_of self.new ≡ vehicle_of self.old) }
@@ -128,7 +149,7 @@ impl Car {
             answers: Vec::new(alloc),
             alloc,
         };
-        let replies = handle_all(&mut desk, &mut self.unit, &fed.frames)?;
+        let replies = handle_all(&mut desk, &mut self.unit, &mut self.heard, &fed.frames)?;
         refuse_header(&mut desk, &fed.bad)?;
         reply_all(&mut desk, self.unit.address, replies.as_slice())?;
         self.ready.extend_from_slice(&desk.answers)?;

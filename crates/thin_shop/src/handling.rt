@@ -5,7 +5,7 @@ ghost use Rattle.doip_frame.specs.Form.{IsFrame};
 ghost use Rattle.doip_frame.specs.Frame.{written, ack_bytes, nack_bytes};
 ghost use Rattle.unit_model.specs.Running.{control_unit};
 ghost use Rattle.unit_model.specs.Step.{CanSend};
-ghost use Rattle.thin_shop.specs.Desks.{Says, Handled, Worked, WorkedPart, listed, messages, code_of, refusal};
+ghost use Rattle.thin_shop.specs.Desks.{Says, Handled, Worked, WorkedPart, listed, body_in, body_heard, messages, code_of, refusal};
 
 use crate::hear::hear;
 use doip_frame::{Bad, Frame, Frames, encode};
@@ -27,10 +27,11 @@ pub(crate) struct Desk {
 const ACTIVATED: u8 = 0x10;
 
 /// Handles frames in order, and gives the unit's replies. Where there is no memory it has handled the
-/// first of them.
+/// first of them. The bodies that the unit heard are put behind those in `heard`.
 pub(crate) fn handle_all(
     desk: &mut Desk,
     unit: &mut Unit,
+    heard: &mut Items<Bytes>,
     frames: &Frames,
 ) -> Result<Items<Bytes>, NoMemory>
     ensures ok { IfOk result (λ said. Worked frames.now desk.old desk.new (control_unit unit.old) (control_unit unit.new) said) }
@@ -38,18 +39,47 @@ pub(crate) fn handle_all(
 {
     let mut replies = Items::new(desk.alloc);
     for i in 0..frames.len() {
-        let said = handle(desk, unit, frames.at(i))?;
-        keep(&mut replies, said)?;
+        let frame = frames.at(i);
+        let said = handle(desk, unit, frame)?;
+        keep(desk.alloc, frame, said, &mut replies, heard)?;
     }
     Ok(replies)
 }
 
-fn keep(replies: &mut Items<Bytes>, said: Option<Bytes>) -> Result<(), NoMemory>
-    ensures { OnOk result (replies.new ≡ replies.old ++ listed said) }
+/// Keeps the unit's reply, if there is one, and the body that it answers.
+fn keep(
+    alloc: Global,
+    frame: &Frame,
+    said: Option<Bytes>,
+    replies: &mut Items<Bytes>,
+    heard: &mut Items<Bytes>,
+) -> Result<(), NoMemory>
+    ensures replies { OnOk result (replies.new ≡ replies.old ++ listed said) }
+    ensures heard { OnOk result (heard.new ≡ heard.old ++ body_heard said frame.now) }
 {
     match said {
         None => Ok(()),
-        Some(body) => replies.push(body),
+        Some(reply) => {
+            note(alloc, frame, heard)?;
+            replies.push(reply)
+        }
+    }
+}
+
+/// Keeps the body of a message.
+fn note(alloc: Global, frame: &Frame, heard: &mut Items<Bytes>) -> Result<(), NoMemory>
+    ensures { OnOk result (heard.new ≡ heard.old ++ body_in frame.now) }
+{
+    match frame {
+        Frame::Message { body, .. } => heard.push(Bytes::from_slice(alloc, body.as_slice())?),
+        Frame::Activate { .. } => Ok(()),
+        Frame::HeaderNack { .. } => Ok(()),
+        Frame::Activated { .. } => Ok(()),
+        Frame::AliveAsk => Ok(()),
+        Frame::AliveSay { .. } => Ok(()),
+        Frame::Ack { .. } => Ok(()),
+        Frame::Nack { .. } => Ok(()),
+        Frame::Other { .. } => Ok(()),
     }
 }
 
