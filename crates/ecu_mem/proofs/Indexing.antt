@@ -1,5 +1,5 @@
 -- The table of IDs with one more entry.
-use Rattle.std.proofs.Common.{◌≡◌, ◌∙◌, sym, refl, ap, subst, ℕ, ◌+◌, List, [], ◌∷◌, ◌++◌, Bool, true, false, cond, bytes_eq, codes, is_some, Option, Some, None, Result, Ok, Err}
+use Rattle.std.proofs.Common.{◌≡◌, ◌∙◌, sym, refl, ap, subst, ℕ, List, [], ◌∷◌, ◌++◌, Bool, true, false, cond, bytes_eq, codes, Option, Some, None, Ok, Err}
 use Rattle.std.specs.Prelude.{⊤}
 use Rattle.std.proofs.lemmas.Slice.Eq.{bytes_eq-Decides}
 use Rattle.odx_tree.specs.declared.element.Element.{Element}
@@ -7,7 +7,7 @@ use Rattle.ecu_mem.specs.declared.entry.Entry.{Entry}
 use Rattle.ecu_mem.specs.declared.entry.Target.{Target}
 use Rattle.ecu_mem.specs.declared.refusal.Refusal.{Refusal}
 use Rattle.ecu_mem.specs.Refusals.{Reading, both, read_as, missing}
-use Rattle.ecu_mem.specs.Parts.{attribute, attribute_of, attribute_in, has_tag}
+use Rattle.ecu_mem.specs.Parts.{attribute, attribute_of, has_tag}
 use Rattle.ecu_mem.specs.Elements.{session_of, session_in, block_of, block_in, flash_of, flash_in, entry_in}
 use Rattle.ecu_mem.specs.Catalogue.{id_of, blocks_with, flashes_with, blocks_after, flashes_after, target_at, target_from, target_of, unique}
 

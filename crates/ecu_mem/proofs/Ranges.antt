@@ -1,8 +1,7 @@
 -- What elements are read as has its ranges, idents and offsets within their bounds.
-use Rattle.std.proofs.Common.{◌≡◌, refl, ap, ℕ, suc, ◌+◌, ◌-◌, ◌<◌, ◌≤◌, List, [], ◌∷◌, length, Bool, true, false, cond, codes, Option, Some, None, Result, Ok, Err, arith}
+use Rattle.std.proofs.Common.{◌≡◌, refl, ℕ, suc, ◌+◌, ◌-◌, ◌<◌, ◌≤◌, List, [], ◌∷◌, length, Bool, true, false, cond, codes, Option, Some, None, Ok, Err, arith}
 use Rattle.std.specs.Prelude.{⊤, IfOk, IfSome, nat_lt, nat_le, ◌&&◌}
 use Rattle.std.proofs.lemmas.Bool.{and_parts, ltb-true, leb-true}
-use Rattle.std.proofs.lemmas.Result.{IfOk-weaker}
 use Rattle.flash_base.specs.Lists.{Each}
 use Rattle.text_forms.specs.Numbers.{hex_text, decimal_text}
 use Rattle.odx_tree.specs.declared.element.Element.{Element}
@@ -14,9 +13,9 @@ use Rattle.ecu_mem.specs.declared.refusal.Refusal.{Refusal}
 use Rattle.ecu_mem.specs.declared.entry.Entry.{Entry}
 use Rattle.ecu_mem.specs.declared.entry.Entry.TheVariants as entry
 use Rattle.ecu_mem.specs.Refusals.{Reading, ◌>>=◌, read_as, both, in_kid, missing, bad_number}
-use Rattle.ecu_mem.specs.Parts.{kid, kid_of_two, required_of, required, read_at, some_of, optional_of, optional, choice_of, choice, each_from, each, listed_of, listed, attribute, attribute_in, has_tag, kids_of}
-use Rattle.ecu_mem.specs.Values.{address_limit, text_of, or_bad, if_within, text_in, address_in, byte_in, bytes_in, size_to, end_in, size_from, size_in, or_0, extent_in, range_in, segment_in, filter_in, is_bytefield, if_filled, ident_value_in, format_in, plain_in, inside_in, file_in}
-use Rattle.ecu_mem.specs.Elements.{at_least_one, values_in, one_value_in, ident_in, check_of, check_in, session_of, session_in, signed, down_of, up_of, offset_in, offset_or_0, block_of, block_in, flash_of, flash_in, entry_in}
+use Rattle.ecu_mem.specs.Parts.{kid, kid_of_two, required_of, required, some_of, optional_of, optional, choice_of, choice, each_from, each, listed_of, listed, attribute, attribute_in, has_tag, kids_of}
+use Rattle.ecu_mem.specs.Values.{address_limit, text_of, or_bad, if_within, text_in, address_in, byte_in, bytes_in, size_to, end_in, size_from, size_in, extent_in, segment_in, filter_in, is_bytefield, if_filled, ident_value_in, format_in, plain_in, inside_in, file_in}
+use Rattle.ecu_mem.specs.Elements.{at_least_one, values_in, one_value_in, ident_in, check_of, check_in, session_of, session_in, signed, up_of, offset_in, offset_or_0, block_of, block_in, flash_of, flash_in, entry_in}
 use Rattle.ecu_mem.specs.Bounds.{IsRange, IsCheck, AreValues, IsIdent}
 
 any : {A : Type 0} (r : Reading A) → IfOk r (λ x. ⊤)

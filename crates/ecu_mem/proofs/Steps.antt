@@ -1,6 +1,6 @@
 -- The steps of reading the kids of an element.
-use Rattle.std.proofs.Common.{◌≡◌, ◌∙◌, refl, ap, ℕ, suc, ◌+◌, ◌<◌, List, [], ◌∷◌, ◌++◌, append_assoc, length, get_or, drop, drop-cons, add-one, Bool, true, false, cond, Option, Some, None, Result, Ok, Err}
-use Rattle.odx_tree.specs.declared.element.Element.{Element, out-Element}
+use Rattle.std.proofs.Common.{◌≡◌, refl, ap, ℕ, suc, ◌+◌, ◌<◌, List, [], ◌∷◌, ◌++◌, append_assoc, length, get_or, drop, drop-cons, add-one, Bool, true, false, Some, Ok, Err}
+use Rattle.odx_tree.specs.declared.element.Element.{Element}
 use Rattle.ecu_mem.specs.declared.refusal.Refusal.{Refusal}
 use Rattle.ecu_mem.specs.Refusals.{Reading, ◌>>=◌, in_kid, both}
 use Rattle.ecu_mem.specs.Parts.{first_from, has_tag, each_from}

@@ -1,7 +1,7 @@
 -- The steps of reading a document.
-use Rattle.std.proofs.Common.{◌≡◌, ◌∙◌, sym, refl, ap, ℕ, suc, ◌+◌, ◌<◌, List, [], ◌∷◌, ◌++◌, map, length, get_or, drop, drop-cons, add-one, add-zero, Bool, true, false, cond, bytes_eq, codes, Option, Some, None, Result, Ok, Err, arith}
+use Rattle.std.proofs.Common.{◌≡◌, ◌∙◌, sym, refl, ap, ℕ, suc, ◌+◌, ◌<◌, List, [], ◌∷◌, ◌++◌, map, length, get_or, drop, drop-cons, add-one, Bool, true, false, cond, codes, Some, None, Ok, Err, arith}
 use Rattle.std.specs.Prelude.{⊤}
-use Rattle.odx_tree.specs.declared.element.Element.{Element, out-Element}
+use Rattle.odx_tree.specs.declared.element.Element.{Element}
 use Rattle.ecu_mem.specs.declared.entry.Entry.{Entry}
 use Rattle.ecu_mem.specs.declared.kind.Kind.{Kind}
 use Rattle.ecu_mem.specs.declared.kind.Seen.{Seen}
@@ -9,7 +9,7 @@ use Rattle.ecu_mem.specs.declared.refusal.Refusal.{Refusal}
 use Rattle.ecu_mem.specs.Refusals.{Reading, ◌>>=◌, in_kid, lower}
 use Rattle.ecu_mem.specs.Parts.{kids_of, has_tag, first_from, kid}
 use Rattle.std.proofs.lemmas.List.{get_or_default}
-use Rattle.ecu_mem.specs.Places.{Place, under, element_at, places_from, ecu_mems, counting_from, is_member, group_kind, group_members, new_kind, members_of, seen_after, seen_with, groups_from, groups, carriers_of}
+use Rattle.ecu_mem.specs.Places.{Place, under, element_at, places_from, ecu_mems, counting_from, group_kind, group_members, new_kind, seen_after, seen_with, groups_from, groups, carriers_of}
 use Rattle.ecu_mem.specs.Catalogue.{in_place, over, with_entry, with_ecu_mem}
 use Rattle.ecu_mem.specs.Index.{after}
 

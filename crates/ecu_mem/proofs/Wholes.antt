@@ -12,14 +12,13 @@ use Rattle.ecu_mem.specs.declared.types.EcuMem.{EcuMem}
 use Rattle.ecu_mem.specs.declared.entry.Entry.{Entry}
 use Rattle.ecu_mem.specs.declared.entry.Entry.TheVariants as entry
 use Rattle.ecu_mem.specs.declared.entry.Target.{Target}
-use Rattle.ecu_mem.specs.declared.entry.Target.TheVariants as target
 use Rattle.ecu_mem.specs.declared.fault.MemFault.{MemFault}
 use Rattle.ecu_mem.specs.Refusals.{Reading, ◌>>=◌, both}
 use Rattle.ecu_mem.specs.Parts.{attribute}
 use Rattle.ecu_mem.specs.Elements.{entry_in}
 use Rattle.ecu_mem.specs.Places.{Place, element_at, carriers, ecu_mems}
 use Rattle.ecu_mem.specs.Catalogue.{id_of, blocks_with, flashes_with, blocks_after, flashes_after, target_at, target_from, target_of, unique, with_entry, in_place, over, with_ecu_mem, entries_of, block_found, flash_found, and_then, position_or_dangling, positions_of, linked_block, with_session, with_block, with_flash, linked, linked_or_refused, catalogue}
-use Rattle.ecu_mem.specs.Bounds.{IsRange, IsIdent, IsCheck, IsSessionAmong, IsBlockAmong, one_if, times, ids_of, IsWhole}
+use Rattle.ecu_mem.specs.Bounds.{IsSessionAmong, IsBlockAmong, one_if, times, ids_of, IsWhole}
 use Rattle.ecu_mem.proofs.Indexing.{fresh-id}
 use Rattle.ecu_mem.proofs.Ranges.{bind-gives, kid-gives, IsGood, entry-gives}
 

@@ -1,11 +1,8 @@
 -- What the elements of an ECU-MEM are read as.
-use Rattle.std.specs.Prelude.{ℕ, Bool, true, false, List, [], ◌∷◌, codes, Option, Some, None, unwrap_or, Result, Ok, Err, if◌then◌else◌}
+use Rattle.std.specs.Prelude.{ℕ, Bool, true, false, List, [], ◌∷◌, codes, Option, Some, None, unwrap_or, Ok, Err, if◌then◌else◌}
 use Rattle.odx_tree.specs.declared.element.Element.{Element}
 use Rattle.ecu_mem.specs.declared.types.Ident.{Ident}
 use Rattle.ecu_mem.specs.declared.types.Check.{Check}
-use Rattle.ecu_mem.specs.declared.types.Session.{Session}
-use Rattle.ecu_mem.specs.declared.types.Block.{Block}
-use Rattle.ecu_mem.specs.declared.types.Flash.{Flash}
 use Rattle.ecu_mem.specs.declared.types.Format.{Format}
 use Rattle.ecu_mem.specs.declared.types.Source.{Source}
 use Rattle.ecu_mem.specs.declared.entry.Entry.{Entry}

@@ -1,5 +1,5 @@
 -- The entries that were read so far, and the table of their IDs.
-use Rattle.std.specs.Prelude.{◌≡◌, ℕ, List, Option, Result, Ok, Err, ⊤}
+use Rattle.std.specs.Prelude.{◌≡◌, ℕ, List, Ok, Err, ⊤}
 use Rattle.indexmap.specs.IndexMap.{get_by_text}
 use Rattle.ecu_mem.specs.declared.document.Document.{Document}
 use Rattle.ecu_mem.specs.declared.entry.Entry.{Entry}

@@ -1,5 +1,5 @@
 -- Finding and reading the parts of an element.
-use Rattle.std.specs.Prelude.{ℕ, suc, Bool, List, [], ◌∷◌, bytes_eq, Option, Some, None, Result, Ok, Err, ◌||◌, if◌then◌else◌}
+use Rattle.std.specs.Prelude.{ℕ, suc, Bool, List, [], ◌∷◌, bytes_eq, Option, Some, None, Ok, Err, ◌||◌, if◌then◌else◌}
 use Rattle.odx_tree.specs.declared.element.Element.{Element, out-Element}
 use Rattle.flash_base.specs.Files.{first_of}
 use Rattle.ecu_mem.specs.Refusals.{Reading, ◌>>=◌, in_kid, missing}

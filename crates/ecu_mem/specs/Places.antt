@@ -5,7 +5,7 @@ use Rattle.odx_tree.specs.declared.element.Element.TheOpen.{Element-F}
 use Rattle.ecu_mem.specs.declared.kind.Kind.{Kind}
 use Rattle.ecu_mem.specs.declared.kind.Kind.TheVariants as kind
 use Rattle.ecu_mem.specs.declared.kind.Seen.{Seen}
-use Rattle.ecu_mem.specs.Parts.{tag_of, kids_of, has_tag, kid}
+use Rattle.ecu_mem.specs.Parts.{kids_of, has_tag, kid}
 
 -- a place is the list of the kid positions that lead to it
 abbrev pub Place : Type 0

@@ -1,7 +1,6 @@
 -- Refusals at places, and their order.
 use Rattle.std.specs.Prelude.{ℕ, Bool, true, false, ◌&&◌, ◌||◌, ◌==◌, nat_lt, List, [], ◌∷◌, Result, Ok, Err, if◌then◌else◌}
 use Rattle.ecu_mem.specs.declared.refusal.Refusal.{Refusal}
-use Rattle.ecu_mem.specs.declared.refusal.Wrong.{Wrong}
 use Rattle.ecu_mem.specs.declared.refusal.Wrong.TheVariants.{Missing, BadNumber, Twice}
 
 -- what an element is read as, or its first refusal in document order

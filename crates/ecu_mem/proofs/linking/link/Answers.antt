@@ -1,4 +1,4 @@
-use Rattle.std.proofs.Common.{◌≡◌, ◌∙◌, sym, ap, List, ◌∷◌}
+use Rattle.std.proofs.Common.{◌∙◌, ap, ◌∷◌}
 use Rattle.indexmap.specs.IndexMap.{get_by_text}
 use Rattle.ecu_mem.specs.declared.entry.Entry.{Entry}
 use Rattle.ecu_mem.specs.Catalogue.{positions_of, linked}

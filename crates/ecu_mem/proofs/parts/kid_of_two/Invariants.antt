@@ -1,5 +1,5 @@
 use Rattle.std.proofs.Common.{◌≡◌, drop}
-use Rattle.ecu_mem.specs.Parts.{first_from, has_either_tag, kid, kids_of}
+use Rattle.ecu_mem.specs.Parts.{first_from, has_either_tag}
 use Rattle.ecu_mem.proofs.parts.kid_of_two.Given as goal
 
 abbrev pub invariant-loop-i : goal.invariant-loop-i

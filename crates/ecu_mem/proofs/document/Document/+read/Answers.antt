@@ -1,4 +1,4 @@
-use Rattle.std.proofs.Common.{◌≡◌, ◌∙◌, sym}
+use Rattle.std.proofs.Common.{◌∙◌, sym}
 use Rattle.ecu_mem.specs.Index.{entries_in}
 use Rattle.ecu_mem.proofs.Walk.{place-went, place-stopped}
 use Rattle.ecu_mem.proofs.document.Document.+read.Goals as goal

@@ -1,5 +1,5 @@
 use Rattle.std.proofs.Common.{◌≡◌, sym}
-use Rattle.std.specs.Prelude.{IfOk, Result, ⊤}
+use Rattle.std.specs.Prelude.{⊤}
 use Rattle.std.proofs.lemmas.Result.{IfOk-weaker}
 use Rattle.ecu_mem.specs.Refusals.{Reading, in_kid}
 use Rattle.ecu_mem.specs.Catalogue.{with_ecu_mem}

@@ -1,4 +1,4 @@
-use Rattle.std.proofs.Common.{◌≡◌, ◌∙◌, sym, ap, subst, drop, ◌+◌}
+use Rattle.std.proofs.Common.{◌∙◌, sym, ap, subst, drop, ◌+◌}
 use Rattle.ecu_mem.specs.declared.kind.Seen.{Seen}
 use Rattle.ecu_mem.specs.declared.document.Document.{Document}
 use Rattle.ecu_mem.specs.Places.{groups_from}
