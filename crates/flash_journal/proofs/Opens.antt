@@ -107,12 +107,10 @@ want_other digest (Err (OtherPlan said)) want = absurd want
 want_other digest (Err DiskFault) want = tt
 want_other digest (Err NoMemory) want = tt
 
-pub want_refusal : (X : Type 0) (r : Result Journal OpenFault) → IfErr r IsWant → OnRefusal r X
-want_refusal X (Ok j) want = tt
-want_refusal X (Err NotJournal) want = absurd want
-want_refusal X (Err (OtherPlan said)) want = absurd want
-want_refusal X (Err DiskFault) want = tt
-want_refusal X (Err NoMemory) want = tt
+-- a part that leaves the disk, and another
+pub same_then : (old mid new : History) → SameDisk old mid → SameDisk mid new → SameDisk old new
+same_then old mid new first second = joins (IsDisk (disk_now old)) old mid new first
+    (weakens (IsDisk (disk_now mid)) (IsDisk (disk_now old)) mid new (λ d is. is ∙ (first.each mid.moment first.is_later.later (omega arith)).disk) second)
 
 -- a refusal's promise, weakened
 pub on_refusal : (X Y : Type 0) (r : Result Journal OpenFault) → (X → Y) → OnRefusal r X → OnRefusal r Y
@@ -120,7 +118,7 @@ on_refusal X Y (Ok j) implies x = tt
 on_refusal X Y (Err NotJournal) implies x = implies x
 on_refusal X Y (Err (OtherPlan said)) implies x = implies x
 on_refusal X Y (Err DiskFault) implies x = tt
-on_refusal X Y (Err NoMemory) implies x = tt
+on_refusal X Y (Err NoMemory) implies x = implies x
 
 -- a sync, and a part that leaves the disk
 pub synced_same : {T : Type 0} {call : Call} (old mid new : History) (r : Result T DeviceFault) → old.moment ≤ LAST → DiskCall call old mid r → (disk_now mid).bytes ≡ (disk_now old).bytes → SameDisk mid new → HoldsOnDisk old new (HasBytes (disk_now old).bytes)

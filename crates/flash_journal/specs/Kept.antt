@@ -1,9 +1,11 @@
 -- A journal in memory, and the disk that it is kept on.
-use Rattle.std.specs.Prelude.{◌≡◌, ℕ, ◌<◌, Bool, true, false, List, get_or}
+use Rattle.std.specs.Prelude.{◌≡◌, ℕ, ◌*◌, ◌<◌, [], ◌∷◌, Bool, true, false, List, get_or}
 use Rattle.disk_model.specs.Disk.{DiskState, IsCrashImage, IsSettled}
+use Rattle.shop_model.specs.History.{History}
 use Rattle.flash_plan.specs.declared.outcome.Entry.{Entry}
-use Rattle.journal_model.specs.Records.{Label, slots_of, unit_of, is_open}
+use Rattle.journal_model.specs.Records.{Label, slots_of, unit_of, body_of, is_open}
 use Rattle.journal_steps.specs.Append.{Records, IsPrepared, with_entry}
+use Rattle.journal_steps.specs.Later.{MadeCalls, append_calls}
 use Rattle.journal_steps.specs.Tables.{place_of}
 use Rattle.flash_journal.specs.declared.journal.Journal.{Journal}
 
@@ -43,3 +45,11 @@ pub record IsClosed (old new : Journal) : Type 0 where
   pub label : journal_label new ≡ journal_label old
   pub live : is_live new ≡ false
   pub entries : (x : Entry) → has_entry new x ≡ has_entry old x
+
+-- the four calls of an append, in the lowest slot whose gate is closed
+pub record AppendsInOrder (j : Journal) (e : Entry) (old new : History) : Type 0 where
+  pub slot : ℕ
+  pub within : slot < slots_of (journal_label j)
+  pub closed : get_or j.gates.items slot false ≡ false
+  pub lowest : (k : ℕ) → k < slot → get_or j.gates.items k false ≡ true
+  pub calls : MadeCalls old new (append_calls (slots_of (journal_label j)) slot (body_of e) (165 ∷ []))

@@ -25,13 +25,13 @@ abbrev pub OpenAnswer : Label → List ℕ → Result Journal OpenFault → Disk
 OpenAnswer P old (Ok j) disk = IsOpened P old j disk
 OpenAnswer P old (Err fault) disk = Refuses P old fault
 
--- where the file itself was refused
+-- where the file was refused, or memory was wanting: nothing is written then
 abbrev pub OnRefusal : Result Journal OpenFault → Type 0 → Type 0
 OnRefusal (Ok j) X = Unit {0}
 OnRefusal (Err NotJournal) X = X
 OnRefusal (Err (OtherPlan said)) X = X
 OnRefusal (Err DiskFault) X = Unit {0}
-OnRefusal (Err NoMemory) X = Unit {0}
+OnRefusal (Err NoMemory) X = X
 
 -- a read gives these bytes
 abbrev pub HasBytes : List ℕ → DiskState → Type 0

@@ -36,7 +36,7 @@ impl Journal {
     ghost use Rattle.journal_steps.specs.Append.{AddsAtMost};
     ghost use Rattle.journal_steps.specs.Later.{IsDiskLater, HoldsOnDisk};
     ghost use Rattle.journal_steps.specs.Tables.{count_true};
-    ghost use Rattle.flash_journal.specs.Kept.{journal_label, has_entry, is_live, MayAppend, IsKeptOn, HasOneMore, IsClosed};
+    ghost use Rattle.flash_journal.specs.Kept.{journal_label, has_entry, is_live, MayAppend, IsKeptOn, HasOneMore, IsClosed, AppendsInOrder};
     ghost use Rattle.flash_journal.specs.Seen.{label};
 
     // A live journal with these tables.
@@ -108,6 +108,9 @@ impl Journal {
         // that of the start.
         ensures any_moment { IsTrue S.tells_disk →
             HoldsOnDisk (S.history shop.old) (S.history shop.new) (AddsAtMost (journal_label self.old) (has_entry self.old) entry) }
+
+        // Also over a disk that is not told: body, sync, gate, sync, in the lowest slot whose gate is closed.
+        ensures calls { OnOk result (AppendsInOrder self.old entry (S.history shop.old) (S.history shop.new)) }
         ensures err { OnErr result (IsClosed self.old self.new) }
         ensures fault { IsErr result → Rises (S.history shop.old).disk_faults (S.history shop.new).disk_faults }
         ensures later { IsDiskLater (S.history shop.old) (S.history shop.new) }

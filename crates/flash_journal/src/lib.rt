@@ -22,8 +22,6 @@ mod reading;
 mod slots;
 mod spelling;
 mod tables;
-#[cfg(test)]
-mod tests;
 mod verdict;
 mod writing;
 

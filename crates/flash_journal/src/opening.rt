@@ -36,6 +36,7 @@ fn make_journal<S: Shop>(
     ensures kept { IfOk result (λ j. IsTrue S.tells_disk → IsKeptOn j (disk_now (S.history shop.new))) }
     ensures any_moment { IsTrue S.tells_disk → HoldsOnDisk (S.history shop.old) (S.history shop.new) (Starts (label digest.now units)) }
     ensures want { IfErr result IsWant }
+    ensures untouched { OnRefusal result (SameDisk (S.history shop.old) (S.history shop.new)) }
     ensures cause { IfErr result (HasCause (S.history shop.old) (S.history shop.new)) }
     ensures later { IsDiskLater (S.history shop.old) (S.history shop.new) }
 {
@@ -104,7 +105,7 @@ impl Journal {
         // can; the vehicle is that of the start.
         ensures any_moment { IsTrue S.tells_disk → HoldsOnDisk (S.history shop.old) (S.history shop.new) (AllFollow (label digest.now units) (disk_now (S.history shop.old))) }
 
-        // Nothing is written to a file that is refused.
+        // Nothing is written to a file that is refused, nor where memory is wanting.
         ensures untouched { IsTrue S.tells_disk → OnRefusal result (HoldsOnDisk (S.history shop.old) (S.history shop.new) (HasBytes (disk_now (S.history shop.old)).bytes)) }
         ensures other { IfErr result (SaysOther digest.now) }
         ensures cause { IfErr result (HasCause (S.history shop.old) (S.history shop.new)) }

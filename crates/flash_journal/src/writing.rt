@@ -4,7 +4,7 @@ ghost use Rattle.flash_plan.specs.declared.outcome.Entry.{Entry as AnEntry};
 ghost use Rattle.shop_model.specs.History.{disk_now};
 ghost use Rattle.journal_model.specs.Records.{Label};
 ghost use Rattle.journal_steps.specs.Append.{CanAppendGroup, AddsSome, HasAddedGroup};
-ghost use Rattle.journal_steps.specs.Later.{IsDiskLater, HoldsOnDisk};
+ghost use Rattle.journal_steps.specs.Later.{IsDiskLater, HoldsOnDisk, MadeCalls, append_calls};
 
 use shop_model::{DeviceFault, Shop};
 
@@ -30,6 +30,7 @@ pub fn append_run<S: Shop>(
     ensures added { OnOk result (IsTrue S.tells_disk → (P : Label) (R : AnEntry → Bool) (at : ℕ → AnEntry) (m : ℕ)
         → CanAppendGroup P R (disk_now (S.history shop.old)) slots slot at m bodies.now gates.now
         → HasAddedGroup P R (disk_now (S.history shop.old)).bytes slot at m (disk_now (S.history shop.new))) }
+    ensures calls { OnOk result (MadeCalls (S.history shop.old) (S.history shop.new) (append_calls slots slot bodies.now gates.now)) }
     ensures fault { IsErr result → Rises (S.history shop.old).disk_faults (S.history shop.new).disk_faults }
     ensures later { IsDiskLater (S.history shop.old) (S.history shop.new) }
 {

@@ -12,6 +12,7 @@ pub mod Moments
 pub mod More
 pub mod One
 pub mod Opening
+pub mod Orders
 pub mod Reading
 pub mod Same
 pub mod Slots

@@ -1,6 +1,7 @@
-use Rattle.std.proofs.Common.{◌≡◌, ℕ, ◌+◌, ◌*◌, ◌∙◌, List, length, sym, subst, arith}
+use Rattle.std.proofs.Common.{◌≡◌, ℕ, ◌+◌, ◌*◌, ◌∙◌, List, length, refl, sym, subst, arith}
 use Rattle.shop_model.specs.History.{disk_now}
 use Rattle.journal_steps.proofs.Moments.{starts}
+use Rattle.journal_steps.specs.Later.{IsDisk}
 use Rattle.journal_steps.specs.Make.{Starts}
 use Rattle.journal_steps.specs.Read.{IsFront}
 use Rattle.journal_steps.proofs.Front.{front_fresh}
@@ -41,3 +42,9 @@ returns-in-Err-clause-any_moment g c = λ told.
     let h0 = g.S.Shop.history c.args.shop.now in
     let can = can_start P (disk_now h0) c.args.front.now c.deref.result.now (omega (arith, c.fits-digest)) (c.requires.settled told) (front_is c.args.units _ _ (c.requires.front told)) c.requires.fresh (c.deref.ensures.value ∙ c.in-Ok-new_file.ensures) in
     c.make_file.ensures.any_moment told P can
+
+pub returns-in_default-clause-untouched : goal.returns-in_default-clause-untouched
+returns-in_default-clause-untouched g c = let h0 = g.S.Shop.history c.args.shop.now in starts (IsDisk (disk_now h0)) h0 refl
+
+pub returns-in_default-new_file-clause-untouched : goal.returns-in_default-new_file-clause-untouched
+returns-in_default-new_file-clause-untouched g c = let h0 = g.S.Shop.history c.args.shop.now in starts (IsDisk (disk_now h0)) h0 refl

@@ -1,7 +1,7 @@
 use Rattle.std.proofs.Common.{◌≡◌, ℕ, ◌+◌, ◌*◌, ◌∙◌, List, length, sym, ap, subst, arith, true, Err}
 use Rattle.disk_model.specs.Disk.{DiskState, IsSettled}
 use Rattle.shop_model.specs.History.{disk_now}
-use Rattle.journal_steps.specs.Later.{HoldsOnDisk}
+use Rattle.journal_steps.specs.Later.{HoldsOnDisk, SameDisk}
 use Rattle.journal_steps.proofs.Moments.{joins, starts}
 use Rattle.journal_model.specs.Records.{is_fresh}
 use Rattle.journal_steps.specs.Make.{AllFollow}
@@ -11,7 +11,7 @@ use Rattle.flash_journal.specs.declared.looking.OpenFault.TheVariants.{NotJourna
 use Rattle.flash_journal.specs.Seen.{label}
 use Rattle.flash_journal.specs.Opened.{OpenAnswer, IsOpened}
 use Rattle.flash_journal.proofs.Looks.{opens_front, refuses_front, refuses_form, refuses_plan, says_other}
-use Rattle.flash_journal.proofs.Opens.{front_is, kept_told, opened_read, answer_made, want_other, want_refusal, same_follows, start_follows}
+use Rattle.flash_journal.proofs.Opens.{front_is, kept_told, opened_read, answer_made, want_other, on_refusal, same_then, same_follows, start_follows}
 use Rattle.flash_journal.proofs.opening.open_synced.Goals as goal
 
 pub returns-in-Ok-Fresh-clause-answer : goal.returns-in-Ok-Fresh-clause-answer
@@ -70,4 +70,7 @@ pub returns-in-Ok-Fresh-clause-other : goal.returns-in-Ok-Fresh-clause-other
 returns-in-Ok-Fresh-clause-other g c = want_other c.args.digest.now c.make_journal.result c.make_journal.ensures.want
 
 pub returns-in-Ok-Fresh-clause-untouched : goal.returns-in-Ok-Fresh-clause-untouched
-returns-in-Ok-Fresh-clause-untouched g c = want_refusal _ c.make_journal.result c.make_journal.ensures.want
+returns-in-Ok-Fresh-clause-untouched g c =
+    let history = g.S.Shop.history in
+    on_refusal (SameDisk (history c.read_front.new.shop) (history c.make_journal.new.shop)) (SameDisk (history c.args.shop.now) (history c.make_journal.new.shop)) c.make_journal.result
+    (λ second. same_then (history c.args.shop.now) (history c.read_front.new.shop) (history c.make_journal.new.shop) c.read_front.ensures.same second) c.make_journal.ensures.untouched

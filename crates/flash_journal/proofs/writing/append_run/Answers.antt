@@ -1,5 +1,6 @@
 use Rattle.shop_model.specs.History.{disk_now}
 use Rattle.journal_steps.proofs.Laters.{disk_later, disk_then}
+use Rattle.journal_steps.proofs.Orders.{made_ok, made_then}
 use Rattle.journal_steps.proofs.Moments.{starts, goes_on}
 use Rattle.journal_steps.proofs.Calls.{missed_or_nothing}
 use Rattle.journal_steps.specs.Append.{AddsSome}
@@ -116,3 +117,17 @@ returns-in_err-sync-2-clause-later g c = disk_then _ _ _ (disk_then _ _ _ (disk_
 
 pub returns-clause-later : goal.returns-clause-later
 returns-clause-later g c = disk_then _ _ _ (disk_then _ _ _ (disk_then _ _ _ (disk_later _ _ _ c.write_at.result (g.met.S.Shop.bounded c.args.shop.now) c.write_at.ensures.call) (disk_later _ _ _ c.sync.result (g.met.S.Shop.bounded c.write_at.new.self) c.sync.ensures.call)) (disk_later _ _ _ c.write_at-2.result (g.met.S.Shop.bounded c.sync.new.self) c.write_at-2.ensures.call)) (disk_later _ _ _ c.sync-2.result (g.met.S.Shop.bounded c.write_at-2.new.self) c.sync-2.ensures.call)
+
+pub returns-clause-calls : goal.returns-clause-calls
+returns-clause-calls g c =
+    let history = g.S.Shop.history in
+    let h0 = history c.args.shop.now in
+    let h1 = history c.write_at.new.self in
+    let h2 = history c.sync.new.self in
+    let h3 = history c.write_at-2.new.self in
+    let h4 = history c.sync-2.new.self in
+    let first = made_ok h0 h1 c.write_at.result _ (c.in_ok-write_at.was) (g.met.S.Shop.bounded c.args.shop.now) c.write_at.ensures.call in
+    let second = made_ok h1 h2 c.sync.result _ (c.in_ok-sync.was) (g.met.S.Shop.bounded c.write_at.new.self) c.sync.ensures.call in
+    let third = made_ok h2 h3 c.write_at-2.result _ (c.in_ok-write_at-2.was) (g.met.S.Shop.bounded c.sync.new.self) c.write_at-2.ensures.call in
+    let fourth = made_ok h3 h4 c.sync-2.result _ (c.in_ok-sync-2.was) (g.met.S.Shop.bounded c.write_at-2.new.self) c.sync-2.ensures.call in
+    made_then h0 h3 h4 _ _ (made_then h0 h2 h3 _ _ (made_then h0 h1 h2 _ _ first second c.sync.ensures.call.passes.calls_past) third c.write_at-2.ensures.call.passes.calls_past) fourth c.sync-2.ensures.call.passes.calls_past

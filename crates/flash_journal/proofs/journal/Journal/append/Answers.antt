@@ -1,5 +1,6 @@
-use Rattle.std.proofs.Common.{◌≡◌, ◌*◌, ◌<◌, ◌+◌, ◌∙◌, true, false, Bool, List, ℕ, length, get_or, set, arith, sym, ap, subst, refl, length-set}
+use Rattle.std.proofs.Common.{◌≡◌, ◌*◌, ◌<◌, ◌+◌, ◌∙◌, true, false, Bool, List, [], ◌∷◌, ℕ, length, get_or, set, arith, sym, ap, subst, refl, length-set}
 use Rattle.shop_model.specs.History.{disk_now}
+use Rattle.journal_steps.specs.Later.{MadeCalls, append_calls}
 use Rattle.journal_steps.specs.Tables.{count_true, place_of}
 use Rattle.flash_journal.specs.Kept.{journal_label, has_entry}
 use Rattle.journal_steps.proofs.Tables.{count_lacks, count_set, place_below}
@@ -54,3 +55,15 @@ returns-in-Err-clause-any_moment g c = λ told.
     adds_one (journal_label j) (has_entry j) c.lowest_closed-slot.result c.args.entry _ _ (c.append_run.ensures.any_moment told (journal_label j) (has_entry j) (only c.args.entry) 1
     (can_append j _ c.args.entry _ _ (c.requires.kept told) c.requires.entry lt closed c.spelling.ensures))
 
+pub returns-in-Ok-clause-calls : goal.returns-in-Ok-clause-calls
+returns-in-Ok-clause-calls g c =
+    let j = c.args.self.now in
+    let history = g.S.Shop.history in
+    let within : c.lowest_closed-slot.result < length j.gates.items = subst (λ (xs : List Bool). c.lowest_closed-slot.result < length xs) c.deref.ensures.value c.lowest_closed-slot.ensures.below in
+    record {
+      slot = c.lowest_closed-slot.result;
+      within = omega (arith, within, j.slots);
+      closed = subst (λ (xs : List Bool). get_or xs c.lowest_closed-slot.result false ≡ false) c.deref.ensures.value c.lowest_closed-slot.ensures.closed;
+      lowest = λ k lt. subst (λ (xs : List Bool). get_or xs k false ≡ true) c.deref.ensures.value (c.lowest_closed-slot.ensures.lowest k lt);
+      calls = subst (λ (body : List ℕ). MadeCalls (history c.args.shop.now) (history c.append_run.new.shop) (append_calls (2 * j.units) c.lowest_closed-slot.result body (165 ∷ []))) c.spelling.ensures c.in-Ok.ensures.calls;
+    }
