@@ -1,0 +1,4 @@
+pub mod Judging
+pub mod Left
+pub mod Onward
+pub mod Session
