@@ -1,5 +1,5 @@
 //! Requests, each at its least and its greatest.
-ghost use Rattle.std.specs.Prelude.{◌≡◌, ◌≤◌, ◌<◌};
+ghost use Rattle.std.specs.Prelude.{◌≤◌, ◌<◌};
 ghost use Rattle.flash_base.specs.Numbers.{pow256};
 ghost use Rattle.uds_codec.specs.Form.{HasForm};
 
