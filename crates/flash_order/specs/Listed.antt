@@ -1,5 +1,5 @@
 -- The members that an object may have.
-use Rattle.std.specs.Prelude.{ℕ, suc, ◌||◌, ◌==◌, Bool, false, List, [], ◌∷◌, codes, bytes_eq, Option, Some, None, if◌then◌else◌}
+use Rattle.std.specs.Prelude.{ℕ, suc, ◌||◌, ◌==◌, Bool, false, List, codes, bytes_eq, Option, Some, None, if◌then◌else◌}
 use Rattle.serde_json.specs.Data.{Data, Members, no_members, member}
 use Rattle.serde_json.specs.Find.{as_object}
 

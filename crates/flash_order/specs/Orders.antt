@@ -1,8 +1,8 @@
 -- The order that the bytes of a file are, or the first refusal.
-use Rattle.std.specs.Prelude.{ℕ, suc, ◌&&◌, nat_le, Bool, true, false, List, [], ◌∷◌, codes, Option, Some, None, option_map, is_some, Result, Ok, Err, if◌then◌else◌}
+use Rattle.std.specs.Prelude.{ℕ, suc, ◌&&◌, nat_le, Bool, true, List, [], ◌∷◌, codes, Option, Some, None, option_map, is_some, Result, Ok, Err, if◌then◌else◌}
 use Rattle.std.specs.Str.{is_utf8}
 use Rattle.serde_json.specs.Data.{Data, Items, no_items, item}
-use Rattle.serde_json.specs.Find.{get, as_array, as_object}
+use Rattle.serde_json.specs.Find.{as_array, as_object}
 use Rattle.serde_json.specs.Read.{read}
 use Rattle.flash_base.specs.declared.unit.KeyRule.TheVariants.{Free}
 use Rattle.flash_order.specs.declared.fault.FieldFault.{FieldFault}
@@ -12,7 +12,7 @@ use Rattle.flash_order.specs.declared.fault.OrderFault.TheVariants as order
 use Rattle.flash_order.specs.declared.order.Order.{Order}
 use Rattle.flash_order.specs.declared.order.Task.{Task}
 use Rattle.flash_order.specs.declared.reading.Head.{Head}
-use Rattle.flash_order.specs.Fields.{◌>>=◌, ◌>=>◌, given, needed, chosen, address, check, relinks, file, task_name, width}
+use Rattle.flash_order.specs.Fields.{◌>>=◌, ◌>=>◌, needed, chosen, address, check, relinks, file, task_name, width}
 use Rattle.flash_order.specs.Keys.{key_rule}
 use Rattle.flash_order.specs.Lists.{names}
 use Rattle.flash_order.specs.Listed.{is_order_member, is_task_member, stranger_in}

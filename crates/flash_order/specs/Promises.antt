@@ -1,5 +1,5 @@
 -- What every order that was read keeps.
-use Rattle.std.specs.Prelude.{◌≡◌, ℕ, ◌<◌, ◌≤◌, MatchOption, List, length, IsTrue, Option}
+use Rattle.std.specs.Prelude.{◌≡◌, ℕ, ◌<◌, ◌≤◌, MatchOption, length, IsTrue}
 use Rattle.flash_base.specs.Lists.{Each}
 use Rattle.flash_order.specs.declared.order.Order.{Order}
 use Rattle.flash_order.specs.declared.order.Source.{Source}

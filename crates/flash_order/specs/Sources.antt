@@ -1,5 +1,5 @@
 -- Where the bytes of a task come from: exactly one of a file and a session.
-use Rattle.std.specs.Prelude.{ℕ, List, [], codes, Option, Some, None, option_map, Result, Ok, Err}
+use Rattle.std.specs.Prelude.{ℕ, [], codes, Option, Some, None, option_map, Result, Ok, Err}
 use Rattle.serde_json.specs.Data.{Data}
 use Rattle.serde_json.specs.Find.{get}
 use Rattle.flash_order.specs.declared.fault.FieldFault.{FieldFault}

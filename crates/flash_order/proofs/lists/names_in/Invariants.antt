@@ -1,9 +1,7 @@
-use Rattle.std.proofs.Common.{◌≡◌, ◌≤◌, drop, length}
+use Rattle.std.proofs.Common.{◌≡◌, drop}
 use Rattle.serde_json.specs.View.{items_view}
-use Rattle.flash_base.specs.Lists.{Each}
 use Rattle.flash_order.specs.Fields.{task_name}
 use Rattle.flash_order.specs.Lists.{each_of}
-use Rattle.flash_order.specs.Promises.{IsAsked}
 use Rattle.flash_order.proofs.Steps.{joined}
 use Rattle.flash_order.proofs.lists.names_in.Given as goal
 

@@ -2,7 +2,6 @@ use Rattle.std.proofs.Common.{◌≡◌, ◌≤◌, drop, length}
 use Rattle.serde_json.specs.View.{items_view}
 use Rattle.flash_base.specs.Lists.{Each}
 use Rattle.flash_order.specs.Lists.{each_of, value}
-use Rattle.flash_order.specs.Promises.{IsAsked}
 use Rattle.flash_order.proofs.Steps.{joined}
 use Rattle.flash_order.proofs.lists.values_in.Given as goal
 

@@ -1,4 +1,4 @@
-use Rattle.std.proofs.Common.{◌≡◌, ◌≤◌, drop, length}
+use Rattle.std.proofs.Common.{◌≡◌, drop, length}
 use Rattle.serde_json.specs.View.{items_view}
 use Rattle.flash_base.specs.Lists.{Each}
 use Rattle.flash_order.specs.Orders.{tasks_from}
