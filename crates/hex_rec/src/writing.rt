@@ -1,4 +1,7 @@
-ghost use Rattle.std.specs.Prelude.{◌≡◌, ◌+◌, ◌/◌, ◌%◌, ◌^◌, ◌≤◌, ◌<◌, ◌++◌, ◌∷◌, [], length, nat_eq, if◌then◌else◌, OnOk, IfOk};
+ghost use Rattle.std.specs.Prelude.{◌≡◌, ℕ, List, Some, Ok, ◌+◌, ◌/◌, ◌%◌, ◌^◌, ◌≤◌, ◌<◌, ◌++◌, ◌∷◌, [], length, nat_eq, if◌then◌else◌, OnOk, IfOk};
+ghost use Rattle.std.specs.FinMap as map;
+ghost use Rattle.span_store.specs.ByteMap.{ByteMap};
+ghost use Rattle.hex_rec.specs.Reading.{reading_of};
 ghost use Rattle.hex_rec.specs.Writing.{line_of, checksum, IsWritten};
 
 use flash_base::{Bytes, NoMemory};
@@ -78,3 +81,8 @@ pub fn write(alloc: Global, spans: &Spans) -> Result<Bytes, NoMemory>
     push_line(&mut text, &[0, 0, 0, 1], &[])?;
     Ok(text)
 }
+
+/// Reading what was written gives the same bytes.
+pub fn round_law()
+    ensures { (m : ByteMap) (text : List ℕ) → ((a b : ℕ) → map.get m a ≡ Some b → b < 256) → IsWritten m text → reading_of text ≡ Ok m }
+{}

@@ -3,3 +3,4 @@ pub mod Ends
 pub mod Spelled
 pub mod Cuts
 pub mod Digits
+pub mod Spells

@@ -3,10 +3,11 @@
 //!
 //! `time` prints the microseconds of an image, of one twice as large, and of the same records from
 //! the last to the first. `make` writes the text of 16 MiB to `image.hex`. Any other word is the path
-//! of a text that is read, and its microseconds are printed.
+//! of a text of either format, whose bytes go to `out.bin` and whose texts to `out.hex` and `out.srec`.
 #![tactic(auto)]
 
 use flash_base::{Bytes, NoMemory};
+use rec_text::RecFault;
 use span_store::Spans;
 use std::alloc::Global;
 use std::time::{Clock, Instant};
@@ -92,6 +93,55 @@ fn first_size(spans: &Spans) -> u64 {
     }
 }
 
+/// Reads a text of either format.
+fn read_either(alloc: Global, text: &[u8]) -> Result<Spans, RecFault> {
+    match text.first() {
+        Some(b'S') => srec_rec::read(alloc, text),
+        _ => hex_rec::read(alloc, text),
+    }
+}
+
+/// The bytes in ascending order, without the gaps.
+fn packed(alloc: Global, spans: &Spans) -> Result<Bytes, NoMemory> {
+    let mut out = Bytes::new(alloc);
+    let mut here = 0;
+    for _ in 0..u64::MAX {
+        let Some((at, bytes)) = spans.piece(here) else {
+            return Ok(out);
+        };
+        out.extend(bytes)?;
+        here = at + bytes.len() as u64;
+    }
+    Ok(out)
+}
+
+/// Reads the text of a file, prints the microseconds, and writes its bytes to `out.bin` and its texts
+/// in both formats to `out.hex` and `out.srec`.
+fn read_file(rt: &HostRuntime, path: &str) -> io::Result<()> {
+    let alloc = rt.alloc();
+    let text = fs::read(rt, path)?;
+    let start = Instant::now(rt)?;
+    let read = read_either(alloc, text.as_slice());
+    let took = start.elapsed(rt)?.as_micros();
+    let spans = match read {
+        Ok(spans) => spans,
+        Err(e) => {
+            println!(rt; "{e:?}")?;
+            return Ok(());
+        }
+    };
+    if let Ok(bytes) = packed(alloc, &spans) {
+        fs::write(rt, "out.bin", bytes.as_slice())?;
+    }
+    if let Ok(hex) = hex_rec::write(alloc, &spans) {
+        fs::write(rt, "out.hex", hex.as_slice())?;
+    }
+    if let Ok(srec) = srec_rec::write(alloc, &spans) {
+        fs::write(rt, "out.srec", srec.as_slice())?;
+    }
+    println!(rt; "{took} us")
+}
+
 /// Reads a text, and answers the microseconds.
 fn timed(clock: &impl Clock, alloc: Global, text: &[u8]) -> io::Result<u64> {
     let start = Instant::now(clock)?;
@@ -133,9 +183,7 @@ fn main(rt: HostRuntime) -> io::Result<()> {
                 fs::write(&rt, "image.hex", text.as_slice())?;
             }
         } else {
-            let bytes = fs::read(&rt, word.as_str())?;
-            let took = timed(&rt, alloc, bytes.as_slice())?;
-            println!(rt; "{took} us")?;
+            read_file(&rt, word.as_str())?;
         }
     }
     if asked {
