@@ -1,15 +1,12 @@
 -- What was written is read to the same bytes.
 use Rattle.std.proofs.Common.{zero, suc, ◌≡◌, ℕ, ◌+◌, ◌-◌, ◌*◌, ◌/◌, ◌%◌, ◌^◌, ◌<◌, ◌≤◌, ◌⊎◌, List, [], ◌∷◌, ◌++◌, length, take, drop, get_or, sum, true, false, cond, eqb, Option, Some, None, Result, Ok, Err, refl, sym, ap, ◌∙◌, subst, inl, inr, arith, append-nil, append_assoc, length-append}
-use Rattle.std.proofs.lemmas.Bool.{cases_lt, cases_Bool, eqb-true, eq-eqb, le-leb, false≢true}
-use Rattle.std.proofs.lemmas.Option.{slice_get-get_or}
-use Rattle.std.specs.List.{slice_get}
-use Rattle.std.specs.FinMap.{get, empty}
-use Rattle.span_store.specs.ByteMap.{ByteMap, over, clash, top, Holds}
+use Rattle.std.proofs.lemmas.Bool.{cases_Bool, eqb-true, eq-eqb, le-leb}
+use Rattle.std.specs.FinMap.{get}
+use Rattle.span_store.specs.ByteMap.{ByteMap, over, clash}
 use Rattle.span_store.specs.Extents.{Extent, map_of, end_of, EndBy, AreExtents}
 use Rattle.span_store.proofs.Order.{back, front_ends}
-use Rattle.span_store.proofs.Lookups.{placed, held}
+use Rattle.span_store.proofs.Lookups.{placed}
 use Rattle.span_store.proofs.Settled.{behind_free}
-use Rattle.rec_text.proofs.Adds.{some_below}
 use Rattle.rec_text.specs.Spelling.{digits_of}
 use Rattle.rec_text.specs.Lines.{lines}
 use Rattle.rec_text.specs.Putting.{◌>>=◌, putting, put_unless, put_round}
@@ -17,7 +14,9 @@ use Rattle.rec_text.specs.Cutting.{IsCut, AreCut}
 use Rattle.rec_text.specs.declared.fault.RecFault.{RecFault}
 use Rattle.rec_text.specs.declared.fault.RecFault.TheVariants.{AfterEnd}
 use Rattle.rec_text.proofs.Digits.{digits_of-append}
-use Rattle.rec_text.proofs.Spells.{Small, Plain, digits_back, digits_plain, line_first}
+use Rattle.rec_text.proofs.OneWay.{one_way}
+use Rattle.rec_text.proofs.Smalls.{Small, AllSmall, Small-push, sum-push, take_front, small_all}
+use Rattle.rec_text.proofs.Spells.{digits_back, digits_plain, line_first}
 use Rattle.hex_rec.specs.Record.{is_record, checked, record_of}
 use Rattle.hex_rec.specs.Reading.{put_line, with_map, applied, step, read_from, reading_of}
 use Rattle.hex_rec.specs.Writing.{checksum, line_of, base_line, lines_at, lines_of, room, IsWritten}
@@ -41,14 +40,6 @@ line_split bytes rest =
 
 line_lines : (bytes rest : List ℕ) → lines (line_of bytes ++ rest) ≡ body bytes ∷ lines rest
 line_lines bytes rest = ap lines (line_split bytes rest) ∙ line_first (body bytes) rest (omega arith, digits_plain (bytes ++ (checksum bytes ∷ [])))
-
-Small-push : (xs : List ℕ) (b : ℕ) → Small xs → b < 256 → Small (xs ++ (b ∷ []))
-Small-push [] b s l = (l, tt)
-Small-push (x ∷ xs) b s l = (s.0, Small-push xs b s.1 l)
-
-sum-push : (xs : List ℕ) (b : ℕ) → sum (xs ++ (b ∷ [])) ≡ sum xs + b
-sum-push [] b = omega arith
-sum-push (x ∷ xs) b = let e = sum-push xs b in omega arith
 
 body_record : (n : ℕ) (bytes : List ℕ) → Small bytes → is_record (bytes ++ (checksum bytes ∷ [])) ≡ true → record_of n (body bytes) ≡ Ok (bytes ++ (checksum bytes ∷ []))
 body_record n bytes s form =
@@ -79,10 +70,6 @@ base_read u v n m rest l =
 abbrev bytes_of_line : Extent → List ℕ
 bytes_of_line e = length e.1 ∷ e.0 % 65536 / 256 ∷ e.0 % 256 ∷ 0 ∷ e.1
 
-take_front : (xs ys : List ℕ) → take (length xs) (xs ++ ys) ≡ xs
-take_front [] ys = refl
-take_front (x ∷ xs) ys = ap (λ t. x ∷ t) (take_front xs ys)
-
 data_put : (m : ByteMap) (at : ℕ) (bs : List ℕ) → at + length bs ≤ 2 ^ 32 → 0 < length bs → clash m at bs ≡ None → put_line m (Linear (at / 65536 * 65536)) (at % 65536 / 256 * 256 + at % 256) bs ≡ Ok (over m at bs)
 data_put m at bs fits some free =
     let offset : at % 65536 / 256 * 256 + at % 256 ≡ at % 65536 = omega arith in
@@ -101,10 +88,6 @@ data_read n m e rest small short some fits free =
     one_line (at_upper (e.0 / 65536) m) (at_upper (e.0 / 65536) (over m e.0 e.1)) n (bytes_of_line e) rest refl (omega arith, omega arith, omega arith, omega arith, small) form
     (ap (λ t. with_map (at_upper (e.0 / 65536) m) (put_line m (Linear (e.0 / 65536 * 65536)) (e.0 % 65536 / 256 * 256 + e.0 % 256) t)) (take_front e.1 (c ∷ []))
     ∙ ap (with_map (at_upper (e.0 / 65536) m)) (data_put m e.0 e.1 fits some free))
-
-abbrev AllSmall : List Extent → Type 0
-AllSmall [] = Unit {0}
-AllSmall (e ∷ es) = Small e.1 × AllSmall es
 
 -- reading the lines of some bytes comes to what stands behind them, with the bytes
 follow : (done es : List Extent) (u n : ℕ) (whole : ByteMap) (rest : List ℕ) → AreExtents (done ++ es) → AreCut room whole es → AllSmall es
@@ -149,23 +132,10 @@ follow done (e ∷ es) u n whole rest s cut small =
           )
     ]
 
-small_list : (bs : List ℕ) → ((k b : ℕ) → slice_get bs k ≡ Some b → b < 256) → Small bs
-small_list [] h = tt
-small_list (x ∷ bs) h = (h 0 x refl, small_list bs (λ k b e. h (suc k) b e))
-
-small_all : (done es : List Extent) → AreExtents (done ++ es) → ((a b : ℕ) → get (map_of (done ++ es)) a ≡ Some b → b < 256) → AllSmall es
-small_all done [] s h = tt
-small_all done (e ∷ es) s h =
-    let more : (done ++ (e ∷ [])) ++ es ≡ done ++ (e ∷ es) = append_assoc done (e ∷ []) es in (
-      small_list e.1 (λ k b is. h (e.0 + k) b (held done e es s k (some_below e.1 k b is) ∙ is)),
-      small_all (done ++ (e ∷ [])) es (subst AreExtents (sym more) s) (subst (λ t. (a b : ℕ) → get (map_of t) a ≡ Some b → b < 256) (sym more) h),
-    )
-
 -- reading what was written gives the same map
-pub round : (m : ByteMap) (text : List ℕ) → ((a b : ℕ) → get m a ≡ Some b → b < 256) → IsWritten m text → reading_of text ≡ Ok m
-round m text small w =
+pub round_small : (m : ByteMap) (text : List ℕ) (w : IsWritten m text) → AllSmall w.lines → reading_of text ≡ Ok m
+round_small m text w all =
     let cuts = w.cuts in
-    let all : AllSmall w.lines = small_all [] w.lines cuts.ascending (subst (λ t. (a b : ℕ) → get t a ≡ Some b → b < 256) cuts.all small) in
     let last : List ℕ = line_of (0 ∷ 0 ∷ 0 ∷ 1 ∷ []) in
     let go = follow [] w.lines 0 0 m last cuts.ascending cuts.cut all in
     let ended : State = record { base = Linear (go.0 * 65536); ended = true; spans = map_of w.lines } in
@@ -174,3 +144,10 @@ round m text small w =
     ∙ ap (λ t. read_from (at_upper go.0 (map_of w.lines)) go.1 (lines t)) (sym (append-nil last))
     ∙ one_line (at_upper go.0 (map_of w.lines)) ended go.1 (0 ∷ 0 ∷ 0 ∷ 1 ∷ []) [] refl (omega arith, omega arith, omega arith, omega arith, tt) refl refl
     ∙ ap Ok (sym cuts.all)
+
+pub round : (m : ByteMap) (text : List ℕ) → ((a b : ℕ) → get m a ≡ Some b → b < 256) → IsWritten m text → reading_of text ≡ Ok m
+round m text small w = round_small m text w (small_all [] w.lines w.cuts.ascending (subst (λ t. (a b : ℕ) → get t a ≡ Some b → b < 256) w.cuts.all small))
+
+-- a map has one text
+pub one_text : (m : ByteMap) (s t : List ℕ) → IsWritten m s → IsWritten m t → s ≡ t
+one_text m s t w v = w.spelled ∙ ap (λ l. lines_of 0 l ++ line_of (0 ∷ 0 ∷ 0 ∷ 1 ∷ [])) (one_way room m w.lines v.lines w.cuts v.cuts) ∙ sym v.spelled

@@ -4,11 +4,7 @@ use Rattle.std.proofs.lemmas.Bool.{cases_lt, le-leb, lt-leb, lt-ltb, le-ltb, ne_
 use Rattle.rec_text.specs.Digits.{digit_of, byte_of, with_byte, bytes_of}
 use Rattle.rec_text.specs.Lines.{lines, lines_from, without_return}
 use Rattle.rec_text.specs.Spelling.{digit_char, digits_of}
-
--- each is a byte
-abbrev pub Small : List ℕ → Type 0
-Small [] = Unit {0}
-Small (b ∷ bs) = (b < 256) × Small bs
+use Rattle.rec_text.proofs.Smalls.{Small}
 
 char_low : (d : ℕ) → d < 10 → digit_char d ≡ 48 + d
 char_low d l = rw (lt-ltb d 10 l) refl
