@@ -64,7 +64,7 @@ one_line s t n bytes rest f small form does =
 base_read : (u v n : ℕ) (m : ByteMap) (rest : List ℕ) → v < 65536 → read_from (at_upper u m) n (lines (base_line v ++ rest)) ≡ read_from (at_upper v m) (n + 1) (lines rest)
 base_read u v n m rest l =
     let value : v / 256 * 256 + v % 256 ≡ v = omega arith in
-    one_line (at_upper u m) (at_upper v m) n (2 ∷ 0 ∷ 0 ∷ 4 ∷ v / 256 ∷ v % 256 ∷ []) rest refl (omega arith, omega arith, omega arith, omega arith, omega arith, omega arith, tt) refl
+    one_line (at_upper u m) (at_upper v m) n (2 ∷ 0 ∷ 0 ∷ 4 ∷ v / 256 ∷ v % 256 ∷ []) rest refl (omega arith, (omega arith, (omega arith, (omega arith, (omega arith, (omega arith, tt)))))) refl
     (ap (λ x. Ok (at_upper x m)) value)
 
 abbrev bytes_of_line : Extent → List ℕ
@@ -85,7 +85,7 @@ data_read n m e rest small short some fits free =
     let c : ℕ = checksum (bytes_of_line e) in
     let size : length (e.1 ++ (c ∷ [])) ≡ length e.1 + 1 = length-append e.1 (c ∷ []) in
     let form : is_record (bytes_of_line e ++ (c ∷ [])) ≡ true = rw (eq-eqb (length (bytes_of_line e ++ (c ∷ []))) (length e.1 + 5) (omega arith)) refl in
-    one_line (at_upper (e.0 / 65536) m) (at_upper (e.0 / 65536) (over m e.0 e.1)) n (bytes_of_line e) rest refl (omega arith, omega arith, omega arith, omega arith, small) form
+    one_line (at_upper (e.0 / 65536) m) (at_upper (e.0 / 65536) (over m e.0 e.1)) n (bytes_of_line e) rest refl (omega arith, (omega arith, (omega arith, (omega arith, small)))) form
     (ap (λ t. with_map (at_upper (e.0 / 65536) m) (put_line m (Linear (e.0 / 65536 * 65536)) (e.0 % 65536 / 256 * 256 + e.0 % 256) t)) (take_front e.1 (c ∷ []))
     ∙ ap (with_map (at_upper (e.0 / 65536) m)) (data_put m e.0 e.1 fits some free))
 
@@ -142,7 +142,7 @@ round_small m text w all =
     ap reading_of w.spelled
     ∙ go.2
     ∙ ap (λ t. read_from (at_upper go.0 (map_of w.lines)) go.1 (lines t)) (sym (append-nil last))
-    ∙ one_line (at_upper go.0 (map_of w.lines)) ended go.1 (0 ∷ 0 ∷ 0 ∷ 1 ∷ []) [] refl (omega arith, omega arith, omega arith, omega arith, tt) refl refl
+    ∙ one_line (at_upper go.0 (map_of w.lines)) ended go.1 (0 ∷ 0 ∷ 0 ∷ 1 ∷ []) [] refl (omega arith, (omega arith, (omega arith, (omega arith, tt)))) refl refl
     ∙ ap Ok (sym cuts.all)
 
 pub round : (m : ByteMap) (text : List ℕ) → ((a b : ℕ) → get m a ≡ Some b → b < 256) → IsWritten m text → reading_of text ≡ Ok m

@@ -1,4 +1,4 @@
-ghost use Rattle.std.specs.Prelude.{◌≡◌, ℕ, List, Some, Ok, ◌+◌, ◌/◌, ◌%◌, ◌^◌, ◌≤◌, ◌<◌, ◌++◌, ◌∷◌, [], length, nat_eq, if◌then◌else◌, OnOk, IfOk};
+ghost use Rattle.std.specs.Prelude.{◌≡◌, ℕ, List, Some, Ok, ◌+◌, ◌/◌, ◌%◌, ◌^◌, ◌≤◌, ◌<◌, ◌++◌, ◌∷◌, [], length, nat_eq, if◌then◌else◌, All, OnOk, IfOk};
 ghost use Rattle.std.specs.FinMap as map;
 ghost use Rattle.span_store.specs.ByteMap.{ByteMap};
 ghost use Rattle.hex_rec.specs.HexText.{IsHexText};
@@ -50,7 +50,8 @@ fn push_base(text: &mut Bytes, at: u64, upper: u64) -> Result<(), NoMemory>
 /// Puts a data line at the end of a text.
 fn push_data(text: &mut Bytes, at: u64, bytes: &[u8]) -> Result<(), NoMemory>
     requires { length bytes.now ≤ 16 }
-    ensures { OnOk result (text.new ≡ text.old ++ line_of (length bytes.now ∷ at % 65536 / 256 ∷ at % 256 ∷ 0 ∷ bytes.now)) }
+    ensures pushed { OnOk result (text.new ≡ text.old ++ line_of (length bytes.now ∷ at % 65536 / 256 ∷ at % 256 ∷ 0 ∷ bytes.now)) }
+    ensures small { All (λ b. b < 2 ^ 8) bytes.now }
 {
     let head = [
         bytes.len() as u8,

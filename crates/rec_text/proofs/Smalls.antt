@@ -1,7 +1,7 @@
 -- Lists of bytes, and one more at their end.
-use Rattle.std.proofs.Common.{zero, suc, ◌≡◌, ℕ, ◌+◌, ◌<◌, List, [], ◌∷◌, ◌++◌, length, take, get_or, sum, Some, refl, sym, ap, ◌∙◌, subst, arith, append_assoc}
+use Rattle.std.proofs.Common.{zero, suc, ◌≡◌, ℕ, ◌+◌, ◌^◌, ◌<◌, List, [], ◌∷◌, ◌++◌, length, take, sum, Some, refl, sym, ap, ◌∙◌, subst, arith, append_assoc}
 use Rattle.std.proofs.lemmas.List.Sums.{sum_by-append}
-use Rattle.std.specs.List.{slice_get}
+use Rattle.std.specs.List.{slice_get, All}
 use Rattle.std.specs.FinMap.{get}
 use Rattle.span_store.specs.ByteMap.{ByteMap}
 use Rattle.span_store.specs.Extents.{Extent, map_of, AreExtents}
@@ -48,7 +48,6 @@ small_all done (e ∷ es) s h =
       small_all (done ++ (e ∷ [])) es (subst AreExtents (sym more) s) (subst (λ t. (a b : ℕ) → get (map_of t) a ≡ Some b → b < 256) (sym more) h),
     )
 
-pub small_taken : (xs : List ℕ) (n : ℕ) → ((i : ℕ) → get_or xs i 0 < 256) → Small (take n xs)
-small_taken xs zero h = tt
-small_taken [] (suc n) h = tt
-small_taken (x ∷ xs) (suc n) h = (h 0, small_taken xs n (λ i. h (suc i)))
+pub small_of : (xs : List ℕ) → All (λ b. b < 2 ^ 8) xs → Small xs
+small_of [] h = tt
+small_of (x ∷ xs) h = (h 0 0 (omega arith), small_of xs (λ k d l. h (suc k) d (omega arith)))

@@ -104,7 +104,7 @@ data_applied c m e free =
 data_read : (n c : ℕ) (m : ByteMap) (e : Extent) (rest : List ℕ) → Small e.1 → length e.1 ≤ 16 → end_of e ≤ 2 ^ 32 → 0 < length e.1 → clash m e.0 e.1 ≡ None
     → read_from (at_count c m) n (lines (data_line e ++ rest)) ≡ read_from (at_count (c + 1) (over m e.0 e.1)) (n + 1) (lines rest)
 data_read n c m e rest small short fits some free =
-    one_line (at_count c m) (at_count (c + 1) (over m e.0 e.1)) n 3 (bytes_of_line e) rest refl (omega arith, omega arith, omega arith, omega arith, omega arith, small) (data_form e fits) (data_applied c m e free)
+    one_line (at_count c m) (at_count (c + 1) (over m e.0 e.1)) n 3 (bytes_of_line e) rest refl (omega arith, (omega arith, (omega arith, (omega arith, (omega arith, small))))) (data_form e fits) (data_applied c m e free)
 
 -- reading the lines of some bytes comes to what stands behind them, with the bytes
 follow : (done es : List Extent) (c n : ℕ) (m : ByteMap) (rest : List ℕ) → AreExtents (done ++ es) → AreCut room m es → AllSmall es
@@ -135,10 +135,10 @@ round_small m text w all =
     let go = follow [] w.lines 0 1 m last cuts.ascending cuts.cut all in
     let ended : State = record { count = go.0; ended = true; spans = map_of w.lines } in
     ap reading_of w.spelled
-    ∙ one_line begun begun 0 0 (3 ∷ 0 ∷ 0 ∷ []) (lines_of w.lines ++ last) refl (omega arith, omega arith, omega arith, tt) refl refl
+    ∙ one_line begun begun 0 0 (3 ∷ 0 ∷ 0 ∷ []) (lines_of w.lines ++ last) refl (omega arith, (omega arith, (omega arith, tt))) refl refl
     ∙ go.2
     ∙ ap (λ t. read_from (at_count go.0 (map_of w.lines)) go.1 (lines t)) (sym (append-nil last))
-    ∙ one_line (at_count go.0 (map_of w.lines)) ended go.1 7 (5 ∷ 0 ∷ 0 ∷ 0 ∷ 0 ∷ []) [] refl (omega arith, omega arith, omega arith, omega arith, omega arith, tt) refl refl
+    ∙ one_line (at_count go.0 (map_of w.lines)) ended go.1 7 (5 ∷ 0 ∷ 0 ∷ 0 ∷ 0 ∷ []) [] refl (omega arith, (omega arith, (omega arith, (omega arith, (omega arith, tt))))) refl refl
     ∙ ap Ok (sym cuts.all)
 
 pub round : (m : ByteMap) (text : List ℕ) → ((a b : ℕ) → get m a ≡ Some b → b < 256) → IsWritten m text → reading_of text ≡ Ok m

@@ -1,4 +1,4 @@
-ghost use Rattle.std.specs.Prelude.{◌≡◌, ℕ, List, Some, Ok, ◌+◌, ◌-◌, ◌/◌, ◌%◌, ◌^◌, ◌≤◌, ◌<◌, ◌++◌, ◌∷◌, [], length, OnOk, IfOk};
+ghost use Rattle.std.specs.Prelude.{◌≡◌, ℕ, List, Some, Ok, ◌+◌, ◌-◌, ◌/◌, ◌%◌, ◌^◌, ◌≤◌, ◌<◌, ◌++◌, ◌∷◌, [], length, All, OnOk, IfOk};
 ghost use Rattle.std.specs.FinMap as map;
 ghost use Rattle.span_store.specs.ByteMap.{ByteMap};
 ghost use Rattle.srec_rec.specs.SrecText.{IsSrecText};
@@ -37,7 +37,8 @@ fn push_line(text: &mut Bytes, kind: u8, head: &[u8], rest: &[u8]) -> Result<(),
 fn push_data(text: &mut Bytes, at: u64, bytes: &[u8]) -> Result<(), NoMemory>
     requires size { length bytes.now ≤ 16 }
     requires below { at < 2 ^ 32 }
-    ensures { OnOk result (text.new ≡ text.old ++ line_of 3 ((length bytes.now + 5) ∷ at / 16777216 ∷ at / 65536 % 256 ∷ at / 256 % 256 ∷ at % 256 ∷ bytes.now)) }
+    ensures pushed { OnOk result (text.new ≡ text.old ++ line_of 3 ((length bytes.now + 5) ∷ at / 16777216 ∷ at / 65536 % 256 ∷ at / 256 % 256 ∷ at % 256 ∷ bytes.now)) }
+    ensures small { All (λ b. b < 2 ^ 8) bytes.now }
 {
     let head = [
         (bytes.len() + 5) as u8,

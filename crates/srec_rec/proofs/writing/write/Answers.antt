@@ -2,7 +2,7 @@ use Rattle.std.proofs.Common.{◌≡◌, ◌+◌, ◌<◌, ◌≤◌, ◌++◌, 
 use Rattle.span_store.proofs.Maps.{held_some}
 use Rattle.srec_rec.specs.Writing.{line_of}
 use Rattle.srec_rec.proofs.Lines.{head, begun, advanced, finished}
-use Rattle.rec_text.proofs.Smalls.{small_taken}
+use Rattle.rec_text.proofs.Smalls.{small_of}
 use Rattle.srec_rec.proofs.Round.{round_small}
 use Rattle.srec_rec.proofs.Text.{whole_text}
 use Rattle.srec_rec.proofs.writing.write.Goals as goal
@@ -20,8 +20,8 @@ pub loop-at-preserved : goal.loop-at-preserved
 loop-at-preserved c =
     let p = c.in-Some.ensures in
     let bs : List ℕ = take c.cut_front-n.result c.cut_front-n.new.line in
-    advanced c.args.spans.now c.loop-at.here c.loop-at.text c.push_data.new.text c.in-Some.at c.cut_front-n.result bs c.loop-at.invariant p.0 p.3 c.cut_front-n.ensures.holds c.cut_front-n.ensures.cut (small_taken c.cut_front-n.new.line c.cut_front-n.result c.type_inv.line) c.cut_front-n.ensures.within c.cut_front-n.ensures.size
-    c.in_ok-push_data.ensures
+    advanced c.args.spans.now c.loop-at.here c.loop-at.text c.push_data.new.text c.in-Some.at c.cut_front-n.result bs c.loop-at.invariant p.0 p.3 c.cut_front-n.ensures.holds c.cut_front-n.ensures.cut (small_of (take c.cut_front-n.result c.cut_front-n.new.line) c.in_ok-push_data.ensures.small) c.cut_front-n.ensures.within c.cut_front-n.ensures.size
+    c.in_ok-push_data.ensures.pushed
 
 pub returns : goal.returns
 returns c =
