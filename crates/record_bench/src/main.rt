@@ -7,6 +7,8 @@
 //! `texts PATH` reads one, and writes it anew in both formats to `out.hex` and `out.srec`.
 #![tactic(auto)]
 
+ghost use Rattle.std.specs.Prelude.{◌<◌, ◌≤◌, ◌^◌};
+
 mod files;
 mod making;
 
@@ -52,7 +54,9 @@ fn timed(clock: &impl Clock, alloc: Global, text: &[u8]) -> io::Result<u64> {
 }
 
 /// The microseconds of a text of so many records.
-fn timed_hex(clock: &impl Clock, alloc: Global, records: u32, order: Order) -> io::Result<u64> {
+fn timed_hex(clock: &impl Clock, alloc: Global, records: u32, order: Order) -> io::Result<u64>
+    requires { records < 2 ^ 28 }
+{
     match hex_text(alloc, records, order) {
         Ok(text) => timed(clock, alloc, text.as_slice()),
         Err(_) => Ok(0),
@@ -67,7 +71,8 @@ fn timed_srec(
     size: usize,
     order: Order,
 ) -> io::Result<u64>
-    requires { size ≤ 16 }
+    requires records { records < 2 ^ 28 }
+    requires size { size ≤ 16 }
 {
     match srec_text(alloc, records, size, order) {
         Ok(text) => timed(clock, alloc, text.as_slice()),

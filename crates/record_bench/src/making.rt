@@ -45,11 +45,7 @@ impl Order {
             Order::Scattered => (u64::from(i) * 613_651 % u64::from(records)) as u32,
             Order::Halves => {
                 let half = records / 2;
-                if i < half {
-                    2 * i + 1
-                } else {
-                    2 * (i - half)
-                }
+                if i < half { 2 * i + 1 } else { 2 * (i - half) }
             }
         }
     }
@@ -127,8 +123,7 @@ pub(crate) fn hex_text(alloc: Global, records: u32, order: Order) -> Result<Byte
 
 /// The S3 record with this number, of so many bytes.
 fn push_data(text: &mut Bytes, i: u32, size: usize) -> Result<(), NoMemory>
-    requires number { i < 2 ^ 30 }
-    requires size { size ≤ 16 }
+    requires { size ≤ 16 }
 {
     let at = u64::from(i) * size as u64;
     let head = [
