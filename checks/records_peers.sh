@@ -65,7 +65,7 @@ gaps() {
 shuffled() {
     grep '^S0' "$1"
     grep '^S[123]' "$1" | shuf
-    grep '^S[789]' "$1"
+    grep '^S[56789]' "$1"
 }
 
 # backwards TEXT: the same Intel HEX of less than 64 KiB with the data in descending order
@@ -91,9 +91,9 @@ by_srec_cat() {
         [ "$1" -gt 20000 ] && [ "$length" -lt 7 ] && continue
         for width in 2 3 4; do
             [ "$1" -gt 65536 ] && [ "$width" = 2 ] && continue
-            srec_cat image.bin -binary -o peer.hex -intel -obs="$length" -address-length="$width"
+            srec_cat image.bin -binary -o peer.hex -intel -obs="$length" -address-length="$width" -execution-start-address=0
             one image.bin peer.hex intel "Intel HEX of srec_cat, $1 bytes, length $length, width $width"
-            srec_cat image.bin -binary -o peer.srec -motorola -obs="$length" -address-length="$width"
+            srec_cat image.bin -binary -o peer.srec -motorola -obs="$length" -address-length="$width" -execution-start-address=0
             one image.bin peer.srec motorola "S-records of srec_cat, $1 bytes, length $length, width $width"
             shuffled peer.srec > order.srec
             one image.bin order.srec motorola "S-records in any order, $1 bytes, length $length, width $width"
@@ -110,8 +110,9 @@ with_gaps() {
     for round in 1 2 3 4; do
         from=$((RANDOM % 60000))
         for format in intel motorola; do
-            srec_cat image.bin -binary -offset 0xFFFE0000 -exclude $((0xFFFE0000 + from)) $((0xFFFE0000 + from + 1 + RANDOM)) \
-                -exclude 0xFFFEFFF0 0xFFFF0008 -o gaps.txt -$format -obs=$((1 + RANDOM % 60))
+            rm -f gaps.txt
+            srec_cat image.bin -binary -offset 0x7FFE0000 -exclude $((0x7FFE0000 + from)) $((0x7FFE0000 + from + 1 + RANDOM)) \
+                -exclude 0x7FFEFFF0 0x7FFF0008 -o gaps.txt -$format -obs=$((1 + RANDOM % 60)) -execution-start-address=0
             gaps gaps.txt $format "$format with gaps, round $round"
         done
     done
@@ -140,7 +141,7 @@ flipped() {
     by_us=0
     for i in $(seq "$flips"); do
         for format in intel motorola; do
-            srec_cat image.bin -binary -offset 0x1FF00 -o peer.txt -$format -obs=$((1 + i % 40))
+            srec_cat image.bin -binary -offset 0x1FF00 -o peer.txt -$format -obs=$((1 + i % 40)) -execution-start-address=0
             flip peer.txt > flipped.txt
             "$bench" binary flipped.txt > said
             checked=$((checked + 1))

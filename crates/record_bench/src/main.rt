@@ -48,9 +48,9 @@ fn since(clock: &impl Clock, start: Instant) -> io::Result<u64> {
 /// Reads a text, and answers the microseconds, or 0 where it was refused.
 fn timed(clock: &impl Clock, alloc: Global, text: &[u8]) -> io::Result<u64> {
     let start = Instant::now(clock)?;
-    let size = size_read(alloc, text);
+    let read = files::read(alloc, text);
     let took = since(clock, start)?;
-    Ok(if size == 0 { 0 } else { took })
+    Ok(if read.is_err() { 0 } else { took })
 }
 
 /// The microseconds of a text of so many records.
