@@ -38,8 +38,8 @@ read_back() {
 # same_map TEXT FORMAT NAME: srec_cmp finds the bytes and addresses of the text in both that we wrote
 same_map() {
     [ -n "$has_srec" ] || return 0
-    srec_cmp "$1" "-$2" out.hex -intel || fail "$3, our Intel HEX read by srec_cmp"
-    srec_cmp "$1" "-$2" out.srec -motorola || fail "$3, our S-records read by srec_cmp"
+    srec_cmp "$1" "-$2" out.hex -intel 2> told || fail "$3, our Intel HEX read by srec_cmp"
+    srec_cmp "$1" "-$2" out.srec -motorola 2> told || fail "$3, our S-records read by srec_cmp"
 }
 
 # one IMAGE TEXT FORMAT NAME: an image without gaps
@@ -77,8 +77,12 @@ backwards() {
 
 by_objcopy() {
     [ -n "$has_objcopy" ] || return 0
-    objcopy -I binary -O ihex --change-addresses 0x10000 image.bin peer.hex
+    objcopy -I binary -O ihex --change-section-address .data=0x10000 image.bin peer.hex
     one image.bin peer.hex intel "Intel HEX of objcopy, $1 bytes"
+    tr -d '\r' < peer.hex > feeds.hex
+    one image.bin feeds.hex intel "Intel HEX of objcopy without CR, $1 bytes"
+    tr A-F a-f < peer.hex > lower.hex
+    one image.bin lower.hex intel "Intel HEX of objcopy in lower case, $1 bytes"
     for length in 8 16 33 255; do
         objcopy -I binary -O srec --srec-forceS3 --srec-len="$length" image.bin peer.srec
         one image.bin peer.srec motorola "S-records of objcopy, $1 bytes, length $length"
@@ -147,7 +151,7 @@ flipped() {
             checked=$((checked + 1))
             ours=no
             grep -q '^refused' said && ours=yes && by_us=$((by_us + 1))
-            srec_cat flipped.txt -$format -o back.bin -binary -offset -0x1FF00 > told 2>&1 && continue
+            srec_cat flipped.txt -$format -o back.txt -motorola > told 2>&1 && continue
             refused=$((refused + 1))
             [ "$ours" = yes ] || fail "a flipped digit in $format that srec_cat refuses: $(tail -n 1 told)"
         done
