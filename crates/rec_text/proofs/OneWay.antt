@@ -81,9 +81,9 @@ one_cut room m done (x ∷ xs) (y ∷ ys) b c cx cy =
     let most : length y.1 ≤ length x.1 = sizes_le room m done x y ys c at cx.0 cy.0 in
     let least : length x.1 ≤ length y.1 = sizes_le room m done y x xs b (sym at) cy.0 cx.0 in
     let bytes : x.1 ≡ y.1 =
-        same_bytes x.1 y.1 (omega arith) (λ k l.
-        let n : k < length y.1 = omega arith in
-        slice_get-get_or x.1 k 0 l ∙ sym (reaches m done x xs k b l) ∙ ap (λ a. get m (a + k)) at ∙ reaches m done y ys k c n ∙ sym (slice_get-get_or y.1 k 0 n))
+    same_bytes x.1 y.1 (omega arith) (λ k l.
+    let n : k < length y.1 = omega arith in
+    slice_get-get_or x.1 k 0 l ∙ sym (reaches m done x xs k b l) ∙ ap (λ a. get m (a + k)) at ∙ reaches m done y ys k c n ∙ sym (slice_get-get_or y.1 k 0 n))
     in
     let same : x ≡ y = ap (λ a. (a, x.1)) at ∙ ap (λ bs. (y.0, bs)) bytes in
     ap (λ l. x ∷ l) (one_cut room m (done ++ (x ∷ [])) xs ys (behind m done x xs b) (subst (λ z. Behind m (done ++ (z ∷ [])) ys) (sym same) (behind m done y ys c)) cx.1 cy.1)

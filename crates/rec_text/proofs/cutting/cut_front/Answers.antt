@@ -28,8 +28,8 @@ loop-n-preserved c =
       stored = omega arith;
       within = omega arith;
       held = subst (Holds c.args.spans.now c.args.at) (sym c.copied-n.ensures.copied)
-      (held-append c.args.spans.now c.args.at (take n c.loop-n.line) (take (c.copied-n.result - n) c.in-Some.bytes.now) c.loop-n.invariant.held
-      (subst (λ k. Holds c.args.spans.now (c.args.at + k) (take (c.copied-n.result - n) c.in-Some.bytes.now)) same (held_first c.args.spans.now (c.args.at + n) (c.copied-n.result - n) c.in-Some.bytes.now c.in-Some.ensures.2)));
+          (held-append c.args.spans.now c.args.at (take n c.loop-n.line) (take (c.copied-n.result - n) c.in-Some.bytes.now) c.loop-n.invariant.held
+          (subst (λ k. Holds c.args.spans.now (c.args.at + k) (take (c.copied-n.result - n) c.in-Some.bytes.now)) same (held_first c.args.spans.now (c.args.at + n) (c.copied-n.result - n) c.in-Some.bytes.now c.in-Some.ensures.2)));
     }
 
 pub returns-clause-cut : goal.returns-clause-cut
