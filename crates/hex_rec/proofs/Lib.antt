@@ -4,4 +4,5 @@ pub mod Bases
 pub mod Adds
 pub mod Whole
 pub mod Back
+pub mod Round
 pub mod Cuts

@@ -2,3 +2,4 @@ pub mod Records
 pub mod Lines
 pub mod Whole
 pub mod Text
+pub mod Round
