@@ -86,7 +86,7 @@ pub kid-at : (tag : List ℕ) (e : Element) (i : ℕ) (k : Element) → kid tag 
 kid-at tag e i k h = let found = found_at 0 (has_tag tag) (kids_of e) i k e h in let place : i ≡ 0 + found.0 = found.1 in let same : i ≡ found.0 = omega arith in rw same found.2
 
 -- a kid in a list of kids, whatever stands past the end
-kid_of-same : (e : Element) (ks : List Element) (i : ℕ) (x : Element) → ks ≡ kids_of e → i < length ks → x ≡ get_or ks i x → get_or (kids_of e) i e ≡ x
+pub kid_of-same : (e : Element) (ks : List Element) (i : ℕ) (x : Element) → ks ≡ kids_of e → i < length ks → x ≡ get_or ks i x → get_or (kids_of e) i e ≡ x
 kid_of-same e ks i x k h x_is = ap (λ (l : List Element). get_or l i e) (sym k) ∙ (get_or_default ks i e x h ∙ sym x_is)
 
 -- the places in a kid whose reading went well, and then the rest

@@ -5,4 +5,5 @@ pub mod Index
 pub mod Parts
 pub mod Places
 pub mod Refusals
+pub mod Truths
 pub mod Values

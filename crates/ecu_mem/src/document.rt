@@ -3,6 +3,7 @@ ghost use Rattle.ecu_mem.specs.Parts.{attribute};
 ghost use Rattle.ecu_mem.specs.Places.{carriers, ecu_mems, groups, group_members};
 ghost use Rattle.ecu_mem.specs.Catalogue.{id_of, target_at, blocks_with, flashes_with, target_of, unique, with_entry, over, with_ecu_mem};
 ghost use Rattle.ecu_mem.specs.Index.{IsIndexed, after, entries_in};
+ghost use Rattle.ecu_mem.specs.Truths.{IsRight};
 
 use crate::entries::entry_in;
 use crate::entry::{Entry, Target};
@@ -175,6 +176,7 @@ impl Document {
         requires { IsIndexed self.old }
         ensures value { IfOk result (λ r. after r (entries_in self.new) ≡ over with_ecu_mem element.now (ecu_mems element.now) (entries_in self.old)) }
         ensures indexed { OnOk result (IsIndexed self.new) }
+        ensures told { IfOk result (λ r. IsRight element.now r) }
     {
         if element.tag.is("ECU-MEM") {
             return self.ecu_mem(alloc, element);

@@ -1,7 +1,8 @@
-ghost use Rattle.std.specs.Prelude.{◌≡◌, ◌⊎◌, ◌<◌, Err, IfOk, IfSome, bytes_eq, length};
+ghost use Rattle.std.specs.Prelude.{◌≡◌, ◌⊎◌, ◌<◌, Err, IfOk, IfErr, IfSome, bytes_eq, length};
 ghost use Rattle.std.specs.List.{position_from};
 ghost use Rattle.ecu_mem.specs.Bounds.{IsWhole};
 ghost use Rattle.ecu_mem.specs.Catalogue.{fault_of, catalogue};
+ghost use Rattle.ecu_mem.specs.Truths.{IsTrueOf};
 
 use crate::document::Document;
 use crate::fault::MemFault;
@@ -22,10 +23,16 @@ fn fault_of(refusal: Refusal) -> MemFault
     }
 }
 
-/// The document of all ECU-MEM elements of a tree: the root, or those below it.
+/// The document of all ECU-MEM elements of a tree, after the ECU-MEM layer of ISO 22901-1: the
+/// root itself, or those that stand below it under any tags.
+///
+/// Sessions, datablocks and flash data of all of them make three lists, each in document order,
+/// and refer to one another by position. The first refusal in document order is answered, and
+/// references are followed last. `docs/FORMATS.md` has the elements, choices and numbers.
 pub fn resolve(alloc: Global, root: &Element) -> Result<EcuMem, MemFault>
     ensures value { (result ≡ Err MemFault.NoMemory) ⊎ (result ≡ catalogue root.now) }
     ensures whole { IfOk result IsWhole }
+    ensures told { IfErr result (λ f. IsTrueOf root.now f) }
 {
     let mut document = Document::new(alloc);
     match document.read(alloc, root)? {

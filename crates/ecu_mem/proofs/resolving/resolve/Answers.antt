@@ -7,6 +7,7 @@ use Rattle.ecu_mem.specs.Index.{after, entries_in}
 use Rattle.ecu_mem.specs.Refusals.{Reading}
 use Rattle.std.specs.Prelude.{⊤}
 use Rattle.ecu_mem.proofs.Joining.{resolved, resolved-whole}
+use Rattle.ecu_mem.proofs.Telling.{link-told}
 use Rattle.ecu_mem.proofs.resolving.resolve.Goals as goal
 
 pub returns-in-Ok-clause-value : goal.returns-in-Ok-clause-value
@@ -17,3 +18,6 @@ returns-in-Ok-clause-value c =
 
 pub returns-in-Ok-clause-whole : goal.returns-in-Ok-clause-whole
 returns-in-Ok-clause-whole c = resolved-whole c.args.root.now c.link.result (returns-in-Ok-clause-value c)
+
+pub returns-in-Ok-clause-told : goal.returns-in-Ok-clause-told
+returns-in-Ok-clause-told c = link-told c.args.root.now (get_by_text c.read.new.self.targets) (entries_in c.read.new.self) c.link.result c.link.ensures
