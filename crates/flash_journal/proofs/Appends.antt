@@ -4,7 +4,7 @@ use Rattle.std.specs.Prelude.{◌||◌}
 use Rattle.std.proofs.lemmas.Bool.{cases_eq, leb-true}
 use Rattle.std.proofs.lemmas.List.{get_or-set_same, get_or-set_other}
 use Rattle.disk_model.specs.Disk.{DiskState}
-use Rattle.shop_model.specs.History.{History, disk_now}
+use Rattle.shop_model.specs.History.{History}
 use Rattle.flash_plan.specs.declared.outcome.Entry.{Entry}
 use Rattle.journal_model.specs.Records.{Label, slots_of, body_of, is_open}
 use Rattle.journal_steps.specs.Append.{AddsSome, AddsAtMost, CanAppendGroup, HasAddedGroup, Records, with_entry}

@@ -1,13 +1,11 @@
 -- From what the tests of the first bytes find to what a look answers.
-use Rattle.std.proofs.Common.{◌≡◌, ◌⊎◌, inl, inr, ℕ, ◌+◌, ◌*◌, ◌-◌, ◌<◌, ◌≤◌, Bool, true, false, List, [], length, get_or, take, drop, refl, sym, ◌∙◌, ap, subst, arith, Result, Ok, Err}
+use Rattle.std.proofs.Common.{◌≡◌, inl, inr, ℕ, ◌+◌, ◌*◌, true, List, [], get_or, drop, sym, ◌∙◌, ap, subst, arith, Result, Ok, Err}
 use Rattle.std.specs.Prelude.{◌==◌, ◌&&◌, slice_index, slice_range, if◌then◌else◌}
 use Rattle.std.proofs.lemmas.Bool.{and_left, both_ways, eq-eqb}
 use Rattle.std.proofs.lemmas.List.{get_or-take, get_or-drop}
 use Rattle.flash_plan.specs.declared.outcome.Entry.{Entry}
-use Rattle.journal_model.specs.Records.{Label, slots_of, stands_at, is_fresh, is_journal, says_digest, has, records}
-use Rattle.journal_steps.specs.Read.{is_among}
+use Rattle.journal_model.specs.Records.{Label, slots_of, stands_at, is_fresh, is_journal, has, records}
 use Rattle.journal_steps.specs.Tested.{tested, NotMade, NoJournal, OfOtherPlan, OfThisPlan}
-use Rattle.journal_steps.specs.Tables.{place_of}
 use Rattle.journal_steps.proofs.Slots.{below_from}
 use Rattle.journal_steps.proofs.Same.{stands_same}
 use Rattle.journal_steps.proofs.Made.{fresh_no_journal}

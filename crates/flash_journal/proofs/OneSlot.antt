@@ -1,5 +1,5 @@
 -- One slot more in the tables.
-use Rattle.std.proofs.Common.{◌≡◌, ℕ, suc, ◌<◌, ◌≤◌, true, false, Bool, List, [], ◌∷◌, ◌++◌, length, get_or, set, sym, refl, subst, arith}
+use Rattle.std.proofs.Common.{◌≡◌, ℕ, suc, ◌<◌, true, false, Bool, List, [], ◌∷◌, ◌++◌, get_or, set, sym, refl, subst, arith}
 use Rattle.flash_plan.specs.declared.outcome.Entry.{Entry}
 use Rattle.journal_model.specs.Records.{is_open, spells, unit_of}
 use Rattle.journal_steps.specs.Read.{IsReadUpTo, AreListed}

@@ -1,12 +1,12 @@
 -- From the bytes of a disk to the journal in memory.
-use Rattle.std.proofs.Common.{◌≡◌, ◌⊎◌, inl, inr, ℕ, ◌+◌, ◌*◌, ◌<◌, ◌≤◌, Bool, true, false, List, length, get_or, refl, sym, ◌∙◌, ap, subst, arith, Result, Ok, Err}
-use Rattle.std.specs.Prelude.{◌==◌, ◌&&◌, IfOk, IfErr, replicate, slice_index}
+use Rattle.std.proofs.Common.{◌≡◌, inl, inr, ℕ, ◌+◌, ◌*◌, ◌≤◌, Bool, true, false, List, length, get_or, refl, sym, ◌∙◌, ap, subst, arith, Result, Ok, Err}
+use Rattle.std.specs.Prelude.{◌&&◌, IfOk, IfErr, replicate}
 use Rattle.std.proofs.lemmas.Bool.{ne_eqb, and_left}
 use Rattle.disk_model.specs.Disk.{DiskState, IsCrashImage, IsSettled, Synced}
 use Rattle.shop_model.specs.History.{History, Call, LAST, DiskCall, disk_now}
 use Rattle.disk_model.specs.declared.device.DeviceFault.{DeviceFault}
 use Rattle.flash_plan.specs.declared.outcome.Entry.{Entry}
-use Rattle.journal_model.specs.Records.{Label, slots_of, is_fresh, is_journal, is_open, has, records}
+use Rattle.journal_model.specs.Records.{Label, slots_of, is_fresh, is_journal, has}
 use Rattle.journal_steps.specs.Append.{Records}
 use Rattle.journal_steps.specs.File.{new_bytes}
 use Rattle.journal_steps.specs.Later.{HoldsOnDisk, SameDisk, IsDisk}
@@ -26,7 +26,7 @@ use Rattle.flash_journal.specs.declared.journal.Journal.{Journal}
 use Rattle.flash_journal.specs.declared.looking.OpenFault.{OpenFault}
 use Rattle.flash_journal.specs.declared.looking.OpenFault.TheVariants.{NotJournal, OtherPlan, DiskFault, NoMemory}
 use Rattle.flash_journal.specs.Kept.{journal_label, has_entry, IsKeptOn}
-use Rattle.flash_journal.specs.Look.{Refuses, IsWant, SaysOther}
+use Rattle.flash_journal.specs.Look.{IsWant, SaysOther}
 use Rattle.flash_journal.specs.Opened.{IsOpened, OpenAnswer, OnRefusal, HasBytes, IsEmpty}
 use Rattle.flash_journal.proofs.Appends.{told_as}
 

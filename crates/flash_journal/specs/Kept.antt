@@ -1,5 +1,5 @@
 -- A journal in memory, and the disk that it is kept on.
-use Rattle.std.specs.Prelude.{◌≡◌, ℕ, ◌*◌, ◌<◌, [], ◌∷◌, Bool, true, false, List, get_or}
+use Rattle.std.specs.Prelude.{◌≡◌, ℕ, ◌<◌, [], ◌∷◌, Bool, true, false, List, get_or}
 use Rattle.disk_model.specs.Disk.{DiskState, IsCrashImage, IsSettled}
 use Rattle.shop_model.specs.History.{History}
 use Rattle.flash_plan.specs.declared.outcome.Entry.{Entry}

@@ -1,9 +1,9 @@
 -- The bytes of a new journal.
-use Rattle.std.proofs.Common.{◌≡◌, ℕ, ◌+◌, ◌*◌, ◌-◌, ◌/◌, ◌%◌, ◌<◌, ◌≤◌, true, List, [], ◌∷◌, ◌++◌, length, get_or, refl, sym, ◌∙◌, ap, subst, arith, length-append}
+use Rattle.std.proofs.Common.{◌≡◌, ℕ, ◌+◌, ◌*◌, ◌-◌, ◌<◌, true, List, [], ◌∷◌, ◌++◌, length, get_or, refl, sym, ◌∙◌, ap, subst, arith, length-append}
 use Rattle.std.specs.Prelude.{◌==◌, slice_index, replicate}
 use Rattle.std.proofs.lemmas.Bool.{eq-eqb}
 use Rattle.std.proofs.lemmas.List.{get_or_append_left, get_or-append_right, get_or-replicate, length-replicate}
-use Rattle.journal_model.specs.Records.{Label, slots_of, magic_and_version, number4, stands_at}
+use Rattle.journal_model.specs.Records.{Label, slots_of, number4, stands_at}
 use Rattle.journal_steps.specs.File.{front16, new_bytes}
 use Rattle.journal_steps.specs.Make.{IsMade}
 use Rattle.journal_steps.proofs.Slots.{below_from}
@@ -14,7 +14,6 @@ stands_in xs ys zs at is = below_from (length ys) (λ i. slice_index ((xs ++ ys)
     (get_or_append_left (xs ++ ys) zs 0 (at + t) (omega (arith, lt, length-append xs ys, is))
     ∙ get_or-append_right xs ys at (at + t) 0 is (omega arith)
     ∙ ap (λ (k : ℕ). get_or ys k 0) (omega arith)))
-
 
 module _ (P : Label) (d32 : length P.digest ≡ 32) where
   front_size : length (front16 (slots_of P) ++ P.digest) ≡ 48

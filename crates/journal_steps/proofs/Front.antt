@@ -1,11 +1,11 @@
 -- The tests look at no byte past the last body.
-use Rattle.std.proofs.Common.{◌≡◌, ◌⊎◌, inl, inr, ℕ, ◌+◌, ◌*◌, ◌-◌, ◌<◌, ◌≤◌, min, true, false, List, length, take, drop, get_or, refl, sym, ◌∙◌, ap, subst, arith, length-take}
-use Rattle.std.specs.Prelude.{◌==◌, ◌&&◌, Bool, nat_le, slice_index, slice_range}
-use Rattle.std.proofs.lemmas.Bool.{cases_Bool, cases_lt, le-leb, lt-leb}
+use Rattle.std.proofs.Common.{◌≡◌, inl, inr, ℕ, ◌+◌, ◌*◌, ◌-◌, ◌<◌, ◌≤◌, min, List, length, take, sym, ◌∙◌, ap, arith, length-take}
+use Rattle.std.specs.Prelude.{◌==◌, ◌&&◌, nat_le, slice_index, slice_range}
+use Rattle.std.proofs.lemmas.Bool.{cases_lt, le-leb, lt-leb}
 use Rattle.std.proofs.lemmas.List.{get_or-take, get_or_past}
 use Rattle.flash_plan.specs.declared.outcome.Entry.{Entry}
-use Rattle.journal_model.specs.Records.{Label, slots_of, is_fresh, is_headed, says_digest, is_standing, is_journal, is_open, has, spells, records}
-use Rattle.journal_steps.proofs.Same.{Agrees, fresh_same, headed_same, digest_same, standing_same, journal_same, has_same}
+use Rattle.journal_model.specs.Records.{Label, slots_of, is_fresh, is_headed, says_digest, is_standing, is_journal, is_open, has}
+use Rattle.journal_steps.proofs.Same.{Agrees, fresh_same, headed_same, digest_same, standing_same, has_same}
 use Rattle.journal_steps.specs.Read.{IsFront}
 
 pub front_of : (m k : ℕ) (image : List ℕ) → k ≡ min m (length image) → IsFront m image (slice_range image 0 k)

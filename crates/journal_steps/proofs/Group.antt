@@ -1,11 +1,11 @@
 -- A run of slots, each with a new entry behind its gate, of which some gates are open.
-use Rattle.std.proofs.Common.{◌≡◌, ◌≢◌, ◌⊎◌, inl, inr, ℕ, zero, suc, ◌+◌, ◌*◌, ◌<◌, ◌≤◌, true, false, List, length, set, length-set, refl, sym, ◌∙◌, ap, subst, arith}
+use Rattle.std.proofs.Common.{◌≡◌, ◌⊎◌, inl, inr, ℕ, zero, suc, ◌+◌, ◌*◌, ◌<◌, ◌≤◌, true, false, List, length, set, length-set, refl, sym, ◌∙◌, ap, subst, arith}
 use Rattle.std.specs.Prelude.{◌==◌, Bool, ◌&&◌, ◌||◌, nat_le, slice_index}
-use Rattle.std.proofs.lemmas.Bool.{cases_Bool, cases_eq, and_left, leb-true, both_ways, eqb-true, ne_eqb}
+use Rattle.std.proofs.lemmas.Bool.{cases_Bool, cases_eq, leb-true, both_ways, ne_eqb}
 use Rattle.std.proofs.lemmas.List.{get_or-set_same, get_or-set_other}
 use Rattle.flash_plan.specs.declared.outcome.Entry.{Entry}
 use Rattle.flash_plan.specs.declared.outcome.Entry.TheVariants.{Begun, Complete}
-use Rattle.journal_model.specs.Records.{Label, slots_of, unit_of, some_below, is_open, is_journal, has, body_of}
+use Rattle.journal_model.specs.Records.{Label, slots_of, unit_of, some_below, is_open, body_of}
 use Rattle.journal_steps.specs.Append.{Records, and_entry, is_entry, IsPrepared}
 use Rattle.journal_steps.proofs.Slots.{none_below}
 use Rattle.journal_steps.proofs.Same.{Agrees, journal_same, has_same, some_same}

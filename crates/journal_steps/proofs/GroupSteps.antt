@@ -1,12 +1,12 @@
 -- What the images record after each call of the append of a group.
-use Rattle.std.proofs.Common.{◌≡◌, ◌⊎◌, inl, inr, ℕ, zero, suc, ◌+◌, ◌-◌, ◌*◌, ◌<◌, ◌≤◌, true, false, List, length, refl, sym, ◌∙◌, ap, subst, arith}
+use Rattle.std.proofs.Common.{◌≡◌, ◌⊎◌, inl, inr, ℕ, ◌+◌, ◌-◌, ◌*◌, ◌<◌, ◌≤◌, true, false, List, length, refl, sym, ◌∙◌, ap, subst, arith}
 use Rattle.std.specs.Prelude.{◌==◌, ◌&&◌, ◌||◌, Bool, slice_index}
-use Rattle.std.proofs.lemmas.Bool.{cases_lt, leb-true, both_ways, eq-eqb, and_left}
+use Rattle.std.proofs.lemmas.Bool.{cases_lt, leb-true, both_ways, eq-eqb}
 use Rattle.disk_model.specs.Disk.{DiskState, IsCrashImage, IsSettled, Wrote, MissedWrite, Synced}
 use Rattle.journal_steps.proofs.Images.{settled_image, settled_length, missed_image, synced_settled}
 use Rattle.flash_plan.specs.declared.outcome.Entry.{Entry}
-use Rattle.journal_model.specs.Records.{Label, slots_of, some_below, is_open, body_of}
-use Rattle.journal_steps.specs.Append.{Records, is_entry, and_some, HasSome, AddsSome, CanAppendGroup, HasAddedGroup}
+use Rattle.journal_model.specs.Records.{Label, slots_of, is_open, body_of}
+use Rattle.journal_steps.specs.Append.{is_entry, and_some, HasSome, AddsSome, CanAppendGroup, HasAddedGroup}
 use Rattle.journal_steps.proofs.Slots.{none_below}
 use Rattle.journal_steps.proofs.Same.{Agrees, some_same}
 use Rattle.journal_steps.proofs.Settled.{long_of, itself}

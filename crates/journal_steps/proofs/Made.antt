@@ -1,17 +1,14 @@
 -- What a crash leaves while a file is made: a fresh one, or a journal with no entry.
-use Rattle.std.proofs.Common.{◌≡◌, ◌⊎◌, inl, inr, ℕ, zero, suc, ◌+◌, ◌*◌, ◌-◌, ◌/◌, ◌%◌, ◌<◌, ◌≤◌, max, true, false, List, [], ◌∷◌, length, drop, get_or, refl, sym, ◌∙◌, ap, subst, arith, lit<}
+use Rattle.std.proofs.Common.{◌≡◌, inl, inr, ℕ, ◌+◌, ◌*◌, ◌<◌, ◌≤◌, true, false, List, length, refl, ◌∙◌, arith}
 use Rattle.std.specs.Prelude.{◌==◌, Bool, not, ◌&&◌, ◌||◌, nat_le, slice_index, replicate}
-use Rattle.std.proofs.lemmas.Bool.{cases_Bool, cases_eq, cases_lt, and_parts, and_from, and_left, and_right, or_cases, both_ways, eq-eqb, eqb-true, ne_eqb, le-leb, lt-leb, leb-true}
-use Rattle.disk_model.specs.Disk.{DiskState, IsCrashImage, IsSettled, Wrote, MissedWrite, Synced}
-use Rattle.journal_steps.proofs.Images.{settled_image, settled_length, synced_settled}
+use Rattle.std.proofs.lemmas.Bool.{cases_Bool, cases_eq, and_parts, and_from, and_left, or_cases, both_ways, eq-eqb, eqb-true, ne_eqb, le-leb, leb-true}
 use Rattle.flash_plan.specs.declared.outcome.Entry.{Entry}
 use Rattle.flash_plan.specs.declared.outcome.Entry.TheVariants.{Begun, Complete}
-use Rattle.journal_model.specs.Records.{Label, slots_of, magic, magic_and_version, number4, stands_at, each_below, some_below, is_fresh, is_headed, says_digest, is_standing, is_journal, is_open, has, is_formed, is_distinct, is_ordered, spells, records}
+use Rattle.journal_model.specs.Records.{Label, slots_of, magic, magic_and_version, number4, stands_at, each_below, some_below, is_fresh, is_headed, is_journal, is_open, has, spells}
 use Rattle.journal_steps.specs.Append.{Records}
-use Rattle.journal_steps.specs.Make.{IsStart, IsMade, no_entry, Starts}
+use Rattle.journal_steps.specs.Make.{IsStart, IsMade, no_entry}
 use Rattle.journal_steps.proofs.Slots.{below_at, below_from, none_below}
 use Rattle.journal_steps.proofs.Same.{stands_same}
-use Rattle.journal_steps.proofs.Settled.{long_of, all_settled}
 
 -- an open header gate, and length enough
 pub headed_gate : (image : List ℕ) → is_headed image ≡ true → slice_index image 0 ≡ 165

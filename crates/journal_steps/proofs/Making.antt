@@ -1,12 +1,12 @@
 -- The images after each call of making a file.
-use Rattle.std.proofs.Common.{◌≡◌, ◌⊎◌, inl, inr, ℕ, zero, suc, ◌+◌, ◌*◌, ◌-◌, ◌<◌, ◌≤◌, max, true, false, List, [], ◌∷◌, length, refl, sym, ◌∙◌, ap, subst, arith, lit<}
-use Rattle.std.specs.Prelude.{◌==◌, Bool, slice_index}
+use Rattle.std.proofs.Common.{◌≡◌, ◌⊎◌, inl, inr, ℕ, ◌+◌, ◌*◌, ◌-◌, ◌<◌, ◌≤◌, true, List, [], ◌∷◌, length, refl, sym, ◌∙◌, ap, subst, arith}
+use Rattle.std.specs.Prelude.{◌==◌, slice_index}
 use Rattle.std.proofs.lemmas.Bool.{cases_lt, eqb-true}
-use Rattle.disk_model.specs.Disk.{DiskState, IsListed, IsCrashImage, IsSettled, Wrote, MissedWrite, Synced}
+use Rattle.disk_model.specs.Disk.{DiskState, IsCrashImage, IsSettled, Wrote, MissedWrite, Synced}
 use Rattle.journal_steps.proofs.Images.{settled_image, settled_length, synced_settled, missed_image, missed_below}
 use Rattle.journal_model.specs.Records.{Label, slots_of, magic, magic_and_version, stands_at, is_fresh}
 use Rattle.journal_steps.specs.Append.{Records}
-use Rattle.journal_steps.specs.Make.{IsStart, IsMade, no_entry, Starts, CanFill, CanMake, IsNew}
+use Rattle.journal_steps.specs.Make.{IsMade, no_entry, Starts, CanFill, CanMake, IsNew}
 use Rattle.journal_steps.proofs.Slots.{below_at}
 use Rattle.journal_steps.proofs.Same.{stands_same}
 use Rattle.journal_steps.proofs.Settled.{all_settled}

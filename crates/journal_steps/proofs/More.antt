@@ -1,11 +1,11 @@
 -- A journal with one more gate open, behind which an entry stands, records that entry too.
-use Rattle.std.proofs.Common.{◌≡◌, ◌⊎◌, inl, inr, ℕ, zero, suc, ◌+◌, ◌*◌, ◌<◌, ◌≤◌, true, false, List, [], ◌∷◌, length, slice_index, refl, sym, ◌∙◌, ap, subst, arith, ◌/◌, ◌%◌, lit<}
+use Rattle.std.proofs.Common.{◌≡◌, inl, inr, ℕ, zero, suc, ◌+◌, ◌*◌, ◌<◌, true, false, List, length, slice_index, refl, sym, ◌∙◌, ap, subst, arith, ◌/◌, ◌%◌, lit<}
 use Rattle.std.specs.Prelude.{◌==◌, Bool, not, ◌&&◌, ◌||◌, nat_le}
-use Rattle.std.proofs.lemmas.Bool.{cases_Bool, cases_eq, and_parts, and_from, and_left, and_right, both_ways, eq-eqb, eqb-true}
+use Rattle.std.proofs.lemmas.Bool.{cases_Bool, cases_eq, and_parts, and_from, and_left, both_ways, eq-eqb, eqb-true}
 use Rattle.flash_plan.specs.declared.outcome.Entry.{Entry}
 use Rattle.flash_plan.specs.declared.outcome.Entry.TheVariants.{Begun, Complete}
-use Rattle.journal_model.specs.Records.{Label, each_below, some_below, slots_of, is_open, spells, has, is_formed, is_distinct, is_ordered, records, is_journal, body_of, unit_of, stands_at, number4, magic_and_version, is_headed, says_digest, is_standing}
-use Rattle.journal_steps.proofs.Slots.{below_at, below_from, below_same, none_below}
+use Rattle.journal_model.specs.Records.{Label, each_below, some_below, slots_of, is_open, spells, has, is_formed, is_distinct, is_ordered, body_of, unit_of, stands_at, number4, is_headed, says_digest, is_standing}
+use Rattle.journal_steps.proofs.Slots.{below_at, below_from, below_same}
 use Rattle.journal_steps.specs.Append.{Records, and_entry, IsPrepared, is_entry}
 use Rattle.journal_steps.proofs.Same.{Agrees, some_same, some_at, spells_same, slot_same, formed_same, apart_same, headed_same, digest_same, count_same}
 use Rattle.journal_steps.specs.Read.{twice, one_formed, one_apart, one_distinct}

@@ -1,14 +1,14 @@
 -- What the images are while a journal is opened.
 use Rattle.std.proofs.Common.{◌≡◌, ◌⊎◌, inl, inr, ℕ, ◌+◌, ◌*◌, ◌<◌, ◌≤◌, true, false, List, length, refl, sym, ◌∙◌, ap, subst, arith}
 use Rattle.std.specs.Prelude.{◌==◌, ◌&&◌, ◌||◌, Bool, nat_le, slice_index}
-use Rattle.std.proofs.lemmas.Bool.{cases_Bool, or_cases, and_left, and_parts}
+use Rattle.std.proofs.lemmas.Bool.{and_left}
 use Rattle.std.proofs.lemmas.List.{get_or_past}
 use Rattle.disk_model.specs.Disk.{DiskState, IsCrashImage, IsSettled, Synced}
 use Rattle.journal_steps.proofs.Images.{settled_image, settled_length, synced_settled}
 use Rattle.flash_plan.specs.declared.outcome.Entry.{Entry}
-use Rattle.journal_model.specs.Records.{Label, slots_of, is_fresh, is_journal, is_open, has, records}
+use Rattle.journal_model.specs.Records.{Label, slots_of, is_fresh, is_journal, records}
 use Rattle.journal_steps.specs.Append.{Records}
-use Rattle.journal_steps.specs.Make.{IsStart, Starts, no_entry, can_open, Follows, AllFollow}
+use Rattle.journal_steps.specs.Make.{Starts, can_open, AllFollow}
 use Rattle.journal_steps.proofs.Same.{Agrees, fresh_same, journal_same, has_same}
 use Rattle.journal_steps.proofs.Made.{fresh_no_journal}
 

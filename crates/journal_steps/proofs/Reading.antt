@@ -1,19 +1,19 @@
 -- How the tables are filled, slot by slot.
-use Rattle.std.proofs.Common.{◌≡◌, ◌≢◌, ◌⊎◌, inl, inr, ℕ, zero, suc, ◌+◌, ◌*◌, ◌-◌, ◌<◌, ◌≤◌, true, false, List, [], ◌∷◌, length, get_or, set, length-set, refl, sym, ◌∙◌, ap, subst, arith}
+use Rattle.std.proofs.Common.{◌≡◌, ◌⊎◌, inl, inr, ℕ, zero, suc, ◌+◌, ◌*◌, ◌<◌, ◌≤◌, true, false, List, length, get_or, set, length-set, refl, sym, ◌∙◌, ap, subst, arith}
 use Rattle.std.specs.Prelude.{◌==◌, Bool, not, ◌&&◌, ◌||◌, slice_index, replicate}
-use Rattle.std.proofs.lemmas.Bool.{cases_Bool, cases_eq, cases_lt, or_cases, and_parts, and_from, and_left, and_right, both_ways, eq-eqb, eqb-true}
+use Rattle.std.proofs.lemmas.Bool.{cases_Bool, cases_eq, cases_lt, or_cases, and_parts, and_from, and_left, both_ways, eq-eqb, eqb-true}
 use Rattle.std.proofs.lemmas.List.{get_or-replicate, get_or_past, get_or-set_same, get_or-set_other, length-replicate}
 use Rattle.flash_plan.specs.declared.outcome.Entry.{Entry}
 use Rattle.flash_plan.specs.declared.outcome.Entry.TheVariants.{Begun, Complete}
 use Rattle.journal_model.specs.Records.{each_below, some_below, is_open, spells, has, unit_of, body_of, is_formed, is_distinct, is_ordered}
 use Rattle.journal_steps.specs.Append.{is_entry}
-use Rattle.journal_steps.specs.Tables.{count_true, place_of, one_if}
+use Rattle.journal_steps.specs.Tables.{count_true, place_of}
 use Rattle.journal_steps.specs.Read.{IsRead, IsReadUpTo, has_upto, table_ordered}
 use Rattle.journal_steps.proofs.Slots.{below_at, below_from, below_same, none_below}
 use Rattle.journal_steps.proofs.Same.{some_at}
 use Rattle.journal_steps.specs.Read.{twice, one_formed, one_apart, one_distinct}
 use Rattle.journal_steps.proofs.More.{named_there}
-use Rattle.journal_steps.proofs.Tables.{table_more, count_set, one_place, from_place, place_below}
+use Rattle.journal_steps.proofs.Tables.{table_more, count_set, one_place, from_place}
 
 pub not_below : (n : ℕ) (p : ℕ → Bool) (k : ℕ) → k < n → p k ≡ false → each_below n p ≡ false
 not_below n p k lt is = elim (cases_Bool (each_below n p)) [

@@ -1,12 +1,12 @@
 -- Bytes that agree at the header, the gates and the open bodies record the same.
-use Rattle.std.proofs.Common.{◌≡◌, ◌⊎◌, inl, inr, ℕ, zero, suc, ◌+◌, ◌*◌, ◌<◌, ◌≤◌, true, false, List, [], ◌∷◌, length, slice_index, refl, sym, ◌∙◌, ap, subst, arith, lit<}
+use Rattle.std.proofs.Common.{◌≡◌, inl, inr, ℕ, zero, suc, ◌+◌, ◌*◌, ◌<◌, ◌≤◌, true, false, List, length, slice_index, refl, sym, ◌∙◌, ap, subst, arith, lit<}
 use Rattle.std.specs.Prelude.{◌==◌, Bool, not, ◌&&◌, ◌||◌, nat_le, replicate}
-use Rattle.std.proofs.lemmas.Bool.{cases_Bool, cases_eq, and_parts, and_from, and_left, and_right, le-leb}
+use Rattle.std.proofs.lemmas.Bool.{cases_Bool, cases_eq, and_left}
 use Rattle.flash_plan.specs.declared.outcome.Entry.{Entry}
 use Rattle.flash_plan.specs.declared.outcome.Entry.TheVariants.{Begun, Complete}
-use Rattle.journal_model.specs.Records.{Label, each_below, some_below, slots_of, is_open, spells, has, is_formed, is_distinct, is_ordered, records, is_journal, body_of, magic, magic_and_version, number4, stands_at, is_fresh, is_headed, says_digest, is_standing}
-use Rattle.journal_steps.specs.Read.{twice, one_formed, one_apart, one_distinct}
-use Rattle.journal_steps.proofs.Slots.{below_at, below_from, below_same, none_below}
+use Rattle.journal_model.specs.Records.{Label, some_below, slots_of, is_open, spells, has, is_formed, is_distinct, is_ordered, is_journal, body_of, magic, magic_and_version, number4, stands_at, is_fresh, is_headed, says_digest, is_standing}
+use Rattle.journal_steps.specs.Read.{one_formed, one_apart, one_distinct}
+use Rattle.journal_steps.proofs.Slots.{below_same}
 
 pub some_same : (n : ℕ) (p q : ℕ → Bool) → ((k : ℕ) → k < n → p k ≡ q k) → some_below n p ≡ some_below n q
 some_same zero p q each = refl

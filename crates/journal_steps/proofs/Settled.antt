@@ -1,5 +1,5 @@
 -- A settled disk, and what its images record.
-use Rattle.std.proofs.Common.{◌≡◌, ◌⊎◌, inl, inr, ℕ, zero, suc, ◌+◌, ◌*◌, ◌<◌, ◌≤◌, true, false, List, [], ◌∷◌, length, slice_index, refl, sym, ◌∙◌, ap, subst, arith}
+use Rattle.std.proofs.Common.{◌≡◌, ℕ, ◌+◌, ◌*◌, ◌<◌, ◌≤◌, true, List, length, slice_index, refl, ◌∙◌, ap, arith}
 use Rattle.std.specs.Prelude.{◌==◌, Bool, nat_le}
 use Rattle.std.proofs.lemmas.Bool.{and_parts, leb-true}
 use Rattle.disk_model.specs.Disk.{DiskState, IsCrashImage, IsSettled}

@@ -1,9 +1,8 @@
 -- Tests over the numbers below a bound, and the slots of a journal.
-use Rattle.std.proofs.Common.{◌≡◌, ◌⊎◌, inl, inr, ℕ, zero, suc, ◌+◌, ◌*◌, ◌<◌, ◌≤◌, true, false, List, [], ◌∷◌, length, slice_index, refl, sym, ◌∙◌, ap, subst, arith}
-use Rattle.std.specs.Prelude.{◌==◌, Bool, not, ◌&&◌, ◌||◌}
-use Rattle.std.proofs.lemmas.Bool.{cases_Bool, cases_eq, and_parts, and_from, and_left, and_right}
-use Rattle.flash_plan.specs.declared.outcome.Entry.{Entry}
-use Rattle.journal_model.specs.Records.{Label, each_below, some_below, slots_of, is_open, spells, has, records, is_journal}
+use Rattle.std.proofs.Common.{◌≡◌, inl, inr, ℕ, zero, suc, ◌<◌, true, false, refl, sym, subst, arith}
+use Rattle.std.specs.Prelude.{Bool, ◌&&◌, ◌||◌}
+use Rattle.std.proofs.lemmas.Bool.{cases_eq, and_parts, and_from}
+use Rattle.journal_model.specs.Records.{each_below, some_below}
 
 pub below_at : (n : ℕ) (p : ℕ → Bool) → each_below n p ≡ true → (k : ℕ) → k < n → p k ≡ true
 below_at zero p all k lt = absurd (omega (arith, lt))
@@ -28,4 +27,3 @@ or_false x y e1 e2 = rw (e1, e2) refl
 pub none_below : (n : ℕ) (p : ℕ → Bool) → ((k : ℕ) → k < n → p k ≡ false) → some_below n p ≡ false
 none_below zero p each = refl
 none_below (suc n) p each = or_false _ _ (none_below n p (λ k lt. each k (omega (arith, lt)))) (each n (omega arith))
-

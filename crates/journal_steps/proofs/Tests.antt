@@ -1,9 +1,8 @@
 -- The tests of a file, one by one, and what they find together.
-use Rattle.std.proofs.Common.{◌≡◌, ◌⊎◌, inl, inr, ℕ, Bool, true, false, List, refl, sym, ◌∙◌}
-use Rattle.std.specs.Prelude.{if◌then◌else◌}
+use Rattle.std.proofs.Common.{◌≡◌, inl, inr, ℕ, true, false, List, refl}
 use Rattle.std.proofs.lemmas.Bool.{cases_Bool, and_parts, both_ways}
 use Rattle.journal_model.specs.Records.{Label, is_fresh, is_headed, says_digest, is_standing, is_journal}
-use Rattle.journal_steps.specs.Tested.{Tested, NotMade, NoJournal, OfOtherPlan, OfThisPlan, tested}
+use Rattle.journal_steps.specs.Tested.{NotMade, NoJournal, OfOtherPlan, OfThisPlan, tested}
 use Rattle.journal_steps.proofs.Made.{fresh_no_journal}
 
 module _ (P : Label) (image : List ℕ) where

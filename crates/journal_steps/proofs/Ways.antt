@@ -1,15 +1,13 @@
 -- Which way a fresh file is made.
-use Rattle.std.proofs.Common.{◌≡◌, ◌⊎◌, inl, inr, ℕ, ◌+◌, ◌*◌, ◌-◌, ◌<◌, ◌≤◌, min, true, false, List, length, take, drop, get_or, refl, sym, ◌∙◌, ap, subst, arith, length-take, length-drop, lit<}
-use Rattle.std.specs.Prelude.{◌==◌, ◌&&◌, ◌||◌, not, Bool, nat_le, slice_index, slice_range}
-use Rattle.std.proofs.lemmas.Bool.{or_cases, and_parts, leb-true, eqb-true, eq-eqb, both_ways, le-leb}
+use Rattle.std.proofs.Common.{◌≡◌, inl, inr, ℕ, ◌+◌, ◌*◌, ◌-◌, ◌<◌, ◌≤◌, true, List, length, drop, refl, sym, ◌∙◌, ap, arith, length-take, length-drop}
+use Rattle.std.specs.Prelude.{◌==◌, ◌||◌, not, nat_le, slice_index, slice_range}
+use Rattle.std.proofs.lemmas.Bool.{or_cases, and_parts, leb-true, eqb-true, eq-eqb, both_ways}
 use Rattle.std.proofs.lemmas.List.{get_or-take, get_or-drop}
-use Rattle.disk_model.specs.Disk.{DiskState, IsCrashImage, IsSettled}
-use Rattle.journal_steps.proofs.Images.{settled_image, settled_length}
-use Rattle.journal_model.specs.Records.{Label, slots_of, magic, stands_at, is_fresh}
-use Rattle.journal_steps.specs.Make.{IsStart, IsMade, Starts, CanFill, CanMake, CanStart}
-use Rattle.journal_steps.proofs.Same.{stands_same, fresh_same}
+use Rattle.disk_model.specs.Disk.{DiskState, IsSettled}
+use Rattle.journal_model.specs.Records.{Label, slots_of, magic, is_fresh}
+use Rattle.journal_steps.specs.Make.{IsMade, CanFill, CanMake}
+use Rattle.journal_steps.proofs.Same.{stands_same}
 use Rattle.journal_steps.specs.Read.{IsFront}
-use Rattle.journal_steps.proofs.Front.{front_fresh}
 
 -- a fresh file with a byte that is not 0 has the magic behind a closed gate
 pub fill_eight : (bytes : List ℕ) → is_fresh bytes ≡ true → 1 < length bytes → (slice_index bytes 0 ≡ 0 → ⊥) → CanFill bytes 8

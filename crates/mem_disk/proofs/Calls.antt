@@ -1,15 +1,13 @@
 -- The calls of a disk in memory are those of a shop.
-use Rattle.std.proofs.Common.{◌≡◌, ◌⊎◌, inl, inr, ℕ, suc, ◌+◌, ◌-◌, ◌<◌, ◌≤◌, ◌^◌, min, max, Bool, true, false, List, [], ◌∷◌, ◌++◌, length, get_or, take, drop, refl, sym, ◌∙◌, ap, subst, arith, length-append, length-take, length-drop, Result, Ok, Err}
-use Rattle.std.specs.Prelude.{◌↔◌, IsTrue, IsErr, slice_index, Vec}
-use Rattle.std.specs.declared.alloc.Global.{Global}
+use Rattle.std.proofs.Common.{◌≡◌, inl, inr, ℕ, ◌+◌, ◌-◌, ◌<◌, ◌≤◌, ◌^◌, Bool, true, false, List, ◌∷◌, ◌++◌, length, get_or, take, drop, refl, sym, ◌∙◌, ap, subst, arith, length-append, length-take, length-drop, Result, Ok, Err}
 use Rattle.std.proofs.lemmas.Bool.{both_ways}
 use Rattle.std.proofs.lemmas.List.{take_all, get_or_append_left, get_or-append_right, get_or-take, get_or-drop}
-use Rattle.disk_model.specs.Disk.{DiskState, MissedWrite, Wrote as IsWritten, Synced as IsSynced}
+use Rattle.disk_model.specs.Disk.{DiskState, MissedWrite, Wrote as IsWritten}
 use Rattle.disk_model.specs.declared.device.DeviceFault.{DeviceFault}
 use Rattle.flash_base.specs.Counts.{Rises}
-use Rattle.shop_model.specs.History.{History, Call, LAST, Passes, DiskCall, LinkCall, disk_now, WroteOrMissed, SyncedOrNot}
+use Rattle.shop_model.specs.History.{History, Call, LAST, Passes, DiskCall, LinkCall, disk_now, WroteOrMissed}
 use Rattle.mem_disk.specs.declared.record.Done.{Done}
-use Rattle.mem_disk.specs.declared.record.Done.TheVariants.{Kept, Wrote, Missed, Synced}
+use Rattle.mem_disk.specs.declared.record.Done.TheVariants.{Kept, Wrote, Missed}
 use Rattle.mem_disk.specs.declared.disk.MemDisk.{MemDisk}
 use Rattle.std.specs.Bool.{OnTrue, OnFalse}
 use Rattle.mem_disk.specs.Made.{call_in}

@@ -1,7 +1,6 @@
 -- What a picture of a disk in memory shows behind each call.
-use Rattle.std.proofs.Common.{◌≡◌, ◌⊎◌, inl, inr, ℕ, zero, suc, ◌+◌, ◌-◌, ◌<◌, ◌≤◌, max, Bool, true, false, List, [], ◌∷◌, ◌++◌, length, get_or, take, drop, refl, sym, ◌∙◌, ap, subst, arith}
-use Rattle.std.specs.Prelude.{◌&&◌, nat_le, slice_index, Vec}
-use Rattle.std.specs.declared.alloc.Global.{Global}
+use Rattle.std.proofs.Common.{◌≡◌, ◌⊎◌, inl, inr, ℕ, zero, suc, ◌+◌, ◌<◌, ◌≤◌, true, List, [], ◌∷◌, ◌++◌, length, get_or, take, refl, sym, ◌∙◌, ap, subst, arith}
+use Rattle.std.specs.Prelude.{◌&&◌, slice_index}
 use Rattle.std.proofs.Math.Seq.{take-suc}
 use Rattle.std.proofs.lemmas.Bool.{and_parts, leb-true, cases_lt}
 use Rattle.std.proofs.lemmas.List.{get_or_past}
@@ -11,7 +10,7 @@ use Rattle.disk_model.specs.declared.device.Pick.TheVariants.{Old, New, Junk}
 use Rattle.mem_disk.specs.declared.crash.Picture.{Picture}
 use Rattle.mem_disk.specs.declared.record.Done.{Done}
 use Rattle.mem_disk.specs.declared.record.Done.TheVariants.{Kept, Wrote, Missed, Synced}
-use Rattle.mem_disk.specs.Crashed.{HasJunk, IsPicked, IsFilled, Shows, IsBehind, IsBehindWrite, IsBehindMiss, wrote_state, missed_state}
+use Rattle.mem_disk.specs.Crashed.{HasJunk, IsPicked, IsFilled, Shows, IsBehind, wrote_state, missed_state}
 use Rattle.mem_disk.specs.Laws.{after_formed}
 use Rattle.mem_disk.specs.Replay.{start, after, replay, spliced, is_within, are_within, synced_after, synced_bytes}
 use Rattle.mem_disk.proofs.Calls.{put}

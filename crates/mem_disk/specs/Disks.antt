@@ -1,5 +1,5 @@
 -- What a disk in memory tells, and what one call adds to its record.
-use Rattle.std.specs.Prelude.{◌≡◌, ◌⊎◌, ◌↔◌, ℕ, ◌+◌, ◌<◌, ◌^◌, ◌-◌, min, Vec, true, false, List, [], ◌∷◌, ◌++◌, length, take, None, Bool, ◌==◌, IsTrue, Result, IsErr, OnErr}
+use Rattle.std.specs.Prelude.{◌≡◌, ◌⊎◌, ◌↔◌, ℕ, ◌+◌, ◌<◌, ◌^◌, ◌-◌, min, Vec, false, List, [], ◌∷◌, ◌++◌, length, take, None, Bool, ◌==◌, IsTrue, Result, IsErr, OnErr}
 use Rattle.std.specs.List.{list_any}
 use Rattle.std.specs.declared.alloc.Global.{Global}
 use Rattle.disk_model.specs.declared.device.DeviceFault.{DeviceFault}

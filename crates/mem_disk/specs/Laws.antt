@@ -1,7 +1,6 @@
 -- Laws of a disk in memory.
-use Rattle.std.proofs.Common.{◌≡◌, ℕ, ◌+◌, ◌≤◌, List, [], ◌∷◌, ◌++◌, length, take, drop, refl, arith, length-append, length-take, length-drop}
+use Rattle.std.proofs.Common.{ℕ, ◌+◌, ◌≤◌, List, [], ◌∷◌, ◌++◌, length, take, drop, refl, arith, length-append, length-take, length-drop}
 use Rattle.disk_model.specs.Disk.{DiskState, IsCrashImage}
-use Rattle.shop_model.specs.History.{History}
 use Rattle.mem_disk.specs.declared.record.Done.{Done}
 use Rattle.mem_disk.specs.declared.record.Done.TheVariants.{Kept, Wrote, Missed, Synced}
 use Rattle.mem_disk.specs.declared.disk.MemDisk.{MemDisk}

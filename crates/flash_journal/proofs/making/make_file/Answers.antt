@@ -1,10 +1,9 @@
-use Rattle.std.proofs.Common.{◌≡◌, ◌≤◌, ℕ, List, length, sym, subst, arith}
-use Rattle.disk_model.specs.Disk.{IsSettled}
+use Rattle.std.proofs.Common.{◌≤◌, length, arith}
 use Rattle.shop_model.specs.History.{disk_now}
 use Rattle.journal_steps.proofs.Moments.{joins}
 use Rattle.journal_steps.specs.Make.{Starts, CanFill}
 use Rattle.journal_steps.proofs.Ways.{can_make}
-use Rattle.flash_journal.specs.Ways.{IsWay, IsShort}
+use Rattle.flash_journal.specs.Ways.{IsShort}
 use Rattle.flash_journal.proofs.making.make_file.Goals as goal
 
 pub returns-in_err-clear_first-in-First-clause-any_moment : goal.returns-in_err-clear_first-in-First-clause-any_moment

@@ -1,9 +1,8 @@
-use Rattle.std.proofs.Common.{◌≡◌, ℕ, ◌+◌, ◌*◌, ◌∙◌, List, length, refl, sym, subst, arith}
+use Rattle.std.proofs.Common.{◌∙◌, refl, sym, arith}
 use Rattle.shop_model.specs.History.{disk_now}
 use Rattle.journal_steps.proofs.Moments.{starts}
 use Rattle.journal_steps.specs.Later.{IsDisk}
 use Rattle.journal_steps.specs.Make.{Starts}
-use Rattle.journal_steps.specs.Read.{IsFront}
 use Rattle.journal_steps.proofs.Front.{front_fresh}
 use Rattle.journal_steps.proofs.Opening.{fresh_starts}
 use Rattle.flash_journal.specs.Seen.{label}

@@ -1,16 +1,16 @@
-use Rattle.std.proofs.Common.{◌≡◌, ℕ, ◌+◌, ◌*◌, ◌∙◌, List, length, sym, ap, subst, arith, true, Err}
-use Rattle.disk_model.specs.Disk.{DiskState, IsSettled}
+use Rattle.std.proofs.Common.{◌≡◌, ℕ, ◌+◌, ◌*◌, ◌∙◌, List, sym, subst, true}
+use Rattle.disk_model.specs.Disk.{DiskState}
 use Rattle.shop_model.specs.History.{disk_now}
-use Rattle.journal_steps.specs.Later.{HoldsOnDisk, SameDisk}
-use Rattle.journal_steps.proofs.Moments.{joins, starts}
+use Rattle.journal_steps.specs.Later.{SameDisk}
+use Rattle.journal_steps.proofs.Moments.{joins}
 use Rattle.journal_model.specs.Records.{is_fresh}
 use Rattle.journal_steps.specs.Make.{AllFollow}
 use Rattle.journal_steps.specs.Read.{IsFront}
 use Rattle.journal_steps.proofs.Front.{front_fresh}
 use Rattle.flash_journal.specs.declared.looking.OpenFault.TheVariants.{NotJournal, OtherPlan}
 use Rattle.flash_journal.specs.Seen.{label}
-use Rattle.flash_journal.specs.Opened.{OpenAnswer, IsOpened}
-use Rattle.flash_journal.proofs.Looks.{opens_front, refuses_front, refuses_form, refuses_plan, says_other}
+use Rattle.flash_journal.specs.Opened.{IsOpened}
+use Rattle.flash_journal.proofs.Looks.{refuses_front, refuses_form, refuses_plan, says_other}
 use Rattle.flash_journal.proofs.Opens.{front_is, kept_told, opened_read, answer_made, want_other, on_refusal, same_then, same_follows, start_follows}
 use Rattle.flash_journal.proofs.opening.open_synced.Goals as goal
 

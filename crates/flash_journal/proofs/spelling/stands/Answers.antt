@@ -1,4 +1,4 @@
-use Rattle.std.proofs.Common.{◌≡◌, ℕ, ◌+◌, true, false, length, sym, arith}
+use Rattle.std.proofs.Common.{◌+◌, length, sym}
 use Rattle.std.specs.Prelude.{slice_index, ◌==◌}
 use Rattle.std.proofs.lemmas.Bool.{ne_eqb}
 use Rattle.journal_steps.proofs.Reading.{not_below}

@@ -1,4 +1,4 @@
-use Rattle.std.proofs.Common.{◌≡◌, ℕ, ◌+◌, ◌*◌, true, false, length, sym, arith, get_or, refl}
+use Rattle.std.proofs.Common.{◌+◌, ◌*◌, false, sym, get_or, refl}
 use Rattle.std.specs.Prelude.{not, ◌||◌}
 use Rattle.journal_steps.proofs.Reading.{not_below}
 use Rattle.flash_journal.proofs.tables.ordered.Goals as goal

@@ -1,4 +1,4 @@
-use Rattle.std.proofs.Common.{◌≡◌, ℕ, ◌+◌, ◌*◌, true, false, get_or, set, sym, ◌∙◌, ap, subst, refl, arith}
+use Rattle.std.proofs.Common.{◌≡◌, ℕ, ◌*◌, true, false, get_or, subst, refl, arith}
 use Rattle.std.proofs.lemmas.Bool.{and_left, and_right, eq-eqb}
 use Rattle.journal_steps.proofs.Reading.{bad_form, bad_unit, bad_twice}
 use Rattle.journal_steps.proofs.Tables.{unit_below, unit_past, index_is}

@@ -1,5 +1,3 @@
-use Rattle.std.proofs.Common.{◌≡◌, ℕ, ◌<◌, ◌≤◌, ◌+◌, ◌⊎◌, length}
-use Rattle.std.specs.Prelude.{slice_index}
 use Rattle.mem_disk.proofs.Crashes.{FilledUpTo}
 use Rattle.mem_disk.proofs.crash.filled.Given as goal
 

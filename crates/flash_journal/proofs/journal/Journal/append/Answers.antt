@@ -5,7 +5,7 @@ use Rattle.journal_steps.specs.Tables.{count_true, place_of}
 use Rattle.flash_journal.specs.Kept.{journal_label, has_entry}
 use Rattle.journal_steps.proofs.Tables.{count_lacks, count_set, place_below}
 use Rattle.journal_steps.proofs.One.{only}
-use Rattle.flash_journal.proofs.Appends.{can_append, long_enough, kept_more, adds_one, has_more}
+use Rattle.flash_journal.proofs.Appends.{can_append, long_enough, kept_more, adds_one}
 use Rattle.flash_journal.proofs.journal.Journal.append.Goals as goal
 
 pub lowest_closed-slot-requires : goal.lowest_closed-slot-requires

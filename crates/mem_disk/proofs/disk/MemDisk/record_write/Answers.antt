@@ -1,4 +1,4 @@
-use Rattle.std.proofs.Common.{refl, arith, rules}
+use Rattle.std.proofs.Common.{rules}
 use Rattle.mem_disk.proofs.Replays.{replay_wrote, within_wrote}
 use Rattle.mem_disk.proofs.disk.MemDisk.record_write.Goals as goal
 
