@@ -1,3 +1,4 @@
+pub mod Addressed
 pub mod Allowed
 pub mod Collecting
 pub mod Joined

@@ -1,5 +1,5 @@
 -- A unit that fits its task, and a vehicle whose units match a plan.
-use Rattle.std.specs.Prelude.{◌≡◌, ¬◌, ℕ, ◌<◌, ◌≤◌, ◌^◌, Bool, false, List, length, MatchOption, IsTrue, Contains}
+use Rattle.std.specs.Prelude.{◌≡◌, ℕ, ◌<◌, ◌≤◌, ◌^◌, Bool, false, List, length, MatchOption, Contains}
 use Rattle.flash_base.specs.Lists.{Each}
 use Rattle.flash_plan.specs.declared.outcome.Entry.{Entry}
 use Rattle.flash_plan.specs.declared.outcome.Entry.TheVariants.{Begun}

@@ -1,0 +1,6 @@
+pub mod Indexing
+pub mod Joining
+pub mod Ranges
+pub mod Steps
+pub mod Walk
+pub mod Wholes
