@@ -1,11 +1,11 @@
 -- Bytes are fed where their frames are handled one after another.
-use Rattle.std.proofs.Common.{◌≡◌, ◌⊎◌, inl, inr, ℕ, zero, suc, ◌+◌, ◌<◌, ◌≤◌, List, [], ◌∷◌, ◌++◌, length, true, None, Some, Option, refl, sym, ◌∙◌, ap, subst, arith}
+use Rattle.std.proofs.Common.{ℕ, zero, suc, ◌≤◌, List, [], ◌∷◌, ◌++◌, length, true, None, Some, Option, refl, sym, ◌∙◌, ap, subst, arith}
 use Rattle.std.proofs.lemmas.List.{append_assoc, append-nil}
 use Rattle.doip_frame.specs.declared.frame.Bad.{Bad}
 use Rattle.doip_frame.specs.declared.frame.Frame.{Frame}
-use Rattle.doip_frame.specs.Frame.{Cut, Partial, Wrong, Whole, cut_frame, frame_of, Stream, stream_of, stream_in, stream_after, nack_code, header_nack_bytes}
+use Rattle.doip_frame.specs.Frame.{Cut, Partial, Wrong, Whole, cut_frame, stream_of, stream_in, stream_after, nack_code, header_nack_bytes}
 use Rattle.doip_frame.proofs.Streams.{Shortens, shortens}
-use Rattle.unit_model.specs.Vehicle.{Gateway, Vehicle}
+use Rattle.unit_model.specs.Vehicle.{Vehicle}
 use Rattle.unit_model.specs.Feed.{Word, Handles, AfterCut, FeedsAll, FeedsHearing, queue_words, say}
 use Rattle.thin_shop.specs.Desks.{Runs}
 

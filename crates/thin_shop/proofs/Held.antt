@@ -2,7 +2,7 @@
 use Rattle.std.proofs.Common.{◌≡◌, ◌∙◌, ℕ, true, List, ◌++◌, None, Some, Option, refl, ap, Result, Ok, Err}
 use Rattle.std.specs.Prelude.{OnOk, OnErr}
 use Rattle.doip_frame.specs.declared.frame.Bad.{Bad}
-use Rattle.doip_frame.specs.Frame.{cut_frame, Partial, Cut, stream_of}
+use Rattle.doip_frame.specs.Frame.{cut_frame, Partial, stream_of}
 use Rattle.doip_frame.specs.Deframe.{is_partial, held_after, kept, left}
 use Rattle.doip_frame.proofs.Feeds.{left_part}
 use Rattle.thin_shop.specs.Holding.{unfinished_of}

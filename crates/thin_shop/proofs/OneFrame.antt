@@ -1,6 +1,6 @@
 -- What one frame, and one after another, does to a desk and its unit.
-use Rattle.std.proofs.Common.{◌≡◌, ◌⊎◌, inl, inr, ℕ, suc, ◌+◌, ◌<◌, ◌≤◌, Bool, true, false, List, [], ◌∷◌, ◌++◌, length, drop, take, get_or, None, Some, Option, refl, sym, ◌∙◌, ap, subst, arith, append_assoc}
-use Rattle.std.specs.Prelude.{◌==◌, ◌||◌, ◌&&◌, nat_le, IsTrue, slice_get, if◌then◌else◌, Result, Ok, Err, OnErr}
+use Rattle.std.proofs.Common.{◌≡◌, inl, inr, ℕ, ◌+◌, ◌<◌, Bool, false, List, [], ◌∷◌, ◌++◌, length, drop, take, get_or, None, Some, Option, refl, sym, ◌∙◌, ap, subst, arith, append_assoc}
+use Rattle.std.specs.Prelude.{nat_le, slice_get, Result, Ok, Err, OnErr}
 use Rattle.std.proofs.lemmas.Bool.{le-leb, lt-leb, eq-eqb, and_from}
 use Rattle.std.proofs.lemmas.List.{take_more, append-nil}
 use Rattle.std.proofs.lemmas.Option.{get_or_from_slice_get, slice_get_within}
@@ -10,15 +10,15 @@ use Rattle.doip_frame.specs.declared.frame.Frame.{Frame}
 use Rattle.doip_frame.specs.declared.frame.Frame.TheVariants.{Activate, Message}
 use Rattle.doip_frame.specs.Frame.{activated_bytes, ack_bytes, nack_bytes, message_bytes}
 use Rattle.unit_model.specs.Unit.{ControlUnit, obedient, heard_one}
-use Rattle.unit_model.specs.Step.{CanSend, UnitStep, Obeys, ascends, is_late, is_stalled, timed, reply_at}
-use Rattle.unit_model.specs.Vehicle.{Gateway, Vehicle, unit_at}
+use Rattle.unit_model.specs.Step.{CanSend, UnitStep, is_late, timed, reply_at}
+use Rattle.unit_model.specs.Vehicle.{Vehicle, unit_at}
 use Rattle.unit_model.specs.Feed.{Word, Handles, HandlesMessage, HandlesAt, Hears, Accepts, activation, say, with_unit}
 use Rattle.unit_model.proofs.Units.{hit, miss}
 use Rattle.unit_model.proofs.Steps.{obedient_frames}
 use Rattle.thin_shop.specs.declared.car.Car.{Car}
 use Rattle.thin_shop.specs.declared.handling.Desk.{Desk}
 use Rattle.thin_shop.specs.Cars.{gateway_of}
-use Rattle.thin_shop.specs.Desks.{Runs, at_desk, Says, AreWords, listed, Does, Handled, DoAll, Worked, WorkedPart, messages}
+use Rattle.thin_shop.specs.Desks.{at_desk, Says, AreWords, listed, Does, Handled, DoAll, Worked, WorkedPart, messages}
 use Rattle.thin_shop.proofs.Feeding.{one_more}
 
 longer : (c : Car) (d e : Desk) (bytes : List ℕ) → e.answers.items ≡ d.answers.items ++ bytes → drop c.start c.ready.items ++ e.answers.items ≡ (drop c.start c.ready.items ++ d.answers.items) ++ bytes

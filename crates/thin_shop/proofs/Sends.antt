@@ -1,24 +1,24 @@
 -- A send feeds its bytes, or, where there is no memory, a prefix of them.
-use Rattle.std.proofs.Common.{◌≡◌, ◌⊎◌, inl, inr, ℕ, zero, suc, ◌+◌, ◌≤◌, Bool, true, false, List, [], ◌∷◌, ◌++◌, length, take, drop, None, Some, Option, refl, sym, ◌∙◌, ap, subst, arith, append_assoc}
-use Rattle.std.specs.Prelude.{MatchBool, nat_le, unwrap_or, if◌then◌else◌}
+use Rattle.std.proofs.Common.{◌≡◌, inr, ℕ, zero, suc, Bool, true, false, List, [], ◌∷◌, ◌++◌, take, drop, None, Some, Option, refl, sym, ◌∙◌, ap, subst, arith, append_assoc}
+use Rattle.std.specs.Prelude.{MatchBool, nat_le, unwrap_or}
 use Rattle.std.proofs.lemmas.Bool.{le-leb}
 use Rattle.std.proofs.lemmas.List.{append-nil, drop-append-le}
 use Rattle.doip_frame.specs.declared.frame.Bad.{Bad}
 use Rattle.doip_frame.specs.declared.frame.Bad.TheVariants.{Failed}
 use Rattle.doip_frame.specs.declared.frame.Frame.{Frame}
-use Rattle.doip_frame.specs.Frame.{Cut, Partial, cut_frame, Stream, stream_of, message_bytes, header_nack_bytes, nack_code}
-use Rattle.doip_frame.specs.Deframe.{frames_in, bad_in, held_after, kept, is_partial}
+use Rattle.doip_frame.specs.Frame.{Stream, stream_of, message_bytes, header_nack_bytes, nack_code}
+use Rattle.doip_frame.specs.Deframe.{frames_in, bad_in, held_after, kept}
 use Rattle.unit_model.specs.Unit.{ControlUnit}
 use Rattle.unit_model.specs.Running.{control_unit}
 use Rattle.unit_model.specs.Step.{reply_at}
 use Rattle.unit_model.specs.Vehicle.{Gateway, Vehicle, redialed}
-use Rattle.unit_model.specs.Feed.{Word, queue_word, queue_words, tester_of, say, Feeds, FeedsHearing, FeedsPart}
+use Rattle.unit_model.specs.Feed.{Word, queue_word, queue_words, tester_of, Feeds, FeedsHearing, FeedsPart}
 use Rattle.thin_shop.specs.declared.car.Car.{Car}
 use Rattle.thin_shop.specs.declared.handling.Desk.{Desk}
 use Rattle.thin_shop.specs.Holding.{is_deaf, unfinished_of}
 use Rattle.thin_shop.specs.Cars.{gateway_of, vehicle_of}
-use Rattle.thin_shop.specs.Desks.{Runs, at_desk, AreWords, DoAll, Worked, WorkedPart, messages, code_of, refusal}
-use Rattle.thin_shop.specs.Feeding.{CarCut, Begins, CarWorked, CarPart}
+use Rattle.thin_shop.specs.Desks.{Runs, at_desk, AreWords, messages, code_of, refusal}
+use Rattle.thin_shop.specs.Feeding.{CarCut, CarWorked, CarPart}
 use Rattle.thin_shop.proofs.Feeding.{finish, fed}
 use Rattle.thin_shop.proofs.Unfed.{partial_is}
 use Rattle.thin_shop.proofs.Prefixes.{Prefix, prefix}

@@ -1,5 +1,5 @@
 -- What the frames of one send, or the first of them, did to a car.
-use Rattle.std.proofs.Common.{◌≡◌, ℕ, List, [], ◌++◌, length, take, Option, refl, sym, ◌∙◌, ap, subst, append_assoc, Result, Ok, Err}
+use Rattle.std.proofs.Common.{◌≡◌, ℕ, List, [], ◌++◌, length, Option, sym, ◌∙◌, ap, subst, Result, Ok, Err}
 use Rattle.std.specs.Prelude.{OnErr, unwrap_or}
 use Rattle.std.proofs.Math.Seq.{take-length}
 use Rattle.doip_frame.specs.declared.frame.Bad.{Bad}
@@ -9,7 +9,7 @@ use Rattle.unit_model.specs.Running.{control_unit}
 use Rattle.thin_shop.specs.declared.car.Car.{Car}
 use Rattle.thin_shop.specs.declared.handling.Desk.{Desk}
 use Rattle.thin_shop.specs.Desks.{Says, Worked, WorkedPart, messages, code_of, refusal}
-use Rattle.thin_shop.specs.Feeding.{Begins, CarWorked, CarPart}
+use Rattle.thin_shop.specs.Feeding.{CarWorked, CarPart}
 
 pub whole_part : (fs : List Frame) (a b : Desk) (u w : ControlUnit) (said : List (List ℕ)) → Worked fs a b u w said → WorkedPart fs a u w
 whole_part fs a b u w said worked = record { count = length fs; new = b; said = said; worked = subst (λ (gs : List Frame). Worked gs a b u w said) (sym (take-length fs)) worked }

@@ -1,5 +1,5 @@
 -- The vehicle that a car in memory stands for: nothing is held or due later, no alive check is sent, no request refused.
-use Rattle.std.specs.Prelude.{ℕ, Bool, true, false, List, [], ◌∷◌, drop, Option, None, Some}
+use Rattle.std.specs.Prelude.{ℕ, List, [], ◌∷◌, drop}
 use Rattle.flash_base.specs.ByteMaps.{ByteMap}
 use Rattle.unit_model.specs.Vehicle.{Gateway, Vehicle}
 use Rattle.unit_model.specs.Running.{control_unit}

@@ -1,5 +1,5 @@
 -- What the frames of one send come to.
-use Rattle.std.specs.Prelude.{◌≡◌, ℕ, ◌==◌, List, [], ◌∷◌, ◌++◌, drop, take, Option, None, Some}
+use Rattle.std.specs.Prelude.{◌≡◌, ℕ, List, [], ◌∷◌, ◌++◌, drop, take, Option, None, Some}
 use Rattle.flash_base.specs.Lists.{Each}
 use Rattle.doip_frame.specs.declared.frame.Bad.{Bad}
 use Rattle.doip_frame.specs.declared.frame.Bad.TheVariants.{Pattern, Length, TooLarge, Failed}
@@ -8,7 +8,7 @@ use Rattle.doip_frame.specs.declared.frame.Frame.TheVariants.{HeaderNack, Activa
 use Rattle.doip_frame.specs.Frame.{header_nack_bytes, message_bytes}
 use Rattle.unit_model.specs.Unit.{ControlUnit}
 use Rattle.unit_model.specs.Step.{CanSend, reply_at}
-use Rattle.unit_model.specs.Vehicle.{Gateway, Vehicle}
+use Rattle.unit_model.specs.Vehicle.{Vehicle}
 use Rattle.unit_model.specs.Feed.{Word, Handles}
 use Rattle.thin_shop.specs.declared.car.Car.{Car}
 use Rattle.thin_shop.specs.declared.handling.Desk.{Desk}
