@@ -50,10 +50,16 @@ module _ (m : ByteMap) (start first room : ℕ) (bs : List ℕ) (place : ℕ →
       let (c, is, same) = put_err (clash m first bs) (over m first bs) e h in
       let low = clash_lowest m first bs c is in
       let (k, b, old, at, i, o, n) = low.0 in
-      let l = some_below bs k b i in
-      (c.at, same, ((k, b, old, l, at ∙ sym (near k (omega arith) l), i, o, n), λ a lt d.
-          let (j, x, y, lj, aj, ij, oj, nj) = d in
-          low.1 a lt (j, x, y, aj ∙ near j (omega arith) lj, ij, oj, nj)))
+      let l = some_below bs k b i in (
+        c.at,
+        same,
+        (
+          (k, b, old, l, at ∙ sym (near k (omega arith) l), i, o, n),
+          λ a lt d.
+              let (j, x, y, lj, aj, ij, oj, nj) = d in
+              low.1 a lt (j, x, y, aj ∙ near j (omega arith) lj, ij, oj, nj),
+        ),
+      )
 
   module _ (more : room < length bs) where
     size_d : length (drop room bs) ≡ length bs - room
@@ -105,11 +111,17 @@ module _ (m : ByteMap) (start first room : ℕ) (bs : List ℕ) (place : ℕ →
         let s = size_d in
         let under : start + (length bs - room) ≤ first = below more in
         let (k, b, old, at, i, o, n) = low.0 in
-        let l = some_below (drop room bs) k b i in
-        (c.at, same, (low_meets c.at low.0, λ a lt d. elim (part_of a d) [
-          | inl there ↦ low.1 a lt there
-          | inr above ↦ let q : a ≡ first + above.0 = above.3 in absurd (omega arith)
-        ]))
+        let l = some_below (drop room bs) k b i in (
+          c.at,
+          same,
+          (
+            low_meets c.at low.0,
+            λ a lt d. elim (part_of a d) [
+              | inl there ↦ low.1 a lt there
+              | inr above ↦ let q : a ≡ first + above.0 = above.3 in absurd (omega arith)
+            ],
+          ),
+        )
 
     high_err : (e : RecFault) → clash m start (drop room bs) ≡ None → putting (over m start (drop room bs)) first (take room bs) ≡ Err e → Lowest m place bs e
     high_err e free h =
@@ -118,14 +130,20 @@ module _ (m : ByteMap) (start first room : ℕ) (bs : List ℕ) (place : ℕ →
         let low = clash_lowest half first (take room bs) c is in
         let (k, b, old, at, i, o, n) = low.0 in
         let from : first ≤ c.at = omega arith in
-        let here : Differ m first (take room bs) c.at = (k, b, old, at, i, sym (kept c.at from) ∙ o, n) in
-        (c.at, same, (high_meets c.at here, λ a lt d. elim (part_of a d) [
-          | inl there ↦ clash_free m start (drop room bs) a free there
-          | inr above ↦
-              let (j, x, y, aj, ij, oj, nj) = above in
-              let up : first ≤ a = omega arith in
-              low.1 a lt (j, x, y, aj, ij, kept a up ∙ oj, nj)
-        ]))
+        let here : Differ m first (take room bs) c.at = (k, b, old, at, i, sym (kept c.at from) ∙ o, n) in (
+          c.at,
+          same,
+          (
+            high_meets c.at here,
+            λ a lt d. elim (part_of a d) [
+              | inl there ↦ clash_free m start (drop room bs) a free there
+              | inr above ↦
+                  let (j, x, y, aj, ij, oj, nj) = above in
+                  let up : first ≤ a = omega arith in
+                  low.1 a lt (j, x, y, aj, ij, kept a up ∙ oj, nj)
+            ],
+          ),
+        )
 
     two_err : (e : RecFault) → (putting m start (drop room bs) >>= λ half. putting half first (take room bs)) ≡ Err e → Lowest m place bs e
     two_err e h =

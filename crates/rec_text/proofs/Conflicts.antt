@@ -28,10 +28,13 @@ first_or m at b bs a (zero, c, old, e, i, o, n) =
 first_or m at b bs a (suc k, c, old, e, i, o, n) = let f : a ≡ at + 1 + k = (let h : a ≡ at + suc k = e in omega arith) in inr (k, c, old, f, i, o, n)
 
 skip : (m : ByteMap) (at b : ℕ) (bs : List ℕ) (low : ℕ) → ((old : ℕ) → get m at ≡ Some old → old ≡ b) → IsLowest (Differ m (at + 1) bs) (Some low) → IsLowest (Differ m at (b ∷ bs)) (Some low)
-skip m at b bs low same h = (later m at b bs low h.0, λ a l d. elim (first_or m at b bs a d) [
-  | inl here ↦ here.3 (same here.0 here.2)
-  | inr there ↦ h.1 a l there
-])
+skip m at b bs low same h = (
+  later m at b bs low h.0,
+  λ a l d. elim (first_or m at b bs a d) [
+    | inl here ↦ here.3 (same here.0 here.2)
+    | inr there ↦ h.1 a l there
+  ],
+)
 
 here_lowest : (m : ByteMap) (at b : ℕ) (bs : List ℕ) (old : ℕ) → get m at ≡ Some old → (old ≢ b) → IsLowest (Differ m at (b ∷ bs)) (Some at)
 here_lowest m at b bs old is ne = (

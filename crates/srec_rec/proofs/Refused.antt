@@ -85,9 +85,12 @@ record_err n (c ∷ k ∷ digits) e h =
           let test : (c ≡ 83) × (48 ≤ k) = both_tests c k is.0 in
           let digit : k ≡ 48 + (k - 48) = (let g = test.1 in omega arith) in
           elim (checked_err n (k - 48) (bytes_of digits) e is.1) [
-            | inl bad ↦ inl (bad.0, λ kind bytes f.
-                let kinds : k - 48 ≡ kind = (let s : k ≡ 48 + kind = ap second f.begins in omega arith) in
-                bad.1 bytes (ap bytes_of (ap rest f.begins) ∙ f.spelled) (ap (λ q. is_record q bytes) kinds ∙ f.form))
+            | inl bad ↦ inl (
+              bad.0,
+              λ kind bytes f.
+                  let kinds : k - 48 ≡ kind = (let s : k ≡ 48 + kind = ap second f.begins in omega arith) in
+                  bad.1 bytes (ap bytes_of (ap rest f.begins) ∙ f.spelled) (ap (λ q. is_record q bytes) kinds ∙ f.form),
+            )
             | inr bad ↦
                 let (same, (bs, o, f, s)) = bad in
                 inr (same, (k - 48, bs, record { digits = digits; begins = ap (λ x. x ∷ k ∷ digits) test.0 ∙ ap (λ x. 83 ∷ x ∷ digits) digit; spelled = o; form = f }, s))
@@ -95,11 +98,14 @@ record_err n (c ∷ k ∷ digits) e h =
       | inr bad ↦
           let b = bad.1 in
           let same : BadLine n ≡ e = cc in
-          inl (sym same, λ kind bytes f.
-              let letter : c ≡ 83 = ap first f.begins in
-              let digit : k ≡ 48 + kind = ap second f.begins in
-              let test : (nat_eq c 83 && nat_le 48 k) ≡ true = rw (eq-eqb c 83 letter, le-leb 48 k (omega arith)) refl in
-              false≢true (sym bad.0 ∙ test))
+          inl (
+            sym same,
+            λ kind bytes f.
+                let letter : c ≡ 83 = ap first f.begins in
+                let digit : k ≡ 48 + kind = ap second f.begins in
+                let test : (nat_eq c 83 && nat_le 48 k) ≡ true = rw (eq-eqb c 83 letter, le-leb 48 k (omega arith)) refl in
+                false≢true (sym bad.0 ∙ test),
+          )
     ]
 
 -- ------ a refusal of one record
