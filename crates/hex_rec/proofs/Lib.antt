@@ -6,3 +6,5 @@ pub mod Whole
 pub mod Back
 pub mod Round
 pub mod Cuts
+pub mod Meets
+pub mod Refused

@@ -1,6 +1,7 @@
 pub mod Adds
 pub mod Ends
 pub mod Spelled
+pub mod Conflicts
 pub mod Cuts
 pub mod Digits
 pub mod OneWay

@@ -3,3 +3,4 @@ pub mod Lines
 pub mod Whole
 pub mod Text
 pub mod Round
+pub mod Refused
