@@ -36,7 +36,6 @@ pub fn resolve(alloc: Global, root: &Element) -> Result<EcuMem, MemFault>
 {
     let mut document = Document::new(alloc);
     match document.read(alloc, root)? {
-        Err(refusal) => Err(fault_of(refusal)),
         Ok(()) => {
             let Document {
                 entries,
@@ -46,6 +45,7 @@ pub fn resolve(alloc: Global, root: &Element) -> Result<EcuMem, MemFault>
             } = document;
             link(alloc, &targets, entries)
         }
+        Err(refusal) => Err(fault_of(refusal)),
     }
 }
 

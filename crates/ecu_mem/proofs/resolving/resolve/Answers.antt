@@ -13,8 +13,8 @@ use Rattle.ecu_mem.proofs.resolving.resolve.Goals as goal
 pub returns-in-Ok-clause-value : goal.returns-in-Ok-clause-value
 returns-in-Ok-clause-value c =
     let read : Ok (entries_in c.read.new.self) ≡ entries_of c.args.root.now =
-    ap (λ (r : Reading ⊤). after r (entries_in c.read.new.self)) (sym c.in-Ok.is) ∙ (c.in_ok-refusal.ensures.value ∙ ap (λ (es : List Entry). over with_ecu_mem c.args.root.now (ecu_mems c.args.root.now) es) c.new-document.ensures.empty) in
-    resolved c.args.root.now (entries_in c.read.new.self) (get_by_text c.read.new.self.targets) c.link.result read c.in_ok-refusal.ensures.indexed.targets c.link.ensures
+    ap (λ (r : Reading ⊤). after r (entries_in c.read.new.self)) (sym c.in-Ok.is) ∙ (c.in_ok-read.ensures.value ∙ ap (λ (es : List Entry). over with_ecu_mem c.args.root.now (ecu_mems c.args.root.now) es) c.new-document.ensures.empty) in
+    resolved c.args.root.now (entries_in c.read.new.self) (get_by_text c.read.new.self.targets) c.link.result read c.in_ok-read.ensures.indexed.targets c.link.ensures
 
 pub returns-in-Ok-clause-whole : goal.returns-in-Ok-clause-whole
 returns-in-Ok-clause-whole c = resolved-whole c.args.root.now c.link.result (returns-in-Ok-clause-value c)
