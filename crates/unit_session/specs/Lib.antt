@@ -2,3 +2,4 @@ pub mod Judging
 pub mod Left
 pub mod Onward
 pub mod Session
+pub mod Whole
