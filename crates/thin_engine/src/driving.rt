@@ -176,7 +176,7 @@ fn run<S: Shop>(alloc: Global, shop: &mut S, tester: u16, unit: &UnitPlan) -> Re
     ensures runs { IsTrue S.tells_vehicle → IsUndisturbed (S.history shop.old) (S.history shop.new)
         → IsCount (S.history shop.old).disk_faults → IsCalm (S.history shop.old).disk_faults (S.history shop.new).disk_faults
         → (u : ControlUnit) → unit_at (vehicle_now (S.history shop.old)).units unit.now.address ≡ Some u → CanTake unit.now u
-        → HasRun result unit.now.address unit.now u (vehicle_now (S.history shop.new)) }
+        → HasRun result tester unit.now.address unit.now u (vehicle_now (S.history shop.new)) }
 {
     let route = Route {
         tester,
@@ -215,6 +215,9 @@ pub fn drive<S: Shop>(alloc: Global, shop: &mut S, tester: u16, plan: &Plan) -> 
         → Matches plan.now none_recorded (vehicle_now (S.history shop.old))
         → IsUntroubled (S.history shop.old) (S.history shop.new) → IsPlainRun (S.history shop.old) (S.history shop.new)
         → IsDriven plan.now (vehicle_now (S.history shop.old)) (vehicle_now (S.history shop.new)) result }
+    ensures tester { IsTrue S.tells_vehicle → Matches plan.now none_recorded (vehicle_now (S.history shop.old))
+        → IsUntroubled (S.history shop.old) (S.history shop.new) → IsPlainRun (S.history shop.old) (S.history shop.new)
+        → result ≡ Ended.Ran Outcome.Complete → (vehicle_now (S.history shop.new)).gateway.active ≡ Some tester }
 {
     match shop.len() {
         Ok(length) => {
