@@ -12,5 +12,5 @@ mod stage;
 #[cfg(test)]
 mod tests;
 
-pub use laws::done_means_the_whole_script;
+pub use laws::{done_means_the_whole_script, each_end_has_its_cause};
 pub use session::{Ask, UnitSession};
