@@ -1,20 +1,16 @@
 -- What an allowed event says.
-use Rattle.std.proofs.Common.{◌≡◌, ◌⊎◌, inl, inr, ℕ, zero, suc, ◌+◌, ◌<◌, ◌≤◌, true, false, List, [], ◌∷◌, Some, None, refl, sym, ◌∙◌, ap, subst, arith}
-use Rattle.std.specs.Prelude.{Bool, Option, ◌&&◌, ◌==◌, not, nat_lt, is_some, is_none}
-use Rattle.std.proofs.lemmas.Bool.{cases_Bool, false≢true, and_parts, and_from, ltb-true, eqb-true}
-use Rattle.uds_codec.specs.declared.request.Request.{Request}
-use Rattle.unit_model.specs.Step.{CanSend}
+use Rattle.std.proofs.Common.{◌≡◌, ℕ, ◌<◌, true, false, List, Some, None, refl}
+use Rattle.std.specs.Prelude.{Bool, Option, ◌&&◌, not, nat_lt, is_some, is_none}
+use Rattle.std.proofs.lemmas.Bool.{false≢true, and_parts, and_from, ltb-true}
 use Rattle.flash_plan.specs.declared.unit.UnitPlan.{UnitPlan}
-use Rattle.flash_plan.specs.declared.outcome.Outcome.{Outcome}
 use Rattle.flash_plan.specs.declared.outcome.Entry.TheVariants.{Complete}
 use Rattle.flash_plan.specs.Plan.{plan_of, count_of}
 use Rattle.bay_core.specs.Joint.{is_open_slot}
 use Rattle.bay_core.specs.declared.event.Heard.{Heard}
-use Rattle.bay_core.specs.declared.event.Event.{Event}
 use Rattle.bay_core.specs.declared.event.Event.TheVariants.{Sent, Collected}
 use Rattle.run_model.specs.Link.{is_up}
-use Rattle.run_model.specs.Script.{Place, AtIdent, AtBegin, AtProgram, AtSeed, AtKey, AtErase, AtDownload, AtBlock, AtExit, AtCheck, AtFinish, AtReset, AtDone, AtEnd, request_at, bytes_at}
-use Rattle.bay_core.specs.Core.{Slot, Core}
+use Rattle.run_model.specs.Script.{Place, AtIdent, AtBegin, AtProgram, AtSeed, AtKey, AtErase, AtDownload, AtBlock, AtExit, AtCheck, AtFinish, AtReset, AtDone, AtEnd, request_at}
+use Rattle.bay_core.specs.Core.{Core}
 use Rattle.bay_core.specs.Legal.{is_allowed, is_open_unit, is_clear, is_running, is_begin, is_done, may_begin, may_finish, is_ready, all_of, has_word, fits_inbox}
 use Rattle.run_model.specs.Places.{needs_request}
 

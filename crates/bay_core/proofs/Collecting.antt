@@ -1,38 +1,32 @@
 -- A step that collects: each unit stays together with its conversation.
-use Rattle.std.proofs.Common.{◌≡◌, ◌⊎◌, inl, inr, ℕ, ◌+◌, ◌<◌, ◌≤◌, true, false, List, [], ◌∷◌, ◌++◌, Some, None, refl, sym, ◌∙◌, ap, subst, arith}
-use Rattle.std.specs.Prelude.{Bool, Option, ◌==◌, ◌&&◌, is_some, is_none, if◌then◌else◌}
-use Rattle.std.proofs.lemmas.Bool.{cases_Bool, false≢true, both_ways, eqb-true, eq-eqb, and_parts}
-use Rattle.bay_core.proofs.Allowed.{CollectedFacts, collected_facts, asks_needs}
+use Rattle.std.proofs.Common.{◌≡◌, inl, inr, ℕ, ◌+◌, ◌<◌, true, false, List, refl, sym, subst, arith}
+use Rattle.std.specs.Prelude.{Bool, ◌==◌}
+use Rattle.std.proofs.lemmas.Bool.{cases_Bool, false≢true, both_ways, eqb-true, eq-eqb}
+use Rattle.bay_core.proofs.Allowed.{CollectedFacts, collected_facts}
 use Rattle.bay_core.proofs.Joined.{up_open, open_live}
-use Rattle.bay_core.proofs.Links.{Steps, heard_steps, taken_steps}
+use Rattle.bay_core.proofs.Links.{Steps, heard_steps}
 use Rattle.bay_core.proofs.Piecing.{piece_first, piece_unit, known_address}
-use Rattle.bay_core.proofs.Slots.{unit_after, idle_unit}
+use Rattle.bay_core.proofs.Slots.{unit_after}
 use Rattle.bay_core.proofs.Sounds.{units_received}
 use Rattle.bay_core.proofs.Takes.{other_unit, takes_unit, taken_state, quiet_unit}
 use Rattle.bay_core.proofs.Ticking.{tick_unit}
-use Rattle.bay_core.specs.Core.{Slot, Core, core_after, with_slot, with_talk, collects, slots_own, heard_link, taken_link, link_after, addresses_of}
+use Rattle.bay_core.specs.Core.{Slot, Core, core_after, with_slot, slots_own, heard_link, link_after, addresses_of}
 use Rattle.bay_core.specs.Joint.{IsJoint, IsUnitJoint, is_open_slot}
 use Rattle.bay_core.specs.Legal.{is_allowed}
 use Rattle.bay_core.specs.Moves.{Receives}
-use Rattle.bay_core.specs.declared.event.Event.TheVariants.{Claimed, Began, Sent, Collected, Tended, Completed, DiskFailed, Ended}
-use Rattle.bay_core.specs.declared.event.Event.{Event}
+use Rattle.bay_core.specs.declared.event.Event.TheVariants.{Collected}
 use Rattle.bay_core.specs.declared.event.Heard.TheVariants.{Kept, Quiet, Piece, Lost}
 use Rattle.bay_core.specs.declared.event.Heard.{Heard}
-use Rattle.bay_core.specs.declared.event.Tend.TheVariants.{Dialed, Asked, Said, Polled}
-use Rattle.bay_core.specs.declared.event.Tend.{Tend}
-use Rattle.flash_plan.specs.Plan.{IsAccepted, IsAcceptedUnit, plan_of, count_of}
+use Rattle.flash_plan.specs.Plan.{IsAccepted, plan_of, count_of}
 use Rattle.flash_plan.specs.declared.outcome.Entry.{Entry}
 use Rattle.flash_plan.specs.declared.unit.LinkRules.{LinkRules}
 use Rattle.flash_plan.specs.declared.unit.UnitPlan.{UnitPlan}
 use Rattle.run_model.proofs.Alike.{state_in_same}
 use Rattle.run_model.proofs.Along.{says}
-use Rattle.run_model.specs.Connected.{IsConnected}
-use Rattle.run_model.specs.Link.{Link, Phase, Down, Fresh, Waits, Up, Denied, is_up, is_live, is_open, is_waiting, hear_piece, take_word, first_word, quiet_link, polled_quiet, unanswered, drop_link}
-use Rattle.run_model.specs.Places.{needs_request}
-use Rattle.run_model.specs.Script.{Place, bytes_at, request_at}
+use Rattle.run_model.specs.Link.{Link, Phase, Down, Fresh, Waits, Up, Denied, is_up, is_live, is_waiting, hear_piece, take_word, first_word, quiet_link, polled_quiet}
+use Rattle.run_model.specs.Script.{bytes_at, request_at}
 use Rattle.run_model.specs.States.{StateIn}
-use Rattle.run_model.specs.Talk.{Talk, talk_takes, talk_quiet}
-use Rattle.run_model.specs.Ways.{Spoken, AwaitsIn, on_way, words_from}
+use Rattle.run_model.specs.Ways.{on_way}
 use Rattle.uds_codec.specs.Request.{request_of}
 use Rattle.unit_model.proofs.Units.{SameUnits}
 use Rattle.unit_model.specs.Poll.{Ticks, IsShown, ticked}

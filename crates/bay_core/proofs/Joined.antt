@@ -1,20 +1,19 @@
 -- Link and gateway stay together.
-use Rattle.std.proofs.Common.{◌≡◌, ◌⊎◌, inl, inr, ℕ, true, false, List, [], Some, None, refl, sym, ◌∙◌, ap, subst}
-use Rattle.std.specs.Prelude.{Bool, Option, ◌&&◌}
-use Rattle.std.proofs.lemmas.Bool.{cases_Bool, false≢true, both_ways, and_parts}
-use Rattle.bay_core.proofs.Allowed.{SentFacts, sent_facts, CollectedFacts, collected_facts}
+use Rattle.std.proofs.Common.{◌≡◌, inl, inr, ℕ, true, false, List, refl, sym, ◌∙◌, ap, subst}
+use Rattle.std.specs.Prelude.{Bool}
+use Rattle.std.proofs.lemmas.Bool.{cases_Bool, false≢true, and_parts}
+use Rattle.bay_core.proofs.Allowed.{sent_facts, collected_facts}
 use Rattle.bay_core.proofs.Ticks.{between, sent_can}
 use Rattle.bay_core.specs.Core.{Core, core_after, addresses_of, heard_link, taken_link, tended_link, link_after}
 use Rattle.bay_core.specs.Joint.{IsJoint}
 use Rattle.bay_core.specs.Legal.{is_allowed, may_tend}
-use Rattle.bay_core.specs.Moves.{Moves, Receives, Tends, request_frame}
+use Rattle.bay_core.specs.Moves.{Moves, Receives, Tends}
 use Rattle.bay_core.specs.declared.event.Event.TheVariants.{Claimed, Began, Sent, Collected, Tended, Completed, DiskFailed, Ended}
 use Rattle.bay_core.specs.declared.event.Event.{Event}
 use Rattle.bay_core.specs.declared.event.Heard.TheVariants.{Kept, Quiet, Piece, Lost}
 use Rattle.bay_core.specs.declared.event.Heard.{Heard}
 use Rattle.bay_core.specs.declared.event.Tend.TheVariants.{Dialed, Asked, Said, Polled}
 use Rattle.bay_core.specs.declared.event.Tend.{Tend}
-use Rattle.flash_plan.specs.declared.outcome.Entry.TheVariants.{Begun, Complete}
 use Rattle.flash_plan.specs.declared.outcome.Entry.{Entry}
 use Rattle.flash_plan.specs.declared.unit.LinkRules.{LinkRules}
 use Rattle.flash_plan.specs.declared.unit.UnitPlan.{UnitPlan}

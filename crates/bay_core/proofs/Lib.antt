@@ -1,6 +1,8 @@
+pub mod Addressed
 pub mod Allowed
 pub mod Collecting
 pub mod Joined
+pub mod LinkLaws
 pub mod Links
 pub mod OneStep
 pub mod Piecing

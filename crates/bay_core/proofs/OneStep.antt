@@ -1,8 +1,9 @@
 -- Each event keeps the joint state, and so does each legal list.
-use Rattle.std.proofs.Common.{◌≡◌, ◌⊎◌, inl, inr, ℕ, ◌+◌, ◌<◌, true, false, List, [], ◌∷◌, Some, None, refl, sym, ◌∙◌, ap, subst, arith}
-use Rattle.std.specs.Prelude.{Bool, Option, ◌&&◌, IsTrue, is_some}
+use Rattle.std.proofs.Common.{◌≡◌, ◌⊎◌, inl, inr, ℕ, ◌<◌, true, false, List, [], ◌∷◌, Some, None, refl, sym, ◌∙◌, ap, subst, arith}
+use Rattle.std.specs.Prelude.{Bool, Option, is_some}
 use Rattle.std.proofs.lemmas.Bool.{cases_Bool, false≢true, both_ways, and_parts}
-use Rattle.bay_core.proofs.Allowed.{FinishFacts, finish_facts, BeginFacts, begin_facts, running_stop}
+use Rattle.bay_core.proofs.Addressed.{addressed_kept}
+use Rattle.bay_core.proofs.Allowed.{finish_facts, begin_facts, running_stop}
 use Rattle.bay_core.proofs.Collecting.{collected_kept}
 use Rattle.bay_core.proofs.Joined.{connected_kept}
 use Rattle.bay_core.proofs.Recorded.{records_kept}
@@ -12,8 +13,8 @@ use Rattle.bay_core.proofs.Slots.{IsStill, still_kept, idle_unit}
 use Rattle.bay_core.proofs.Sounds.{sound_kept}
 use Rattle.bay_core.proofs.Tending.{tended_kept}
 use Rattle.bay_core.proofs.Ticks.{ticks_kept}
-use Rattle.bay_core.specs.Core.{Slot, Core, core_start, core_after, link_after}
-use Rattle.bay_core.specs.Joint.{IsJoint, IsUnitJoint, RecordsAgree}
+use Rattle.bay_core.specs.Core.{Core, core_start, core_after}
+use Rattle.bay_core.specs.Joint.{IsJoint, IsUnitJoint}
 use Rattle.bay_core.specs.Law.{State, MovesAll, JointAll, StepLaw, CoreLaw}
 use Rattle.bay_core.specs.Legal.{is_allowed, is_legal}
 use Rattle.bay_core.specs.Moves.{Moves}
@@ -62,6 +63,7 @@ module _ (rules : LinkRules) (P : List UnitPlan) (c : Core) (R R2 : Entry → Bo
     records = records_kept rules P c e R R2 v v2 (sure e ok) did joint.records;
     sound = sound_kept rules P c R v v0 t0 accepted joint e R2 v2 ok did;
     connected = connected_kept rules P c e R R2 v v2 v0 t0 accepted ok did joint;
+    addressed = addressed_kept rules P c R R2 v v2 v0 t0 accepted joint e ok did;
     units = units_kept e ok did;
     ticks = ticks_kept rules P c e R R2 v v2 v0 t0 accepted ok did joint;
     sane = sane_kept rules P c accepted joint.sane e ok;
@@ -76,6 +78,7 @@ start_joint rules P found s v0 accepted sound is = record {
   records = record { has = λ e r. ap (λ (f : Entry → Bool). f e) is ∙ r; only = λ e r. inl (ap (λ (f : Entry → Bool). f e) (sym is) ∙ r) };
   sound = subst (λ (f : Entry → Bool). IsSound P f s.vehicle v0) (sym is) sound;
   connected = λ live. absurd (false≢true live);
+  addressed = λ live. absurd (false≢true live);
   units = λ n lt. idle_unit rules.tester (plan_of P n) (core_start P found).link ((core_start P found).slots n) s.vehicle refl (λ o i. absurd (false≢true o));
   ticks = omega arith;
   sane = sane_start P found accepted (λ n lt done. ((sound n lt).complete done).0);

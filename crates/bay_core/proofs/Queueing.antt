@@ -1,16 +1,16 @@
 -- What a request that a unit heard puts on the way: released answers keep their place, and another unit's words stay.
-use Rattle.std.proofs.Common.{◌≡◌, ◌⊎◌, inl, inr, ℕ, zero, suc, ◌+◌, ◌<◌, ◌≤◌, true, false, List, [], ◌∷◌, ◌++◌, Some, None, refl, sym, ◌∙◌, ap, subst, arith, append_assoc}
-use Rattle.std.specs.Prelude.{Bool, Option, ◌==◌, ◌&&◌, not, nat_le, filter, map, if◌then◌else◌}
-use Rattle.std.proofs.lemmas.Bool.{cases_Bool, cases_lt, false≢true, both_ways, eq-eqb, ne_eqb, and_parts, and_from, le-leb, lt-leb, leb-true}
+use Rattle.std.proofs.Common.{◌≡◌, inl, inr, ℕ, ◌≤◌, true, false, List, [], ◌∷◌, ◌++◌, refl, sym, ◌∙◌, ap, subst, arith, append_assoc}
+use Rattle.std.specs.Prelude.{Bool, ◌==◌, ◌&&◌, nat_le, filter, map, if◌then◌else◌}
+use Rattle.std.proofs.lemmas.Bool.{cases_Bool, both_ways, eq-eqb, and_parts, and_from, le-leb}
 use Rattle.std.proofs.lemmas.List.{append-nil}
 use Rattle.bay_core.proofs.Ticking.{left_nil, right_nil, bodies, held_bodies}
 use Rattle.bay_core.specs.Joint.{held_of}
 use Rattle.doip_frame.specs.Frame.{Stream, stream_of, message_bytes, ack_bytes, nack_bytes}
 use Rattle.flash_base.specs.Lists.{Each}
-use Rattle.run_model.proofs.Replies.{Timely, said_words}
-use Rattle.run_model.proofs.Whole.{stream_more, whole_append, whole_none, message_whole, message_frames, ack_whole, ack_frames, nack_whole, nack_frames}
+use Rattle.run_model.proofs.Replies.{Timely}
+use Rattle.run_model.proofs.Whole.{stream_more, whole_append, whole_none, message_whole, message_frames, ack_frames, nack_frames}
 use Rattle.run_model.proofs.Words.{words_more}
-use Rattle.run_model.specs.Ways.{Spoken, Reply, Unheard, IsWhole, words_from, words_in, words_later, words_held, on_way, ascends_for, is_empty_words}
+use Rattle.run_model.specs.Ways.{Spoken, Reply, Unheard, IsWhole, words_from, words_in, words_later, on_way, ascends_for, is_empty_words}
 use Rattle.unit_model.specs.Feed.{Word, enqueue, queue_word, queue_words, tester_of, waits_for, released, words_of}
 use Rattle.unit_model.specs.Step.{CanSend}
 use Rattle.unit_model.specs.Vehicle.{HeldAnswer, Gateway}

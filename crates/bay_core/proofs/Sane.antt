@@ -1,20 +1,19 @@
 -- What the events alone keep.
-use Rattle.std.proofs.Common.{◌≡◌, ◌⊎◌, inl, inr, ℕ, ◌+◌, ◌<◌, ◌≤◌, true, false, List, [], ◌∷◌, Some, None, refl, sym, ◌∙◌, ap, subst, arith}
-use Rattle.std.specs.Prelude.{Bool, Option, ◌==◌, ◌&&◌, ◌||◌, is_some, is_none, nat_lt, if◌then◌else◌, IsTrue}
+use Rattle.std.proofs.Common.{◌≡◌, inl, inr, ℕ, ◌+◌, ◌<◌, true, false, List, [], ◌∷◌, Some, None, refl, sym, ◌∙◌, ap, subst, arith}
+use Rattle.std.specs.Prelude.{Bool, Option, ◌==◌, ◌||◌, is_some, nat_lt, IsTrue}
 use Rattle.std.proofs.lemmas.Bool.{cases_Bool, false≢true, both_ways, and_parts, and_right, eqb-true, eq-eqb, le-ltb, lt-ltb}
-use Rattle.bay_core.proofs.Allowed.{SentFacts, sent_facts, CollectedFacts, collected_facts, BeginFacts, begin_facts, FinishFacts, finish_facts, ClaimFacts, claim_facts, asks_needs, open_claimed}
-use Rattle.bay_core.proofs.Links.{Steps, Dropped, Stays, heard_steps, taken_steps, tend_steps}
+use Rattle.bay_core.proofs.Allowed.{sent_facts, collected_facts, begin_facts, finish_facts, claim_facts, asks_needs, open_claimed}
+use Rattle.bay_core.proofs.Links.{Steps, heard_steps, taken_steps, tend_steps}
 use Rattle.bay_core.proofs.Talks.{start_talk, start_going, lost_talk, lost_idle, lost_going, sent_talk, takes_talk, quiet_talk, more_talk}
-use Rattle.bay_core.specs.Core.{Slot, Core, with_slot, with_talk, slot_start, core_start, slot_claimed, collects, slots_own, slots_lost, recorded_after, doubt_after, stop_after, link_stop, is_disk_failure, core_after, heard_link, tended_link, link_after}
+use Rattle.bay_core.specs.Core.{Slot, Core, with_slot, with_talk, core_start, collects, slots_own, recorded_after, doubt_after, stop_after, is_disk_failure, core_after, heard_link, link_after}
 use Rattle.bay_core.specs.Joint.{IsTalk, IsSlot, IsSane, is_open_slot}
-use Rattle.bay_core.specs.Legal.{is_allowed, all_of, may_tend, may_finish, is_done, is_running}
+use Rattle.bay_core.specs.Legal.{is_allowed, all_of, may_tend, is_done}
 use Rattle.bay_core.specs.declared.event.Event.TheVariants.{Claimed, Began, Sent, Collected, Tended, Completed, DiskFailed, Ended}
 use Rattle.bay_core.specs.declared.event.Event.{Event}
 use Rattle.bay_core.specs.declared.event.Heard.TheVariants.{Kept, Quiet, Piece, Lost}
 use Rattle.bay_core.specs.declared.event.Heard.{Heard}
-use Rattle.bay_core.specs.declared.event.Tend.TheVariants.{Dialed, Asked, Said, Polled}
+use Rattle.bay_core.specs.declared.event.Tend.TheVariants.{Dialed, Asked}
 use Rattle.bay_core.specs.declared.event.Tend.{Tend}
-use Rattle.flash_base.specs.Lists.{Each}
 use Rattle.flash_plan.specs.Plan.{IsAccepted, IsAcceptedUnit, plan_of, count_of}
 use Rattle.flash_plan.specs.declared.outcome.Entry.TheVariants.{Begun, Complete}
 use Rattle.flash_plan.specs.declared.outcome.Entry.{Entry}
@@ -23,8 +22,8 @@ use Rattle.flash_plan.specs.declared.unit.LinkRules.{LinkRules}
 use Rattle.flash_plan.specs.declared.unit.UnitPlan.{UnitPlan}
 use Rattle.run_model.proofs.Ranges.{each_map}
 use Rattle.run_model.specs.Entries.{with_entry}
-use Rattle.run_model.specs.Link.{Link, Phase, Down, Fresh, Waits, Up, Denied, is_up, is_down, is_fresh, is_waiting, lost_or, first_word}
-use Rattle.run_model.specs.Places.{is_ended, needs_begun}
+use Rattle.run_model.specs.Link.{Link, Phase, Down, Fresh, Waits, Up, Denied, is_up, is_down, is_fresh, first_word}
+use Rattle.run_model.specs.Places.{needs_begun}
 use Rattle.run_model.specs.Script.{Place, AtIdent, AtBegin, AtProgram, AtSeed, AtKey, AtErase, AtDownload, AtBlock, AtExit, AtCheck, AtFinish, AtReset, AtDone, AtEnd}
 use Rattle.run_model.specs.Sound.{AllComplete}
 use Rattle.run_model.specs.Talk.{Talk, talk_start, talk_lost, talk_sent}

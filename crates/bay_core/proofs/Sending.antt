@@ -1,7 +1,7 @@
 -- A request that was sent: its unit hears it or misses it, and the others stay.
-use Rattle.std.proofs.Common.{◌≡◌, ◌⊎◌, inl, inr, ℕ, zero, suc, ◌+◌, ◌<◌, ◌≤◌, true, false, List, [], ◌∷◌, ◌++◌, Some, None, refl, sym, ◌∙◌, ap, subst, arith, append_assoc}
-use Rattle.std.specs.Prelude.{Bool, Option, ◌==◌, ◌&&◌, not, nat_le, filter, unwrap_or, if◌then◌else◌}
-use Rattle.std.proofs.lemmas.Bool.{cases_Bool, cases_eq, false≢true, both_ways, eqb-true, eq-eqb, ne_eqb, and_parts}
+use Rattle.std.proofs.Common.{◌≡◌, ◌⊎◌, inl, inr, ℕ, ◌<◌, true, false, List, [], ◌∷◌, ◌++◌, Some, None, refl, sym, ◌∙◌, ap, subst, arith, append_assoc}
+use Rattle.std.specs.Prelude.{Bool, Option, ◌==◌, not, nat_le, filter, if◌then◌else◌}
+use Rattle.std.proofs.lemmas.Bool.{cases_Bool, cases_eq, false≢true, both_ways, eqb-true, eq-eqb, ne_eqb}
 use Rattle.std.proofs.lemmas.List.{append-nil}
 use Rattle.bay_core.proofs.Allowed.{SentFacts, sent_facts, asks_needs}
 use Rattle.bay_core.proofs.Joined.{up_open, open_live}
@@ -9,39 +9,36 @@ use Rattle.bay_core.proofs.Queueing.{queue_more, released_bytes, release_is, fil
 use Rattle.bay_core.proofs.Slots.{unit_after}
 use Rattle.bay_core.proofs.Ticking.{left_nil, right_nil, bodies, held_bodies, way_holds_none, up_tester, up_active}
 use Rattle.bay_core.proofs.Ticks.{between, sent_can}
-use Rattle.bay_core.specs.Core.{Slot, Core, core_after, with_slot, with_talk, slots_own, link_after}
-use Rattle.bay_core.specs.Joint.{IsJoint, IsSlotJoint, IsUnitJoint, IsLoneHeld, HoldsAtMost, held_of, is_open_slot}
+use Rattle.bay_core.specs.Core.{Slot, Core, core_after, with_slot, with_talk, link_after}
+use Rattle.bay_core.specs.Joint.{IsJoint, IsUnitJoint, HoldsAtMost, held_of, is_open_slot}
 use Rattle.bay_core.specs.Legal.{is_allowed}
 use Rattle.bay_core.specs.Moves.{FeedsOr, request_frame}
 use Rattle.bay_core.specs.declared.event.Event.TheVariants.{Sent}
-use Rattle.doip_frame.proofs.Cuts.{number2_of}
-use Rattle.doip_frame.specs.Frame.{Stream, stream_of, addressed, message_bytes, ack_bytes, nack_bytes}
+use Rattle.doip_frame.specs.Frame.{stream_of, message_bytes, ack_bytes, nack_bytes}
 use Rattle.doip_frame.specs.declared.frame.Frame.TheVariants.{Message}
-use Rattle.doip_frame.specs.declared.frame.Frame.{Frame}
-use Rattle.flash_base.specs.Lists.{Each}
 use Rattle.flash_plan.specs.Plan.{IsAccepted, plan_of, count_of}
 use Rattle.flash_plan.specs.declared.outcome.Entry.{Entry}
 use Rattle.flash_plan.specs.declared.unit.LinkRules.{LinkRules}
 use Rattle.flash_plan.specs.declared.unit.UnitPlan.{UnitPlan}
 use Rattle.run_model.proofs.Alike.{state_in_same, awaits_same}
-use Rattle.run_model.proofs.Hearing.{Stepped, HeardAtMost, sent_heard, found_address}
-use Rattle.run_model.proofs.Replies.{Timely, Clear, said_words, replies_way, heard_it, step_timely}
-use Rattle.run_model.proofs.Sends.{IsBetween, message_sends}
-use Rattle.run_model.proofs.Whole.{whole_append, ack_whole, nack_whole, message_length}
+use Rattle.run_model.proofs.Hearing.{HeardAtMost, sent_heard, found_address}
+use Rattle.run_model.proofs.Replies.{Timely, said_words, replies_way, heard_it, step_timely}
+use Rattle.run_model.proofs.Sends.{message_sends}
+use Rattle.run_model.proofs.Whole.{whole_append, ack_whole, nack_whole}
 use Rattle.run_model.specs.Connected.{IsConnected}
-use Rattle.run_model.specs.Link.{Link, Phase, Down, Fresh, Waits, Up, Denied, is_up, is_live}
+use Rattle.run_model.specs.Link.{Link, is_up, is_live}
 use Rattle.run_model.specs.Places.{is_ended, needs_request}
-use Rattle.run_model.specs.Script.{Place, AtIdent, AtBegin, AtProgram, AtSeed, AtKey, AtErase, AtDownload, AtBlock, AtExit, AtCheck, AtFinish, AtReset, AtDone, AtEnd, bytes_at, request_at}
+use Rattle.run_model.specs.Script.{Place, AtIdent, AtBegin, AtProgram, AtSeed, AtKey, AtErase, AtDownload, AtBlock, AtExit, AtCheck, AtFinish, AtReset, AtDone, AtEnd, bytes_at}
 use Rattle.run_model.specs.States.{StateAt, StateIn}
-use Rattle.run_model.specs.Talk.{Talk, talk_sent}
-use Rattle.run_model.specs.Ways.{Spoken, Reply, Unheard, IsWhole, words_from, words_in, words_later, words_held, on_way, ascends_for, HeardIt, MissedIt, AwaitsIn}
+use Rattle.run_model.specs.Talk.{talk_sent}
+use Rattle.run_model.specs.Ways.{Spoken, Reply, Unheard, IsWhole, words_from, words_in, words_later, words_held, on_way, ascends_for, AwaitsIn}
 use Rattle.uds_codec.specs.Request.{sid_of}
-use Rattle.unit_model.proofs.Feeding.{Handled, fed_whole}
+use Rattle.unit_model.proofs.Feeding.{Handled}
 use Rattle.unit_model.proofs.Steps.{step_frames}
 use Rattle.unit_model.proofs.Units.{SameState, SameIn, SameUnits, same_self, with_same, with_other}
-use Rattle.unit_model.specs.Feed.{Feeds, FeedsPart, Word, with_unit, queue_word, queue_words, tester_of, waits_for, released, words_of, Handles, HandlesMessage, HandlesAt, Nacks, Hears, Refuses}
+use Rattle.unit_model.specs.Feed.{Feeds, Word, with_unit, queue_word, queue_words, tester_of, waits_for, released, words_of, HandlesMessage, HandlesAt, Nacks, Hears, Refuses}
 use Rattle.unit_model.specs.Step.{CanSend, UnitStep, Holds, raise_code}
-use Rattle.unit_model.specs.Unit.{ControlUnit, Counts, obedient}
+use Rattle.unit_model.specs.Unit.{ControlUnit, obedient}
 use Rattle.unit_model.specs.Vehicle.{HeldAnswer, Gateway, Vehicle, unit_at}
 use Rattle.unit_model.specs.declared.reply.Due.TheVariants.{At, Held}
 use Rattle.unit_model.specs.declared.reply.Due.{Due}
@@ -57,20 +54,20 @@ tick_kept (x ∷ xs) g = tick_kept xs (queue_word g x.unit x.sid x.reply.due x.r
 
 -- ------ a request to the unit at t goes on to the gateway
 module _ (tester t : ℕ) (bytes : List ℕ) (l : Link) (v w : Vehicle) (c : IsConnected tester l v.gateway) (up : is_up l.phase ≡ true) where
-  abbrev sid : ℕ
+  abbrev pub sid : ℕ
   sid = sid_of bytes
 
-  abbrev waits : HeldAnswer → Bool
+  abbrev pub waits : HeldAnswer → Bool
   waits h = waits_for t sid h
 
   -- the gateway with its own answer, and with the answers that are let go
-  abbrev answered : List ℕ → List HeldAnswer → Gateway
+  abbrev pub answered : List ℕ → List HeldAnswer → Gateway
   answered frame held = record v.gateway { ready = v.gateway.ready ++ frame; held = held; unfinished = [] }
 
-  abbrev acked : Gateway
+  abbrev pub acked : Gateway
   acked = answered (ack_bytes t tester) (filter (λ h. not (waits h)) v.gateway.held)
 
-  abbrev let_out : Gateway
+  abbrev pub let_out : Gateway
   let_out = record acked { ready = acked.ready ++ released_bytes tester (filter waits v.gateway.held) }
 
   -- how it came out

@@ -1,12 +1,12 @@
 -- One unit after an event: where the link was lost only its state counts, and where nothing changed it stays.
-use Rattle.std.proofs.Common.{◌≡◌, ◌⊎◌, inl, inr, ℕ, ◌+◌, ◌<◌, ◌≤◌, true, false, List, [], ◌∷◌, Some, None, refl, sym, ◌∙◌, ap, subst, arith}
-use Rattle.std.specs.Prelude.{Bool, Option, ◌==◌, ◌&&◌, nat_lt, is_none, is_some, if◌then◌else◌}
+use Rattle.std.proofs.Common.{◌≡◌, inl, inr, ℕ, ◌+◌, ◌<◌, true, false, List, [], ◌∷◌, Some, None, refl, sym, ◌∙◌, ap, subst, arith}
+use Rattle.std.specs.Prelude.{Bool, Option, ◌==◌, nat_lt}
 use Rattle.std.proofs.lemmas.Bool.{cases_Bool, false≢true, both_ways, and_right, and_parts, le-ltb, lt-ltb, eqb-true}
-use Rattle.bay_core.proofs.Allowed.{BeginFacts, begin_facts, FinishFacts, finish_facts, ClaimFacts, claim_facts, open_claimed, open_slot}
+use Rattle.bay_core.proofs.Allowed.{begin_facts, claim_facts, open_claimed}
 use Rattle.bay_core.proofs.Links.{Steps}
 use Rattle.bay_core.proofs.Sane.{event_steps}
-use Rattle.bay_core.specs.Core.{Slot, Core, core_after, with_slot, with_talk, slots_own, recorded_after, link_after}
-use Rattle.bay_core.specs.Joint.{IsJoint, IsSlotJoint, IsUnitJoint, HoldsAtMost, is_open_slot}
+use Rattle.bay_core.specs.Core.{Slot, Core, core_after, with_slot, slots_own, recorded_after, link_after}
+use Rattle.bay_core.specs.Joint.{IsJoint, IsSlotJoint, IsUnitJoint, is_open_slot}
 use Rattle.bay_core.specs.Legal.{is_allowed, is_begin}
 use Rattle.bay_core.specs.declared.event.Event.TheVariants.{Claimed, Began, Sent, Collected, Tended, Completed, DiskFailed, Ended}
 use Rattle.bay_core.specs.declared.event.Event.{Event}
@@ -17,7 +17,7 @@ use Rattle.flash_plan.specs.declared.unit.LinkRules.{LinkRules}
 use Rattle.flash_plan.specs.declared.unit.UnitPlan.{UnitPlan}
 use Rattle.flash_plan.specs.declared.unit.Wanted.{Wanted}
 use Rattle.run_model.proofs.Alike.{state_in_same, awaits_same}
-use Rattle.run_model.specs.Link.{Link, Phase, Down, is_live}
+use Rattle.run_model.specs.Link.{Link, Down, is_live}
 use Rattle.run_model.specs.Places.{is_ended, needs_request}
 use Rattle.run_model.specs.Script.{Place, AtIdent, AtBegin, AtProgram, AtSeed, AtKey, AtErase, AtDownload, AtBlock, AtExit, AtCheck, AtFinish, AtReset, AtDone, AtEnd, start_place, idents_from}
 use Rattle.run_model.specs.States.{StateIn}

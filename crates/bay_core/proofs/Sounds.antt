@@ -1,13 +1,13 @@
 -- Records and vehicle stay sound.
-use Rattle.std.proofs.Common.{◌≡◌, ◌⊎◌, inl, inr, ℕ, ◌+◌, ◌<◌, true, false, List, Some, None, refl, sym, ◌∙◌, ap, subst}
-use Rattle.std.specs.Prelude.{Bool, Option, ◌==◌, ◌&&◌, ◌||◌, MatchOption, IsTrue, is_some, is_none, nat_lt}
+use Rattle.std.proofs.Common.{◌≡◌, inl, inr, ℕ, ◌+◌, ◌<◌, true, false, List, Some, None, refl, sym, ◌∙◌, ap, subst}
+use Rattle.std.specs.Prelude.{Bool, Option, MatchOption, IsTrue, is_some}
 use Rattle.std.proofs.lemmas.Bool.{cases_Bool, both_ways, eqb-true, false≢true, and_parts}
-use Rattle.bay_core.proofs.Allowed.{SentFacts, sent_facts, below_count, asks_needs, open_claimed, open_slot, running_stop}
+use Rattle.bay_core.proofs.Allowed.{sent_facts, below_count, asks_needs, open_claimed, open_slot, running_stop}
 use Rattle.bay_core.proofs.Sane.{done_begun}
 use Rattle.bay_core.proofs.Ticks.{between, sent_can}
 use Rattle.bay_core.specs.Core.{Core}
-use Rattle.bay_core.specs.Joint.{IsJoint, is_open_slot}
-use Rattle.bay_core.specs.Legal.{is_allowed, may_tend, may_begin, may_finish, is_open_unit, is_done}
+use Rattle.bay_core.specs.Joint.{IsJoint}
+use Rattle.bay_core.specs.Legal.{is_allowed, may_tend, may_begin, may_finish, is_done}
 use Rattle.bay_core.specs.Moves.{Moves, Receives, Tends}
 use Rattle.bay_core.specs.declared.event.Event.TheVariants.{Claimed, Began, Sent, Collected, Tended, Completed, DiskFailed, Ended}
 use Rattle.bay_core.specs.declared.event.Event.{Event}
@@ -21,12 +21,12 @@ use Rattle.flash_plan.specs.declared.unit.LinkRules.{LinkRules}
 use Rattle.flash_plan.specs.declared.unit.UnitPlan.{UnitPlan}
 use Rattle.flash_plan.specs.Plan.{IsAccepted, plan_of, count_of}
 use Rattle.run_model.proofs.Along.{says}
-use Rattle.run_model.proofs.Hearing.{Stepped, HeardAtMost, all_same, sent_heard, asked_units, said_units}
+use Rattle.run_model.proofs.Hearing.{all_same, sent_heard, asked_units, said_units}
 use Rattle.run_model.proofs.Ranges.{each_map}
 use Rattle.run_model.proofs.Sounds.{MaySend, sound_same, sound_begun, sound_complete, sound_stepped}
 use Rattle.run_model.specs.Entries.{with_entry}
 use Rattle.run_model.specs.Link.{Phase, Down, Fresh, Waits, Up, Denied, is_live, is_up, is_fresh}
-use Rattle.run_model.specs.Places.{needs_begun, needs_request}
+use Rattle.run_model.specs.Places.{needs_request}
 use Rattle.run_model.specs.Script.{Place, AtIdent, AtBegin, AtProgram, AtSeed, AtKey, AtErase, AtDownload, AtBlock, AtExit, AtCheck, AtFinish, AtReset, AtDone, AtEnd, bytes_at}
 use Rattle.run_model.specs.Sound.{IsSound, IsProgrammed, AllComplete}
 use Rattle.run_model.specs.States.{StateAt, StateIn}

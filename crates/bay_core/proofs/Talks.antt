@@ -1,16 +1,16 @@
 -- A conversation stays at places of the plan's script.
-use Rattle.std.proofs.Common.{◌≡◌, ◌⊎◌, inl, inr, ℕ, ◌+◌, true, false, List, [], ◌∷◌, Some, None, refl, sym, ◌∙◌, ap, subst}
-use Rattle.std.specs.Prelude.{Bool, Option, ◌==◌, nat_le, is_some, if◌then◌else◌}
+use Rattle.std.proofs.Common.{◌≡◌, inl, inr, ℕ, ◌+◌, true, false, List, [], ◌∷◌, Some, None, refl}
+use Rattle.std.specs.Prelude.{Bool, Option, ◌==◌, nat_le}
 use Rattle.std.proofs.lemmas.Bool.{cases_Bool, false≢true, both_ways}
 use Rattle.bay_core.specs.Joint.{IsTalk}
 use Rattle.flash_plan.specs.Plan.{IsAcceptedUnit}
 use Rattle.flash_plan.specs.declared.outcome.Outcome.{Outcome}
 use Rattle.flash_plan.specs.declared.unit.UnitPlan.{UnitPlan}
 use Rattle.flash_plan.specs.declared.unit.Wanted.{Wanted}
-use Rattle.run_model.proofs.Along.{IsGoodPlace, start_good, goes, goes_begun}
-use Rattle.run_model.specs.Places.{IsPlace, IsAsked, is_ended, needs_begun, needs_request}
-use Rattle.run_model.specs.Script.{Place, AtIdent, AtBegin, AtProgram, AtSeed, AtKey, AtErase, AtDownload, AtBlock, AtExit, AtCheck, AtFinish, AtReset, AtDone, AtEnd, start_place, idents_from, place_next, bytes_at}
-use Rattle.run_model.specs.Talk.{Talk, talk_start, end_talk, keeps_on_loss, talk_lost, talk_sent, talk_final, talk_judged, talk_hears, talk_takes, talk_quiet}
+use Rattle.run_model.proofs.Along.{start_good, goes, goes_begun}
+use Rattle.run_model.specs.Places.{is_ended, needs_begun, needs_request}
+use Rattle.run_model.specs.Script.{Place, AtIdent, AtBegin, AtProgram, AtSeed, AtKey, AtErase, AtDownload, AtBlock, AtExit, AtCheck, AtFinish, AtReset, AtDone, AtEnd, start_place, idents_from, bytes_at}
+use Rattle.run_model.specs.Talk.{Talk, talk_start, end_talk, keeps_on_loss, talk_lost, talk_sent, talk_judged, talk_hears, talk_takes, talk_quiet}
 use Rattle.run_model.specs.Ways.{Spoken, Reply, Unheard}
 use Rattle.uds_codec.specs.Answer.{Verdict, Later, Again, Refusal, Good, Bad_status, Strange, judge}
 

@@ -1,41 +1,37 @@
 -- A step for the link: each unit stays together with its conversation.
-use Rattle.std.proofs.Common.{◌≡◌, ◌⊎◌, inl, inr, ℕ, ◌+◌, ◌<◌, ◌≤◌, true, false, List, [], ◌∷◌, ◌++◌, Some, None, refl, sym, ◌∙◌, ap, subst, arith}
-use Rattle.std.specs.Prelude.{Bool, Option, ◌==◌, ◌&&◌, if◌then◌else◌}
+use Rattle.std.proofs.Common.{◌≡◌, inl, inr, ℕ, ◌+◌, ◌<◌, true, false, List, [], ◌∷◌, ◌++◌, None, refl, sym, ◌∙◌, ap, subst, arith}
+use Rattle.std.specs.Prelude.{Bool}
 use Rattle.std.proofs.lemmas.Bool.{cases_Bool, false≢true, both_ways, and_parts}
 use Rattle.bay_core.proofs.Joined.{up_open, waiting_open, open_live, fresh_live}
-use Rattle.bay_core.proofs.Links.{Steps, heard_steps}
+use Rattle.bay_core.proofs.Links.{heard_steps}
 use Rattle.bay_core.proofs.Piecing.{piece_unit, known_address}
 use Rattle.bay_core.proofs.Slots.{unit_after, idle_unit, same_slot}
 use Rattle.bay_core.proofs.Sounds.{units_tended}
 use Rattle.bay_core.proofs.Ticking.{tick_unit}
 use Rattle.bay_core.proofs.Ticks.{between}
-use Rattle.bay_core.specs.Core.{Slot, Core, core_after, slots_own, heard_link, tended_link, link_after, addresses_of}
-use Rattle.bay_core.specs.Joint.{IsJoint, IsSlotJoint, IsUnitJoint, HoldsAtMost, is_open_slot}
+use Rattle.bay_core.specs.Core.{Slot, Core, core_after, tended_link, link_after, addresses_of}
+use Rattle.bay_core.specs.Joint.{IsJoint, IsUnitJoint, HoldsAtMost, is_open_slot}
 use Rattle.bay_core.specs.Legal.{is_allowed, may_tend}
 use Rattle.bay_core.specs.Moves.{Tends}
-use Rattle.bay_core.specs.declared.event.Event.TheVariants.{Claimed, Began, Sent, Collected, Tended, Completed, DiskFailed, Ended}
-use Rattle.bay_core.specs.declared.event.Event.{Event}
+use Rattle.bay_core.specs.declared.event.Event.TheVariants.{Tended}
 use Rattle.bay_core.specs.declared.event.Heard.TheVariants.{Kept, Quiet, Piece, Lost}
-use Rattle.bay_core.specs.declared.event.Heard.{Heard}
 use Rattle.bay_core.specs.declared.event.Tend.TheVariants.{Dialed, Asked, Said, Polled}
 use Rattle.bay_core.specs.declared.event.Tend.{Tend}
-use Rattle.flash_plan.specs.Plan.{IsAccepted, IsAcceptedUnit, plan_of, count_of}
+use Rattle.flash_plan.specs.Plan.{IsAccepted, plan_of, count_of}
 use Rattle.flash_plan.specs.declared.outcome.Entry.{Entry}
 use Rattle.flash_plan.specs.declared.unit.LinkRules.{LinkRules}
 use Rattle.flash_plan.specs.declared.unit.UnitPlan.{UnitPlan}
-use Rattle.doip_frame.specs.Frame.{Stream, stream_of, activated_bytes}
+use Rattle.doip_frame.specs.Frame.{stream_of, activated_bytes}
 use Rattle.doip_frame.specs.declared.frame.Frame.TheVariants.{Activate, AliveSay}
 use Rattle.run_model.proofs.Alike.{state_in_same}
 use Rattle.run_model.proofs.Connected.{FreshParts, fresh_parts}
 use Rattle.run_model.proofs.Sends.{Sends, activate_sends, alive_sends}
-use Rattle.run_model.specs.Connected.{IsConnected}
-use Rattle.run_model.specs.Link.{Link, Phase, Down, Fresh, Waits, Up, Denied, is_up, is_live, is_fresh, is_down, is_open, is_waiting, hear_piece, quiet_link, polled_quiet, unanswered, drop_link, fresh_link}
+use Rattle.run_model.specs.Link.{Link, Phase, Down, Fresh, Waits, Up, Denied, is_up, is_live, is_fresh, is_down, is_waiting, hear_piece, quiet_link, polled_quiet, unanswered, fresh_link}
 use Rattle.run_model.specs.States.{StateIn}
-use Rattle.run_model.specs.Ways.{Spoken, words_from, words_in, words_later, words_held, on_way, ascends_for}
-use Rattle.uds_codec.specs.Request.{sid_of}
+use Rattle.run_model.specs.Ways.{words_from, words_in, words_later, words_held, on_way, ascends_for}
 use Rattle.unit_model.proofs.Units.{SameIn, SameUnits, same_self}
 use Rattle.unit_model.specs.Feed.{Activation, Accepts, Denies, Delays, Ignores, activation, Activates, Nothing, queue_words}
-use Rattle.unit_model.specs.Poll.{Ticks, IsShown, ticked}
+use Rattle.unit_model.specs.Poll.{Ticks, IsShown}
 use Rattle.unit_model.specs.Vehicle.{Gateway, Vehicle, unit_at, redialed}
 
 fresh_not_up : (p : Phase) → is_fresh p ≡ true → is_up p ≡ false

@@ -1,8 +1,8 @@
 -- The vehicle's tick goes with the link's.
-use Rattle.std.proofs.Common.{◌≡◌, ◌⊎◌, inl, inr, ℕ, ◌+◌, ◌<◌, true, false, List, Some, None, refl, sym, ◌∙◌, ap, subst, arith}
-use Rattle.std.specs.Prelude.{Bool, Option, ◌&&◌, is_some, if◌then◌else◌}
+use Rattle.std.proofs.Common.{◌≡◌, ◌⊎◌, inl, inr, ℕ, ◌+◌, ◌<◌, true, false, List, refl, sym, ◌∙◌, ap, arith}
+use Rattle.std.specs.Prelude.{Bool, is_some}
 use Rattle.std.proofs.lemmas.Bool.{cases_Bool, false≢true, and_parts}
-use Rattle.bay_core.proofs.Allowed.{SentFacts, sent_facts, asks_needs}
+use Rattle.bay_core.proofs.Allowed.{sent_facts, asks_needs}
 use Rattle.bay_core.specs.Core.{Core, core_after, addresses_of, heard_link, taken_link, tended_link, link_after}
 use Rattle.bay_core.specs.Joint.{IsJoint}
 use Rattle.bay_core.specs.Legal.{is_allowed, may_tend}
@@ -13,7 +13,6 @@ use Rattle.bay_core.specs.declared.event.Heard.TheVariants.{Kept, Quiet, Piece, 
 use Rattle.bay_core.specs.declared.event.Heard.{Heard}
 use Rattle.bay_core.specs.declared.event.Tend.TheVariants.{Dialed, Asked, Said, Polled}
 use Rattle.bay_core.specs.declared.event.Tend.{Tend}
-use Rattle.flash_plan.specs.declared.outcome.Entry.TheVariants.{Begun, Complete}
 use Rattle.flash_plan.specs.declared.outcome.Entry.{Entry}
 use Rattle.flash_plan.specs.declared.unit.LinkRules.{LinkRules}
 use Rattle.flash_plan.specs.declared.unit.UnitPlan.{UnitPlan}

@@ -1,15 +1,14 @@
 -- What each event keeps: records, vehicle, link and conversations fit together.
 use Rattle.std.specs.Prelude.{◌≡◌, ◌⊎◌, ℕ, ◌+◌, ◌<◌, Bool, true, false, ◌&&◌, ◌==◌, List, [], ◌∷◌, Option, Some, None, IsTrue, is_none, filter}
-use Rattle.flash_base.specs.Lists.{Each}
 use Rattle.flash_plan.specs.Plan.{plan_of, count_of}
 use Rattle.flash_plan.specs.declared.outcome.Entry.{Entry}
 use Rattle.flash_plan.specs.declared.outcome.Entry.TheVariants.{Begun, Complete}
 use Rattle.flash_plan.specs.declared.unit.LinkRules.{LinkRules}
 use Rattle.flash_plan.specs.declared.unit.UnitPlan.{UnitPlan}
-use Rattle.run_model.specs.Connected.{IsConnected}
+use Rattle.run_model.specs.Connected.{IsConnected, IsAddressed}
 use Rattle.run_model.specs.Link.{Link, is_live, is_up}
 use Rattle.run_model.specs.Places.{IsPlace, IsAsked, is_ended, needs_begun, needs_request}
-use Rattle.run_model.specs.Script.{Place, bytes_at}
+use Rattle.run_model.specs.Script.{bytes_at}
 use Rattle.run_model.specs.Sound.{IsSound, AllComplete}
 use Rattle.run_model.specs.States.{StateIn}
 use Rattle.run_model.specs.Talk.{Talk}
@@ -85,6 +84,7 @@ pub record IsJoint (rules : LinkRules) (P : List UnitPlan) (c : Core) (R : Entry
   pub records : RecordsAgree c R
   pub sound : IsSound P R v v0
   pub connected : IsTrue (is_live c.link.phase) → IsConnected rules.tester c.link v.gateway
+  pub addressed : IsTrue (is_live c.link.phase) → IsAddressed rules.tester c.link v.gateway
   pub units : (n : ℕ) → n < count_of P → IsUnitJoint rules.tester (plan_of P n) c.link (c.slots n) v
   pub ticks : v.gateway.tick ≡ t0 + c.link.ticks
   pub sane : IsSane P c

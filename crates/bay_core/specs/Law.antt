@@ -1,13 +1,12 @@
 -- The law of the core: each legal event keeps everything together.
-use Rattle.std.specs.Prelude.{◌≡◌, ◌⊎◌, ℕ, ◌<◌, Bool, List, [], ◌∷◌, IsTrue}
+use Rattle.std.specs.Prelude.{◌≡◌, ℕ, Bool, List, [], ◌∷◌, IsTrue}
 use Rattle.flash_plan.specs.declared.unit.UnitPlan.{UnitPlan}
 use Rattle.unit_model.specs.Vehicle.{Vehicle}
 use Rattle.flash_plan.specs.declared.unit.LinkRules.{LinkRules}
 use Rattle.flash_plan.specs.declared.outcome.Entry.{Entry}
-use Rattle.flash_plan.specs.declared.outcome.Entry.TheVariants.{Begun, Complete}
-use Rattle.flash_plan.specs.Plan.{IsAccepted, count_of}
+use Rattle.flash_plan.specs.Plan.{IsAccepted}
 use Rattle.bay_core.specs.declared.event.Event.{Event}
-use Rattle.bay_core.specs.Core.{Core, core_start, core_after, core_of}
+use Rattle.bay_core.specs.Core.{Core, core_start, core_after}
 use Rattle.bay_core.specs.Legal.{is_allowed, is_legal}
 use Rattle.bay_core.specs.Moves.{Moves}
 use Rattle.run_model.specs.Sound.{IsSound}

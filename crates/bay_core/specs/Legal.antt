@@ -1,5 +1,5 @@
 -- Which events are allowed.
-use Rattle.std.specs.Prelude.{◌≡◌, ℕ, zero, suc, ◌+◌, Bool, true, false, ◌&&◌, ◌||◌, ◌==◌, not, nat_le, nat_lt, List, [], ◌∷◌, length, Option, Some, None, is_some, is_none, if◌then◌else◌}
+use Rattle.std.specs.Prelude.{ℕ, zero, suc, Bool, true, false, ◌&&◌, ◌||◌, ◌==◌, not, nat_lt, List, [], ◌∷◌, Option, Some, None, is_some, is_none, if◌then◌else◌}
 use Rattle.flash_plan.specs.declared.outcome.Outcome.TheVariants.{DiskFault, NoMemory, Blocked}
 use Rattle.flash_plan.specs.declared.unit.UnitPlan.{UnitPlan}
 use Rattle.flash_plan.specs.declared.unit.LinkRules.{LinkRules}
@@ -14,10 +14,9 @@ use Rattle.bay_core.specs.declared.event.Tend.{Tend}
 use Rattle.bay_core.specs.declared.event.Tend.TheVariants.{Dialed, Asked, Said, Polled}
 use Rattle.bay_core.specs.declared.event.Event.{Event}
 use Rattle.bay_core.specs.declared.event.Event.TheVariants.{Claimed, Began, Sent, Collected, Tended, Completed, DiskFailed, Ended}
-use Rattle.run_model.specs.Link.{Link, is_down, is_fresh, is_waiting, is_up, first_word}
-use Rattle.run_model.specs.Script.{Place, AtIdent, AtBegin, AtProgram, AtSeed, AtKey, AtErase, AtDownload, AtBlock, AtExit, AtCheck, AtFinish, AtReset, AtDone, AtEnd, request_at}
-use Rattle.run_model.specs.Talk.{Talk}
-use Rattle.bay_core.specs.Core.{Slot, Core, core_after}
+use Rattle.run_model.specs.Link.{is_down, is_fresh, is_waiting, is_up, first_word}
+use Rattle.run_model.specs.Script.{Place, AtBegin, AtDone, AtEnd, request_at}
+use Rattle.bay_core.specs.Core.{Core, core_after}
 
 abbrev pub each_below : ℕ → (ℕ → Bool) → Bool
 each_below zero p = true

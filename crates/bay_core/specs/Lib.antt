@@ -2,4 +2,5 @@ pub mod Core
 pub mod Joint
 pub mod Law
 pub mod Legal
+pub mod LinkLaws
 pub mod Moves

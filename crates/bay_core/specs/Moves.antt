@@ -1,5 +1,5 @@
 -- What one event does to the vehicle and to the records.
-use Rattle.std.specs.Prelude.{◌≡◌, ◌⊎◌, ℕ, Bool, true, false, List, MatchBool}
+use Rattle.std.specs.Prelude.{◌≡◌, ◌⊎◌, ℕ, Bool, List, MatchBool}
 use Rattle.flash_plan.specs.declared.unit.UnitPlan.{UnitPlan}
 use Rattle.run_model.specs.Entries.{with_entry}
 use Rattle.bay_core.specs.Core.{Core}

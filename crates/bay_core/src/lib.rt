@@ -6,6 +6,7 @@
 //! - `Core`: what a list of events makes of a run.
 //! - `Legal`: which event is allowed after those before it.
 //! - `Moves`: what one event does to the vehicle and to the records.
+//! - `LinkLaws`: what the link's definition gives, in the link's own words.
 //! - `Joint`: what each event keeps. `Law`: the law over every legal list.
 #![tactic(auto)]
 
@@ -13,4 +14,6 @@ mod event;
 mod laws;
 
 pub use event::{Event, Events, Heard, Tend};
-pub use laws::{each_event_keeps_the_joint_state, each_legal_list_keeps_the_joint_state};
+pub use laws::{
+    a_loss_is_one_of_four, each_event_keeps_the_joint_state, each_legal_list_keeps_the_joint_state,
+};

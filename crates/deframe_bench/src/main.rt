@@ -1,12 +1,12 @@
-//! Deframes streams of the longest frames in pieces, and counts what came. With an argument it also
-//! prints the time beside that of a plain copy of the same bytes in the same pieces.
+//! Deframes streams in pieces, and counts what came. With an argument it also prints the time beside that of a plain
+//! copy of the same bytes in the same pieces, and the ratio of the two.
 #![tactic(auto)]
 
 ghost use Rattle.std.specs.Prelude.{◌<◌};
 
 use doip_frame::Deframer;
 use std::alloc::{AllocError, Global};
-use std::time::Instant;
+use std::time::{Clock, Instant};
 use std::{env, io};
 
 /// Frames of one payload size, one after another.
@@ -46,11 +46,11 @@ fn deframed(alloc: Global, stream: &[u8], piece: usize) -> u64
     count
 }
 
-/// The length of a copy of the stream, made in pieces.
-fn copied(alloc: Global, stream: &[u8], piece: usize) -> Result<usize, AllocError>
+/// Copies the stream in pieces, in place of what the list had.
+fn copy_into(copy: &mut Vec<u8>, stream: &[u8], piece: usize) -> Result<(), AllocError>
     requires { 0 < piece }
 {
-    let mut copy = Vec::with_capacity(alloc, stream.len())?;
+    copy.clear();
     let mut rest = stream;
     for _ in 0..stream.len() {
         if rest.is_empty() {
@@ -60,7 +60,35 @@ fn copied(alloc: Global, stream: &[u8], piece: usize) -> Result<usize, AllocErro
         copy.extend_from_slice(&rest[..n])?;
         rest = &rest[n..];
     }
-    Ok(copy.len())
+    Ok(())
+}
+
+/// Prints how many frames come of the stream, and where `is_timed` how long that took beside a copy into memory that is there.
+fn measure<R: Print + Clock + Alloc<A = Global>>(
+    rt: &R,
+    stream: &[u8],
+    piece: usize,
+    is_timed: bool,
+) -> io::Result<()>
+    requires { 0 < piece }
+{
+    let alloc = rt.alloc();
+    let mut copy = Vec::with_capacity(alloc, stream.len())?;
+    copy_into(&mut copy, stream, piece)?;
+    let start = Instant::now(rt)?;
+    let got = deframed(alloc, stream, piece);
+    let frames_time = start.elapsed(rt)?.as_micros();
+    let start = Instant::now(rt)?;
+    copy_into(&mut copy, stream, piece)?;
+    let copy_time = start.elapsed(rt)?.as_micros();
+    let length = copy.len();
+    println!(rt; "in pieces of {piece}: {got} frames of {length} bytes")?;
+    if is_timed {
+        let hundredths = frames_time.saturating_mul(100) / copy_time.max(1);
+        let (whole, part) = (hundredths / 100, hundredths % 100);
+        println!(rt; "  {frames_time} us, a copy {copy_time} us, ratio {whole}.{part:02}")?;
+    }
+    Ok(())
 }
 
 fn main(rt: HostRuntime) -> io::Result<()> {
@@ -69,17 +97,9 @@ fn main(rt: HostRuntime) -> io::Result<()> {
     let frames = if is_timed { 1000usize } else { 20 };
     for size in [65_600u32, 4097, 5] {
         let bytes = stream(alloc, frames, size)?;
+        println!(rt; "payload {size}")?;
         for piece in [1448usize, 4096, 65_536] {
-            let start = Instant::now(&rt)?;
-            let got = deframed(alloc, bytes.as_slice(), piece);
-            let frames_time = start.elapsed(&rt)?.as_micros();
-            let start = Instant::now(&rt)?;
-            let length = copied(alloc, bytes.as_slice(), piece)?;
-            let copy_time = start.elapsed(&rt)?.as_micros();
-            println!(rt; "payload {size}, pieces of {piece}: {got} frames of {length} bytes")?;
-            if is_timed {
-                println!(rt; "  {frames_time} us, a copy {copy_time} us")?;
-            }
+            measure(&rt, bytes.as_slice(), piece, is_timed)?;
         }
     }
     Ok(())

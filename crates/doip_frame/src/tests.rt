@@ -196,17 +196,7 @@ fn lengths(rt: HostRuntime) -> Result<(), Fail> {
     for (kind, allowed, end) in rows.iter() {
         for said in 0..*end {
             let mut bytes = Vec::new(alloc);
-            let head = [
-                0x03,
-                0xfc,
-                (*kind / 256) as u8,
-                (*kind % 256) as u8,
-                0,
-                0,
-                0,
-            ];
-            bytes.extend_from_slice(&head)?;
-            bytes.push((said % 256) as u8)?;
+            bytes.extend_from_slice(&header(*kind, said))?;
             for i in 0..said {
                 bytes.push((i % 256) as u8)?;
             }
@@ -223,30 +213,61 @@ fn lengths(rt: HostRuntime) -> Result<(), Fail> {
     Ok(())
 }
 
-/// The greatest length, and one more, which is refused before the length of the kind.
+/// A header of a kind with a length below 2^24.
+fn header(kind: u16, said: u32) -> [u8; 8] {
+    [
+        0x03,
+        0xfc,
+        (kind / 256) as u8,
+        (kind % 256) as u8,
+        0,
+        (said / 0x1_0000 % 256) as u8,
+        (said / 0x100 % 256) as u8,
+        (said % 256) as u8,
+    ]
+}
+
+/// The greatest length in pieces, and one more, which is refused before the length of the kind.
 #[test]
 fn greatest(rt: HostRuntime) -> Result<(), Fail> {
     let alloc = rt.alloc();
-    let mut bytes = Vec::new(alloc);
-    bytes.extend_from_slice(b"\x03\xfc\x80\x01\x00\x01\x00\x40")?;
-    for i in 0..65_600u32 {
-        bytes.push((i % 251) as u8)?;
+    let block = vec![in alloc; 0x5au8; 4096]?;
+    for kind in [0x8001u16, 0x8002, 0x8003, 0x4001] {
+        let mut deframer = Deframer::new(alloc);
+        let fed = deframer.feed(&header(kind, 65_600))?;
+        assert_eq!(rt; (fed.frames.len(), refusal(&fed)), (0, (0, 0)));
+        for _ in 0..16u32 {
+            let fed = deframer.feed(block.as_slice())?;
+            assert_eq!(rt; (fed.frames.len(), refusal(&fed)), (0, (0, 0)));
+        }
+        let fed = deframer.feed(&block[..63])?;
+        assert_eq!(rt; (fed.frames.len(), refusal(&fed)), (0, (0, 0)));
+        let fed = deframer.feed(&block[..2])?;
+        assert_eq!(rt; (fed.frames.len(), refusal(&fed)), (1, (1, 0)));
     }
-    let mut deframer = Deframer::new(alloc);
-    let mut rest = bytes.as_slice();
-    let mut count = 0usize;
-    for _ in 0..200u32 {
-        let n = rest.len().min(4096);
-        let fed = deframer.feed(&rest[..n])?;
-        assert_eq!(rt; refusal(&fed), (0, 0));
-        count = count.wrapping_add(fed.frames.len());
-        rest = &rest[n..];
+    for kind in [0u16, 5, 6, 7, 8, 0x8001, 0x8002, 0x8003, 0x4001] {
+        let mut deframer = Deframer::new(alloc);
+        let fed = deframer.feed(&header(kind, 65_601))?;
+        assert_eq!(rt; (fed.frames.len(), refusal(&fed)), (0, (3, 65_601)));
     }
-    assert_eq!(rt; (count, rest.len()), (1, 0));
-    let mut deframer = Deframer::new(alloc);
-    let fed = deframer.feed(b"\x03\xfc\x00\x00\x00\x01\x00\x41")?;
-    assert_eq!(rt; refusal(&fed), (3, 65_601));
     Ok(())
+}
+
+/// The longest message is written with its length, and read again.
+#[test]
+fn longest_message(rt: HostRuntime) -> Result<(), Fail> {
+    let alloc = rt.alloc();
+    let body = Bytes::from_vec(vec![in alloc; 0x5au8; 65_596]?);
+    assert!(rt; body.len() == 65_596);
+    let mut bytes = Vec::new(alloc);
+    bytes.extend_from_slice(b"\x03\xfc\x80\x01\x00\x01\x00\x40\x0e\x80\x10\x01")?;
+    bytes.extend_from_slice(body.as_slice())?;
+    let message = Frame::Message {
+        source: 0x0e80,
+        target: 0x1001,
+        body,
+    };
+    is_written(&rt, alloc, &message, bytes.as_slice())
 }
 
 /// One frame of each kind, in a stream.

@@ -8,6 +8,7 @@ ghost use Rattle.run_model.specs.Troubles.{IsUntroubled};
 ghost use Rattle.run_report.specs.Report.{report_text};
 ghost use Rattle.shop_model.specs.History.{disk_now, vehicle_now};
 ghost use Rattle.thin_engine.specs.Later.{IsUnchanged};
+ghost use Rattle.thin_engine.specs.Sounding.{KeepsSound};
 ghost use Rattle.thin_engine.specs.Undisturbed.{IsPlainRun, none_recorded};
 ghost use Rattle.thin_journal.specs.Entries.{RecordsBoth};
 ghost use Rattle.flash_top.specs.Building.{built, IsOutside};
@@ -63,6 +64,12 @@ pub fn flash<R: Threads + Wait + Sync, F: Shelf, S: Shop + Send, K: Sink>(
 
     // What is refused before a run leaves disk and vehicle as they were.
     ensures refused { IsBefore result.1 → IsUnchanged (S.history shop) (S.history result.0) }
+
+    // Where the records of whatever a crash leaves of the disk fit the vehicle at entry, they do at each moment, as long as each
+    // receive was shown: whatever the status is.
+    ensures sound { IsTrue F.tells → IsTrue S.tells_disk → IsTrue S.tells_vehicle
+        → (order : List ℕ) (b : Built) → words_of (map string_bytes words.now) ≡ Some order → built (F.contents shelf.old) order ≡ Ok b
+        → ¬ Rises (F.faults shelf.old) (F.faults shelf.new) → KeepsSound b.plan (S.history shop) (S.history result.0) }
 
     // At `Done` whatever a crash leaves of the disk records that the unit is begun and complete, and the report was printed.
     ensures done { IsTrue F.tells → IsTrue K.tells → result.1 ≡ Status.Done
@@ -120,6 +127,9 @@ fn serve<F: Shelf, S: Shop, K: Sink>(
     ensures disk { result ≡ Status.Disk → Rises (S.history shop.old).disk_faults (S.history shop.new).disk_faults }
     ensures sink { result ≡ Status.Sink → Rises (K.faults out.old) (K.faults out.new) }
     ensures refused { IsBefore result → IsUnchanged (S.history shop.old) (S.history shop.new) }
+    ensures sound { IsTrue F.tells → IsTrue S.tells_disk → IsTrue S.tells_vehicle
+        → (b : Built) → built (F.contents shelf.old) order.now ≡ Ok b → ¬ Rises (F.faults shelf.old) (F.faults shelf.new)
+        → KeepsSound b.plan (S.history shop.old) (S.history shop.new) }
     ensures done { IsTrue F.tells → IsTrue K.tells → result ≡ Status.Done
         → (b : Built) → built (F.contents shelf.old) order.now ≡ Ok b
         → ¬ Rises (F.faults shelf.old) (F.faults shelf.new) → ¬ Rises (K.faults out.old) (K.faults out.new)

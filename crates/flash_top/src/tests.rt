@@ -1,9 +1,14 @@
 use crate::building::{BuildFault, Built, build};
+use crate::flashing::flash;
+use crate::status::Status;
 use crate::words::order_in;
 use flash_base::{Bytes, Files, NoMemory, Text};
-use flash_shelf::MemoryShelf;
+use flash_shelf::{MemoryShelf, MemorySink};
 use std::alloc::Global;
+use std::sync::Wait;
 use std::test::Fail;
+use std::thread::Threads;
+use thin_shop::ThinShop;
 
 /// A word for each answer of the building.
 fn word(answer: &Result<Built, BuildFault>) -> &'static str {
@@ -102,5 +107,118 @@ fn words(rt: HostRuntime) -> Result<(), Fail> {
     }
     let alone = vec![in alloc; String::from_str(alloc, "run")?]?;
     assert_eq!(rt; order_in(alone.as_slice()), None);
+    Ok(())
+}
+
+/// The order of the smallest run: `abc` at address 1000 of unit 1001.
+const SMALLEST: &str =
+    "{\"tester\":\"0E80\",\"relinks\":0,\"tasks\":[{\"name\":\"A\",\"unit\":\"1001\",\"check\":\"0202\",\"raw\":\"a.bin\",\"at\":\"1000\"}]}";
+
+/// Its requests in order, each in hexadecimal on a line of its own; the check is given the SHA-256 of `abc` (FIPS 180-4).
+const REQUESTS: &str = "1002\n\
+3101ff00440000100000000003\n\
+3400440000100000000003\n\
+3601616263\n\
+37\n\
+31010202440000100000000003ba7816bf8f01cfea414140de5dae2223b00361a396177a9cb410ff61f20015ad\n\
+3101ff01\n\
+1101";
+
+/// Its report. The digest is the SHA-256 of the 38 canonical bytes of the plan.
+const REPORT: &str = "plan a41528293bb2c3c3d84ba53557cfbe530f6031fc9bae916ec7108fcf4f683f7e\n\
+unit A 1001 complete\n\
+complete 1 of 1\n";
+
+/// Its journal: the header with two slots and the same digest, both gates open, and the entries begun and complete of unit 0.
+const JOURNAL: &str = "a54f4458464a4e4c0100000000000002\
+a41528293bb2c3c3d84ba53557cfbe530f6031fc9bae916ec7108fcf4f683f7e\
+00000000000000000000000000000000\
+a5a5\
+01000000000000000000000000000000\
+02000000000000000000000000000000";
+
+fn run_words(alloc: Global) -> Result<Vec<String>, NoMemory> {
+    let words = vec![in alloc;
+        String::from_str(alloc, "run")?,
+        String::from_str(alloc, "one.json")?,
+        String::from_str(alloc, "1")?,
+    ]?;
+    Ok(words)
+}
+
+/// The smallest run over a shelf, a shop and a sink in memory.
+fn run_smallest<R: Threads + Wait + Sync>(
+    rt: &R,
+    alloc: Global,
+) -> Result<(ThinShop, Status, MemorySink), NoMemory> {
+    let mut shelf = shelf_of(alloc, SMALLEST)?;
+    let words = run_words(alloc)?;
+    let mut sink = MemorySink::new(alloc, &[])?;
+    let shop = ThinShop::new(alloc)?;
+    let (shop, status) = flash(rt, alloc, words.as_slice(), &mut shelf, shop, &mut sink);
+    Ok((shop, status, sink))
+}
+
+fn is_done(status: Status) -> bool {
+    status == Status::Done
+}
+
+/// Whether the text is these bytes in hexadecimal.
+fn spells(text: &str, bytes: &[u8]) -> bool {
+    let digits = *b"0123456789abcdef";
+    let text = text.as_bytes();
+    if text.len() % 2 != 0 || text.len() / 2 != bytes.len() {
+        return false;
+    }
+    for i in 0..bytes.len() {
+        let high = digits[(bytes[i] / 16) as usize];
+        let low = digits[(bytes[i] % 16) as usize];
+        if text[2 * i] != high || text[2 * i + 1] != low {
+            return false;
+        }
+    }
+    true
+}
+
+/// Whether the lines are these bodies.
+fn lines_spell(text: &str, bodies: &[Bytes]) -> bool {
+    let mut lines = text.split('\n');
+    for body in bodies {
+        let Some(line) = lines.next() else {
+            return false;
+        };
+        if !spells(line, body.as_slice()) {
+            return false;
+        }
+    }
+    lines.next().is_none()
+}
+
+/// Whether the region begins with `abc` and is otherwise as it was made.
+fn is_programmed(shop: &ThinShop) -> bool {
+    let Some(region) = shop.car().memory(0x1000, 0x1000) else {
+        return false;
+    };
+    region.len() == 0x1000 && region.starts_with(b"abc") && is_blank(&region[3..])
+}
+
+fn is_blank(bytes: &[u8]) -> bool {
+    for byte in bytes {
+        if *byte != 0xff {
+            return false;
+        }
+    }
+    true
+}
+
+#[test]
+fn smallest_run(rt: HostRuntime) -> Result<(), Fail> {
+    let alloc = rt.alloc();
+    let (shop, status, sink) = run_smallest(&rt, alloc)?;
+    assert!(rt; is_done(status));
+    assert!(rt; sink.written() == REPORT.as_bytes());
+    assert!(rt; lines_spell(REQUESTS, shop.car().heard()));
+    assert!(rt; is_programmed(&shop));
+    assert!(rt; spells(JOURNAL, shop.disk().bytes()));
     Ok(())
 }

@@ -106,7 +106,7 @@ applied_ok done line bytes s whole h r ne new old =
           (λ k. false≢true (sym other ∙ eq-eqb (kind_of bytes) 0 k)) ne
     ]
 
-stepped : (s t : State) (n : ℕ) (line bytes : List ℕ) → s.ended ≡ false → IsRecord line bytes → applied s bytes ≡ Ok t → step s n line ≡ Ok t
+pub stepped : (s t : State) (n : ℕ) (line bytes : List ℕ) → s.ended ≡ false → IsRecord line bytes → applied s bytes ≡ Ok t → step s n line ≡ Ok t
 stepped s t n [] bytes f r e = let l : 0 ≡ suc (length r.digits) = ap length r.colon in absurd (omega arith)
 stepped s t n (c ∷ cs) bytes f r e =
     ap (λ b. cond b (Err (AfterEnd n)) (record_of n (c ∷ cs) >>= applied s)) f ∙ ap (λ q. q >>= applied s) (record_is n (c ∷ cs) bytes r) ∙ e
@@ -118,12 +118,12 @@ early done line a b more g =
     (f, l, k ++ more, bytes, base, i, ap (λ t. t ++ more) whole ∙ append_assoc f (l ∷ k) more, r, kind, based, lt, at, got)
 
 -- where reading stands behind some records
-abbrev Behind : List (List ℕ) → List (List ℕ) → List (List ℕ) → State → ℕ → Type 0
-Behind done front rest s n = (t : State) × (k : ℕ) × (t.ended ≡ false) × Holding (done ++ front) t.base t.spans × (read_from s n (front ++ rest) ≡ read_from t k rest)
+abbrev pub Behind : List (List ℕ) → List (List ℕ) → List (List ℕ) → State → ℕ → Type 0
+Behind done front rest s n = (t : State) × (k : ℕ) × (t.ended ≡ false) × Holding (done ++ front) t.base t.spans × (read_from s n (front ++ rest) ≡ read_from t k rest) × (k ≡ n + length front)
 
-follow : (done front rest : List (List ℕ)) (s : State) (n : ℕ) (whole : ByteMap) → s.ended ≡ false → Holding done s.base s.spans → AreRecords front
+pub follow : (done front rest : List (List ℕ)) (s : State) (n : ℕ) (whole : ByteMap) → s.ended ≡ false → Holding done s.base s.spans → AreRecords front
     → ((a b : ℕ) → Gives (done ++ front) a b → get whole a ≡ Some b) → Behind done front rest s n
-follow done [] rest s n whole f h rs all = (s, n, f, subst (λ t. Holding t s.base s.spans) (sym (append-nil done)) h, refl)
+follow done [] rest s n whole f h rs all = (s, n, f, subst (λ t. Holding t s.base s.spans) (sym (append-nil done)) h, refl, omega arith)
 follow done (line ∷ front) rest s n whole f h rs all =
     let e : (done ++ (line ∷ [])) ++ front ≡ done ++ (line ∷ front) = append_assoc done (line ∷ []) front in
     let later : (a b : ℕ) → Gives ((done ++ (line ∷ [])) ++ front) a b → get whole a ≡ Some b = λ a b g. all a b (subst (λ t. Gives t a b) e g) in
@@ -131,12 +131,14 @@ follow done (line ∷ front) rest s n whole f h rs all =
       | inl blank ↦
           let go = follow (done ++ ([] ∷ [])) front rest s (n + 1) whole f (hold_empty done s.base s.spans h) rs.1 (subst (λ l. (a b : ℕ) → Gives ((done ++ (l ∷ [])) ++ front) a b → get whole a ≡ Some b) blank later) in
           let e' : (done ++ ([] ∷ [])) ++ front ≡ done ++ (line ∷ front) = append_assoc done ([] ∷ []) front ∙ ap (λ l. done ++ (l ∷ front)) (sym blank) in
-          (go.0, go.1, go.2, subst (λ t. Holding t go.0.base go.0.spans) e' go.3, ap (λ l. read_from s n (l ∷ (front ++ rest))) blank ∙ go.4)
+          let place : go.1 ≡ n + length (line ∷ front) = (let k = go.5 in omega arith) in
+          (go.0, go.1, go.2, subst (λ t. Holding t go.0.base go.0.spans) e' go.3, ap (λ l. read_from s n (l ∷ (front ++ rest))) blank ∙ go.4, place)
       | inr full ↦
           let (bytes, r, ne) = full in
           let one = applied_ok done line bytes s whole h r ne (λ a b g. later a b (early (done ++ (line ∷ [])) line a b front g)) (λ a b g. all a b (early done line a b (line ∷ front) g)) in
           let go = follow (done ++ (line ∷ [])) front rest one.0 (n + 1) whole (one.1 ∙ f) (hold_record done line bytes s one.0 h r one.2) rs.1 later in
-          (go.0, go.1, go.2, subst (λ t. Holding t go.0.base go.0.spans) e go.3, ap (λ q. q >>= λ t. read_from t (n + 1) (front ++ rest)) (stepped s one.0 (n + 1) line bytes f r one.2) ∙ go.4)
+          let place : go.1 ≡ n + length (line ∷ front) = (let k = go.5 in omega arith) in
+          (go.0, go.1, go.2, subst (λ t. Holding t go.0.base go.0.spans) e go.3, ap (λ q. q >>= λ t. read_from t (n + 1) (front ++ rest)) (stepped s one.0 (n + 1) line bytes f r one.2) ∙ go.4, place)
     ]
 
 empties : (t : State) (n : ℕ) (ls : List (List ℕ)) → t.ended ≡ true → AreEmpty ls → read_from t n ls ≡ Ok t.spans

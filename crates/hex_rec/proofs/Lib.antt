@@ -4,4 +4,7 @@ pub mod Bases
 pub mod Adds
 pub mod Whole
 pub mod Back
+pub mod Round
 pub mod Cuts
+pub mod Meets
+pub mod Refused

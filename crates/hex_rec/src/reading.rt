@@ -2,6 +2,7 @@ ghost use Rattle.std.specs.Prelude.{◌≡◌, ℕ, ◌+◌, ◌-◌, ◌^◌, �
 ghost use Rattle.hex_rec.specs.Base.{IsBase};
 ghost use Rattle.span_store.specs.ByteMap.{ByteMap};
 ghost use Rattle.hex_rec.specs.HexText.{IsHexText};
+ghost use Rattle.hex_rec.specs.Refusals.{IsRefused};
 ghost use Rattle.hex_rec.specs.Record.{is_kind};
 ghost use Rattle.hex_rec.specs.Reading.{put_line, applied, step, reading_of, with_map};
 ghost use Rattle.rec_text.specs.declared.fault.RecFault.{RecFault};
@@ -123,8 +124,11 @@ pub fn read(alloc: Global, text: &[u8]) -> Result<Spans, RecFault>
 }
 
 /// A text is read exactly where it is records, one end, and nothing behind it, and its map is the
-/// union of what its data lines give.
+/// union of what its data lines give. It is refused exactly by the first line that is wrong, for what is
+/// wrong with it, or for want of an end.
 pub fn text_law()
     ensures read { (text : List ℕ) (m : ByteMap) → reading_of text ≡ Ok m → IsHexText text m }
     ensures is { (text : List ℕ) (m : ByteMap) → IsHexText text m → reading_of text ≡ Ok m }
+    ensures refused { (text : List ℕ) (e : RecFault) → reading_of text ≡ Err e → IsRefused text e }
+    ensures refuses { (text : List ℕ) (e : RecFault) → IsRefused text e → reading_of text ≡ Err e }
 {}

@@ -58,7 +58,7 @@ fn texts_that_are_read(rt: HostRuntime) {
 /// Texts that are refused, at their first, a middle and their last line.
 #[test]
 fn texts_that_are_refused(rt: HostRuntime) {
-    let table: [(&str, (u8, u64)); 13] = [
+    let table: [(&str, (u8, u64)); 15] = [
         ("x\n:00000001FF\n", (1, 1)),
         (":01100000AA45\n:0110000AA45\n:00000001FF\n", (1, 2)),
         (":01100000AA45\n:00000006FA\n", (1, 2)),
@@ -67,6 +67,8 @@ fn texts_that_are_refused(rt: HostRuntime) {
         (":01100000AA45\n:00000001FE\n", (2, 2)),
         (":00000001FF\n:01100000AA45\n", (4, 2)),
         (":01100000AA45\n:00000001FF\n\n:00000001FF\n", (4, 4)),
+        (":00000001FF\n:01100000AA45\n:00000001FF\n", (4, 2)),
+        (":02100000AABB89\n:02100000AABC88", (5, 0x1001)),
         (
             ":02100000AABB89\n:02100000AABC88\n:00000001FF\n",
             (5, 0x1001),

@@ -1,4 +1,8 @@
-ghost use Rattle.std.specs.Prelude.{◌≡◌, ◌+◌, ◌/◌, ◌%◌, ◌^◌, ◌≤◌, ◌<◌, ◌++◌, ◌∷◌, [], length, nat_eq, if◌then◌else◌, OnOk, IfOk};
+ghost use Rattle.std.specs.Prelude.{◌≡◌, ℕ, List, Some, Ok, ◌+◌, ◌/◌, ◌%◌, ◌^◌, ◌≤◌, ◌<◌, ◌++◌, ◌∷◌, [], length, nat_eq, if◌then◌else◌, All, OnOk, IfOk};
+ghost use Rattle.std.specs.FinMap as map;
+ghost use Rattle.span_store.specs.ByteMap.{ByteMap};
+ghost use Rattle.hex_rec.specs.HexText.{IsHexText};
+ghost use Rattle.hex_rec.specs.Reading.{reading_of};
 ghost use Rattle.hex_rec.specs.Writing.{line_of, checksum, IsWritten};
 
 use flash_base::{Bytes, NoMemory};
@@ -7,23 +11,23 @@ use span_store::Spans;
 use std::alloc::Global;
 
 /// The checksum of a line's bytes.
-fn checksum_of(head: &[u8], data: &[u8]) -> u8
+fn checksum_of(head: &[u8], rest: &[u8]) -> u8
     requires head { length head.now ≤ 10 }
-    requires data { length data.now ≤ 250 }
-    ensures { result ≡ checksum (head.now ++ data.now) }
+    requires rest { length rest.now ≤ 250 }
+    ensures { result ≡ checksum (head.now ++ rest.now) }
 {
-    ((256 - sum_both(head, data) % 256) % 256) as u8
+    ((256 - sum_both(head, rest) % 256) % 256) as u8
 }
 
 /// Puts one line at the end of a text.
-fn push_line(text: &mut Bytes, head: &[u8], data: &[u8]) -> Result<(), NoMemory>
+fn push_line(text: &mut Bytes, head: &[u8], rest: &[u8]) -> Result<(), NoMemory>
     requires head { length head.now ≤ 10 }
-    requires data { length data.now ≤ 250 }
-    ensures { OnOk result (text.new ≡ text.old ++ line_of (head.now ++ data.now)) }
+    requires rest { length rest.now ≤ 250 }
+    ensures { OnOk result (text.new ≡ text.old ++ line_of (head.now ++ rest.now)) }
 {
     text.push(b':')?;
-    push_both(text, head, data)?;
-    push_digits(text, &[checksum_of(head, data)])?;
+    push_both(text, head, rest)?;
+    push_digits(text, &[checksum_of(head, rest)])?;
     text.push(b'\n')
 }
 
@@ -44,17 +48,18 @@ fn push_base(text: &mut Bytes, at: u64, upper: u64) -> Result<(), NoMemory>
 }
 
 /// Puts a data line at the end of a text.
-fn push_data(text: &mut Bytes, at: u64, data: &[u8]) -> Result<(), NoMemory>
-    requires { length data.now ≤ 16 }
-    ensures { OnOk result (text.new ≡ text.old ++ line_of (length data.now ∷ at % 65536 / 256 ∷ at % 256 ∷ 0 ∷ data.now)) }
+fn push_data(text: &mut Bytes, at: u64, bytes: &[u8]) -> Result<(), NoMemory>
+    requires { length bytes.now ≤ 16 }
+    ensures pushed { OnOk result (text.new ≡ text.old ++ line_of (length bytes.now ∷ at % 65536 / 256 ∷ at % 256 ∷ 0 ∷ bytes.now)) }
+    ensures small { All (λ b. b < 2 ^ 8) bytes.now }
 {
     let head = [
-        data.len() as u8,
+        bytes.len() as u8,
         (at % 65536 / 256) as u8,
         (at % 256) as u8,
         0,
     ];
-    push_line(text, &head, data)
+    push_line(text, &head, bytes)
 }
 
 /// The Intel HEX text of bytes.
@@ -62,7 +67,9 @@ fn push_data(text: &mut Bytes, at: u64, data: &[u8]) -> Result<(), NoMemory>
 /// Maximal runs ascending, in lines of at most 16 bytes that do not cross a multiple of 65536; a kind 04
 /// line before a data line whose upper 16 bits are others than the last ones, 0 at first; upper case, LF.
 pub fn write(alloc: Global, spans: &Spans) -> Result<Bytes, NoMemory>
-    ensures { IfOk result (λ text. IsWritten spans.now text) }
+    ensures written { IfOk result (λ text. IsWritten spans.now text) }
+    ensures read_back { IfOk result (λ text. reading_of text ≡ Ok spans.now) }
+    ensures whole { IfOk result (λ text. IsHexText text spans.now) }
 {
     let mut text = Bytes::new(alloc);
     let mut line = [0u8; DATA];
@@ -78,3 +85,9 @@ pub fn write(alloc: Global, spans: &Spans) -> Result<Bytes, NoMemory>
     push_line(&mut text, &[0, 0, 0, 1], &[])?;
     Ok(text)
 }
+
+/// A map has one text, and reading that text gives the map.
+pub fn writing_law()
+    ensures one { (m : ByteMap) (s t : List ℕ) → IsWritten m s → IsWritten m t → s ≡ t }
+    ensures read { (m : ByteMap) (text : List ℕ) → ((a b : ℕ) → map.get m a ≡ Some b → b < 256) → IsWritten m text → reading_of text ≡ Ok m }
+{}

@@ -55,10 +55,17 @@ fn tag_in(alloc: Global, value: &Value) -> Result<Text, TreeFault>
     }
 }
 
+/// No attributes, with room for so many and no more, since a catalogue has many small lists of them.
+fn no_attributes(alloc: Global, count: usize) -> Result<Items<(Text, Text)>, NoMemory>
+    ensures { IfOk result (λ found. found ≡ []) }
+{
+    Ok(Items::from_vec(Vec::with_capacity(alloc, count)?))
+}
+
 fn attributes_in(alloc: Global, map: &Map<String, Value>) -> Result<Items<(Text, Text)>, TreeFault>
     ensures { (result ≡ Err TreeFault.NoMemory) ⊎ (result ≡ attributes (members_view map.now.entries)) }
 {
-    let mut found = Items::new(alloc);
+    let mut found = no_attributes(alloc, map.len())?;
     for (name, value) in map.iter() {
         let Some(text) = value.as_str() else {
             return Err(not_tree(alloc));

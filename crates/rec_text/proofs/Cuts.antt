@@ -11,18 +11,9 @@ use Rattle.span_store.proofs.Order.{joined, EndBy-append, EndBy_more}
 use Rattle.span_store.proofs.Lookups.{placed}
 use Rattle.span_store.proofs.Maps.{part_none, part_same, part_more, part_in, part_out, held-append, some_not_none}
 use Rattle.rec_text.specs.Cutting.{IsCut, AreCut, Cuts}
+use Rattle.rec_text.proofs.Smalls.{Small, AllSmall, AllSmall-push}
 
 -- ------ one line
-held_one : (m : ByteMap) (q b : ℕ) → get m q ≡ Some b → Holds m q (b ∷ [])
-held_one m q b e zero h = let z : q + 0 ≡ q = omega arith in ap (get m) z ∙ e
-held_one m q b e (suc k) h = absurd (omega arith)
-
-pub held_more : (m : ByteMap) (at n b : ℕ) (line : List ℕ) → n < length line → Holds m at (take n line) → get m (at + n) ≡ Some b → Holds m at (take (n + 1) (set line n b))
-held_more m at n b line l held is =
-    let size : length (take n line) ≡ min n (length line) = length-take n line in
-    let here : at + length (take n line) ≡ at + n = omega arith in
-    subst (Holds m at) (sym (take_more_set line n b l)) (held-append m at (take n line) (b ∷ []) held (held_one m (at + length (take n line)) b (ap (get m) here ∙ is)))
-
 pub cut_here : (room : ℕ) (m : ByteMap) (at n : ℕ) (line : List ℕ) → n ≤ length line → 0 < n → n ≤ 16 → n ≤ room → (n ≡ 16) ⊎ ((n ≡ room) ⊎ (get m (at + n) ≡ None)) → IsCut room m (at, take n line)
 cut_here room m at n line long some short inside full =
     let size : length (take n line) ≡ min n (length line) = length-take n line in
@@ -53,13 +44,14 @@ pub record Progress (room : ℕ → ℕ) (m : ByteMap) (here : ℕ) (cuts : List
   pub ascending : AreExtents cuts
   pub ends : EndBy here cuts
   pub cut : AreCut room m cuts
+  pub small : AllSmall cuts
 
 pub begun : (room : ℕ → ℕ) (m : ByteMap) → Progress room m 0 []
-begun room m = record { within = omega arith; all = sym (part_none m 0); ascending = tt; ends = tt; cut = tt }
+begun room m = record { within = omega arith; all = sym (part_none m 0); ascending = tt; ends = tt; cut = tt; small = tt }
 
 pub advanced : (room : ℕ → ℕ) (m : ByteMap) (here : ℕ) (cuts : List Extent) (at : ℕ) (bs : List ℕ) → Progress room m here cuts → here ≤ at → ((a : ℕ) → here ≤ a → a < at → get m a ≡ None)
-    → Holds m at bs → IsCut (room at) m (at, bs) → at + length bs ≤ 2 ^ 32 → Progress room m (at + length bs) (cuts ++ ((at, bs) ∷ []))
-advanced room m here cuts at bs p le none holds is within =
+    → Holds m at bs → IsCut (room at) m (at, bs) → Small bs → at + length bs ≤ 2 ^ 32 → Progress room m (at + length bs) (cuts ++ ((at, bs) ∷ []))
+advanced room m here cuts at bs p le none holds is small within =
     let some : 0 < length bs = is.some in
     let here_at : at ≤ at = omega arith in
     let end_at : at + length bs ≤ at + length bs = omega arith in
@@ -77,6 +69,7 @@ advanced room m here cuts at bs p le none holds is within =
       ascending = joined at cuts ((at, bs) ∷ []) p.ascending (some, within, tt, tt) below (here_at, tt);
       ends = EndBy-append (at + length bs) cuts ((at, bs) ∷ []) (EndBy_more at (at + length bs) cuts below (omega arith)) (end_at, tt);
       cut = AreCut-push room m cuts (at, bs) p.cut is;
+      small = AllSmall-push cuts (at, bs) p.small small;
     }
 
 pub finished : (room : ℕ → ℕ) (m : ByteMap) (here : ℕ) (cuts : List Extent) → Progress room m here cuts → ((a : ℕ) → here ≤ a → get m a ≡ None) → Cuts room m cuts

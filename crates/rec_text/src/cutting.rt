@@ -1,4 +1,4 @@
-ghost use Rattle.std.specs.Prelude.{◌≡◌, ◌+◌, ◌^◌, ◌≤◌, ◌<◌, length, take, IsSome};
+ghost use Rattle.std.specs.Prelude.{◌≡◌, ◌+◌, ◌-◌, ◌^◌, ◌≤◌, ◌<◌, ◌++◌, length, take, min, IsSome, MatchOption, None};
 ghost use Rattle.std.specs.FinMap as map;
 ghost use Rattle.span_store.specs.ByteMap.{Holds};
 ghost use Rattle.rec_text.specs.Cutting.{IsCut};
@@ -7,6 +7,29 @@ use span_store::Spans;
 
 /// The most data bytes of a line that is written.
 pub const DATA: usize = 16;
+
+/// The bytes from an address on, as far as one extent has them. None where the address has no byte.
+fn bytes_from(spans: &Spans, at: u64) -> Option<&[u8]>
+    ensures { MatchOption result (map.get spans.now at ≡ None) (λ bytes. (0 < length bytes.now) × (at + length bytes.now ≤ 2 ^ 32) × Holds spans.now at bytes.now) }
+{
+    match spans.piece(at) {
+        Some((start, bytes)) if start == at => Some(bytes),
+        _ => None,
+    }
+}
+
+/// Copies bytes to a place of a line, at most up to the place `most`, and answers the place behind them.
+fn copied(line: &mut [u8; DATA], at: usize, most: usize, bytes: &[u8]) -> usize
+    requires from { at ≤ most }
+    requires most { most ≤ 16 }
+    ensures place { result ≡ at + min (length bytes.now) (most - at) }
+    ensures copied { take result line.new ≡ take at line.old ++ take (result - at) bytes.now }
+    ensures stored { length line.new ≡ length line.old }
+{
+    let n = bytes.len().min(most - at);
+    line[at..at + n].copy_from_slice(&bytes[..n]);
+    at + n
+}
 
 /// The bytes of one line, from an address on that has one: how many, at the front of `line`.
 /// A line has bytes of at most `room` addresses.
@@ -23,11 +46,10 @@ pub fn cut_front(spans: &Spans, at: u64, room: u64, line: &mut [u8; DATA]) -> us
     let most = room.min(16) as usize;
     let mut n = 0;
     while n < most {
-        let Some(b) = spans.get(at + n as u64) else {
+        let Some(bytes) = bytes_from(spans, at + n as u64) else {
             return n;
         };
-        line[n] = b;
-        n += 1;
+        n = copied(line, n, most, bytes);
     }
     n
 }

@@ -40,20 +40,20 @@ fn sum_of(bytes: &[u8]) -> u32
 }
 
 /// Puts the digits of bytes and of others at the end of a text.
-pub fn push_both(text: &mut Bytes, head: &[u8], data: &[u8]) -> Result<(), NoMemory>
-    ensures { OnOk result (text.new ≡ text.old ++ digits_of (head.now ++ data.now)) }
+pub fn push_both(text: &mut Bytes, head: &[u8], rest: &[u8]) -> Result<(), NoMemory>
+    ensures { OnOk result (text.new ≡ text.old ++ digits_of (head.now ++ rest.now)) }
 {
     push_digits(text, head)?;
-    push_digits(text, data)?;
+    push_digits(text, rest)?;
     Ok(())
 }
 
 /// The sum of bytes and of others.
-pub fn sum_both(head: &[u8], data: &[u8]) -> u32
+pub fn sum_both(head: &[u8], rest: &[u8]) -> u32
     requires head { length head.now ≤ 10 }
-    requires data { length data.now ≤ 250 }
-    ensures value { result ≡ sum (head.now ++ data.now) }
+    requires rest { length rest.now ≤ 250 }
+    ensures value { result ≡ sum (head.now ++ rest.now) }
     ensures small { result ≤ 66300 }
 {
-    sum_of(head) + sum_of(data)
+    sum_of(head) + sum_of(rest)
 }

@@ -1,83 +1,27 @@
-//! Times the reading of generated Intel HEX texts. With no argument it only reads, and prints
-//! what was read.
+//! Times the reading and writing of record texts. With no argument it reads small generated texts, and
+//! prints what was read.
 //!
-//! `time` prints the microseconds of an image, of one twice as large, and of the same records from
-//! the last to the first. `make` writes the text of 16 MiB to `image.hex`. Any other word is the path
-//! of a text that is read, and its microseconds are printed.
+//! `time` prints the microseconds of generated texts of both formats, of images that double, and of the same
+//! records in other orders. `make` writes the texts of an image of 16 MiB to `image.hex` and `image.srec`.
+//! `binary PATH` reads a text of either format, and writes its bytes without the gaps to `out.bin`.
+//! `texts PATH` reads one, and writes it anew in both formats to `out.hex` and `out.srec`.
 #![tactic(auto)]
 
-use flash_base::{Bytes, NoMemory};
+ghost use Rattle.std.specs.Prelude.{◌<◌, ◌≤◌, ◌^◌};
+
+mod files;
+mod making;
+
+use files::{to_binary, to_texts};
+use making::{Order, hex_text, srec_text};
 use span_store::Spans;
 use std::alloc::Global;
 use std::time::{Clock, Instant};
 use std::{env, fs, io};
 
-const DIGITS: &[u8; 16] = b"0123456789ABCDEF";
-
-/// Two digits.
-fn push_byte(text: &mut Bytes, b: u8) -> Result<(), NoMemory> {
-    text.push(DIGITS[usize::from(b / 16)])?;
-    text.push(DIGITS[usize::from(b % 16)])
-}
-
-/// One line.
-fn push_record(
-    text: &mut Bytes,
-    kind: u8,
-    offset: u16,
-    data: &[u8; 16],
-    count: u8,
-) -> Result<(), NoMemory> {
-    text.push(b':')?;
-    let high = (offset / 256) as u8;
-    let low = (offset % 256) as u8;
-    let mut sum = count
-        .wrapping_add(high)
-        .wrapping_add(low)
-        .wrapping_add(kind);
-    push_byte(text, count)?;
-    push_byte(text, high)?;
-    push_byte(text, low)?;
-    push_byte(text, kind)?;
-    for b in data.iter().take(usize::from(count)) {
-        sum = sum.wrapping_add(*b);
-        push_byte(text, *b)?;
-    }
-    push_byte(text, 0u8.wrapping_sub(sum))?;
-    text.push(b'\n')
-}
-
-/// The record with this number, behind the line that sets its base where `upper` is another.
-fn push_numbered(text: &mut Bytes, i: u32, upper: u32) -> Result<u32, NoMemory> {
-    let mut data = [0u8; 16];
-    let needed = i / 4096 % 65536;
-    if needed != upper {
-        data[0] = (needed / 256) as u8;
-        data[1] = (needed % 256) as u8;
-        push_record(text, 4, 0, &data, 2)?;
-    }
-    for (k, b) in data.iter_mut().enumerate() {
-        *b = ((i % 256) as u8 ^ (k % 256) as u8).wrapping_mul(7);
-    }
-    push_record(text, 0, (i % 4096 * 16) as u16, &data, 16)?;
-    Ok(needed)
-}
-
-/// The text of so many records of 16 bytes, from the first to the last, or the other way round.
-fn hex_text(alloc: Global, records: u32, backwards: bool) -> Result<Bytes, NoMemory> {
-    let mut text = Bytes::new(alloc);
-    let mut upper = 0;
-    for i in 0..records {
-        let number = if backwards { records - 1 - i } else { i };
-        upper = push_numbered(&mut text, number, upper)?;
-    }
-    push_record(&mut text, 1, 0, &[0u8; 16], 0)?;
-    Ok(text)
-}
-
-/// The number of bytes in the first run, or 0 where the text was refused.
+/// The number of bytes that were read, as far as they stand in one run; 0 where the text was refused.
 fn size_read(alloc: Global, text: &[u8]) -> u64 {
-    match hex_rec::read(alloc, text) {
+    match files::read(alloc, text) {
         Ok(spans) => first_size(&spans),
         Err(_) => 0,
     }
@@ -92,63 +36,116 @@ fn first_size(spans: &Spans) -> u64 {
     }
 }
 
-/// Reads a text, and answers the microseconds.
-fn timed(clock: &impl Clock, alloc: Global, text: &[u8]) -> io::Result<u64> {
-    let start = Instant::now(clock)?;
-    let size = size_read(alloc, text);
+/// The microseconds since a moment.
+fn since(clock: &impl Clock, start: Instant) -> io::Result<u64> {
     let took = start.elapsed(clock)?.as_micros();
-    if size == 0 || took > 1_000_000_000 {
+    if took > 1_000_000_000 {
         return Ok(0);
     }
     Ok(took as u64)
 }
 
-/// The microseconds of the text of so many records.
-fn timed_records(
-    clock: &impl Clock,
-    alloc: Global,
-    records: u32,
-    backwards: bool,
-) -> io::Result<u64> {
-    match hex_text(alloc, records, backwards) {
+/// Reads a text, and answers the microseconds, or 0 where it was refused.
+fn timed(clock: &impl Clock, alloc: Global, text: &[u8]) -> io::Result<u64> {
+    let start = Instant::now(clock)?;
+    let read = files::read(alloc, text);
+    let took = since(clock, start)?;
+    Ok(if read.is_err() { 0 } else { took })
+}
+
+/// The microseconds of a text of so many records.
+fn timed_hex(clock: &impl Clock, alloc: Global, records: u32, order: Order) -> io::Result<u64>
+    requires { records < 2 ^ 28 }
+{
+    match hex_text(alloc, records, order) {
         Ok(text) => timed(clock, alloc, text.as_slice()),
         Err(_) => Ok(0),
     }
 }
 
-fn main(rt: HostRuntime) -> io::Result<()> {
+/// The same of S-records with so many bytes each.
+fn timed_srec(
+    clock: &impl Clock,
+    alloc: Global,
+    records: u32,
+    size: usize,
+    order: Order,
+) -> io::Result<u64>
+    requires records { records < 2 ^ 28 }
+    requires size { size ≤ 16 }
+{
+    match srec_text(alloc, records, size, order) {
+        Ok(text) => timed(clock, alloc, text.as_slice()),
+        Err(_) => Ok(0),
+    }
+}
+
+/// Prints the times of reading.
+fn print_times(rt: &HostRuntime) -> io::Result<()> {
     let alloc = rt.alloc();
-    let mut asked = false;
-    for word in env::args(&rt)?.skip(1) {
-        asked = true;
-        if word.as_str() == "time" {
-            let once = timed_records(&rt, alloc, 524_288, false)?;
-            let twice = timed_records(&rt, alloc, 1_048_576, false)?;
-            let backwards = timed_records(&rt, alloc, 524_288, true)?;
-            println!(rt;
-                "8 MiB {once} us, 16 MiB {twice} us, 8 MiB from the last record on {backwards} us"
-            )?;
-        } else if word.as_str() == "make" {
-            if let Ok(text) = hex_text(alloc, 1_048_576, false) {
-                fs::write(&rt, "image.hex", text.as_slice())?;
-            }
-        } else {
-            let bytes = fs::read(&rt, word.as_str())?;
-            let took = timed(&rt, alloc, bytes.as_slice())?;
-            println!(rt; "{took} us")?;
+    let once = timed_hex(rt, alloc, 524_288, Order::Ascending)?;
+    let twice = timed_hex(rt, alloc, 1_048_576, Order::Ascending)?;
+    println!(rt; "Intel HEX: 8 MiB {once} us, 16 MiB {twice} us")?;
+    let once = timed_srec(rt, alloc, 524_288, 16, Order::Ascending)?;
+    let twice = timed_srec(rt, alloc, 1_048_576, 16, Order::Ascending)?;
+    println!(rt; "S-records: 8 MiB {once} us, 16 MiB {twice} us")?;
+    for order in Order::ALL {
+        let name = order.name();
+        let hex = timed_hex(rt, alloc, 1_524_000, order)?;
+        let long = timed_srec(rt, alloc, 1_427_000, 16, order)?;
+        let short = timed_srec(rt, alloc, 3_947_000, 1, order)?;
+        println!(rt;
+            "64 MiB of text {name}: Intel HEX {hex} us, S-records of 16 bytes {long} us, of 1 byte {short} us"
+        )?;
+    }
+    Ok(())
+}
+
+/// Writes the texts of an image of 16 MiB.
+fn make(rt: &HostRuntime) -> io::Result<()> {
+    if let Ok(text) = hex_text(rt.alloc(), 1_048_576, Order::Ascending) {
+        fs::write(rt, "image.hex", text.as_slice())?;
+    }
+    if let Ok(text) = srec_text(rt.alloc(), 1_048_576, 16, Order::Ascending) {
+        fs::write(rt, "image.srec", text.as_slice())?;
+    }
+    Ok(())
+}
+
+/// Reads small texts in each order.
+fn read_small(rt: &HostRuntime) -> io::Result<()> {
+    let alloc = rt.alloc();
+    for order in Order::ALL {
+        let name = order.name();
+        if let Ok(text) = hex_text(alloc, 4096, order) {
+            let size = size_read(alloc, text.as_slice());
+            println!(rt; "Intel HEX {name}: {size} bytes")?;
         }
-    }
-    if asked {
-        return Ok(());
-    }
-    for backwards in [false, true] {
-        match hex_text(alloc, 4096, backwards) {
-            Ok(text) => {
-                let size = size_read(alloc, text.as_slice());
-                println!(rt; "{size} bytes read")?;
-            }
-            Err(_) => println!(rt; "no memory")?,
+        if let Ok(text) = srec_text(alloc, 4096, 16, order) {
+            let size = size_read(alloc, text.as_slice());
+            println!(rt; "S-records {name}: {size} bytes")?;
         }
     }
     Ok(())
+}
+
+fn main(rt: HostRuntime) -> io::Result<()> {
+    let mut words = env::args(&rt)?.skip(1);
+    let Some(word) = words.next() else {
+        return read_small(&rt);
+    };
+    if word.as_str() == "time" {
+        return print_times(&rt);
+    }
+    if word.as_str() == "make" {
+        return make(&rt);
+    }
+    let Some(path) = words.next() else {
+        return Ok(());
+    };
+    if word.as_str() == "binary" {
+        to_binary(&rt, path.as_str())
+    } else {
+        to_texts(&rt, path.as_str())
+    }
 }

@@ -70,7 +70,7 @@ module _ (es : List Extent) (at k : ℕ) (old bs : List ℕ) (s : AreExtents es)
   starts : StartBelow k w.0
   starts = below_ends k w.0 (front w.0 ((k, old) ∷ high at es) are) (front_ends w.0 (k, old) (high at es) are)
 
-  set : set_value (is_at (nat_cmp k)) es (old ++ bs) ≡ w.0 ++ ((k, old ++ bs) ∷ high at es)
+  pub set : set_value (is_at (nat_cmp k)) es (old ++ bs) ≡ w.0 ++ ((k, old ++ bs) ∷ high at es)
   set = ap (λ l. set_value (is_at (nat_cmp k)) l (old ++ bs)) all ∙ set_there k old (old ++ bs) w.0 (high at es) starts
 
   below : StartBelow at (w.0 ++ ((k, old) ∷ []))

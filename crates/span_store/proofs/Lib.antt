@@ -3,6 +3,7 @@ pub mod Lookups
 pub mod Pieces
 pub mod Clashes
 pub mod Laying
+pub mod Free
 pub mod Settled
 pub mod Maps
 pub mod Merged

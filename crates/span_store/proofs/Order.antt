@@ -246,13 +246,13 @@ pub last_below : (c : ℕ) (es : List Extent) (e : Extent) → (w : EndsWith (lo
 last_below c es e w = StartBelow_last c w.0 e (subst (StartBelow c) w.1 (low_below c es))
 
 -- ------ an extent of its own
-insert_less : (k : ℕ) (b : List ℕ) (e : Extent) (es : List Extent) → k < e.0 → insert_entry nat_cmp (e ∷ es) k b ≡ (k, b) ∷ e ∷ es
+pub insert_less : (k : ℕ) (b : List ℕ) (e : Extent) (es : List Extent) → k < e.0 → insert_entry nat_cmp (e ∷ es) k b ≡ (k, b) ∷ e ∷ es
 insert_less k b e es h = ap (λ o. match_ordering o ((k, b) ∷ e ∷ es) ((e.0, b) ∷ es) (e ∷ insert_entry nat_cmp es k b)) (sym (nat_cmp_is k e.0 Less h))
 
 insert_same : (k : ℕ) (b : List ℕ) (e : Extent) (es : List Extent) → k ≡ e.0 → insert_entry nat_cmp (e ∷ es) k b ≡ (e.0, b) ∷ es
 insert_same k b e es h = ap (λ o. match_ordering o ((k, b) ∷ e ∷ es) ((e.0, b) ∷ es) (e ∷ insert_entry nat_cmp es k b)) (sym (nat_cmp_is k e.0 Equal h))
 
-insert_more : (k : ℕ) (b : List ℕ) (e : Extent) (es : List Extent) → e.0 < k → insert_entry nat_cmp (e ∷ es) k b ≡ e ∷ insert_entry nat_cmp es k b
+pub insert_more : (k : ℕ) (b : List ℕ) (e : Extent) (es : List Extent) → e.0 < k → insert_entry nat_cmp (e ∷ es) k b ≡ e ∷ insert_entry nat_cmp es k b
 insert_more k b e es h = ap (λ o. match_ordering o ((k, b) ∷ e ∷ es) ((e.0, b) ∷ es) (e ∷ insert_entry nat_cmp es k b)) (sym (nat_cmp_is k e.0 Greater h))
 
 pub low-insert : (k : ℕ) (b : List ℕ) (es : List Extent) → Ascend es → low (k + 1) (insert_entry nat_cmp es k b) ≡ low k es ++ ((k, b) ∷ [])

@@ -1,5 +1,6 @@
 pub mod ByteMap
 pub mod Extents
 pub mod Lowest
+pub mod Place
 pub mod Putting
 pub mod Runs

@@ -3,6 +3,7 @@
 
 mod clash;
 mod fault;
+mod place;
 mod runs;
 mod spans;
 mod store;

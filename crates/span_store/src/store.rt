@@ -8,10 +8,13 @@ ghost use Rattle.std.specs.Map.{set_value};
 ghost use Rattle.std.specs.Ordering.{nat_cmp};
 ghost use Rattle.span_store.specs.ByteMap.{over, clash, top};
 ghost use Rattle.span_store.specs.Putting.{Puts};
+ghost use Rattle.span_store.specs.Place.{IsPlace};
+ghost use Rattle.span_store.specs.declared.place.Place.{Place};
 ghost use Rattle.span_store.specs.Extents.{map_of, low, high, end_of, EndBy, AreExtents, EndsWith, StartsWith, IsPiece};
 
 use crate::clash::Clash;
 use crate::fault::PutFault;
+use crate::place::Place;
 use crate::spans::TOP;
 use flash_base::{Bytes, NoMemory};
 use std::alloc::Global;
@@ -253,15 +256,88 @@ fn lay(
     )
 }
 
-/// Whether every extent ends at an address or below it.
-fn is_behind(store: &BTreeMap<u64, Bytes>, at: u64) -> bool
-    requires { AreExtents store.now.entries }
-    ensures { IsTrue result → EndBy at store.now.entries }
+/// Where the bytes of a range come among extents.
+fn place(store: &BTreeMap<u64, Bytes>, at: u64, stop: u64) -> Place
+    requires extents { AreExtents store.now.entries }
+    requires order { at < stop }
+    ensures { IsPlace result at stop store.now.entries }
 {
-    match store.last_key_value() {
-        Some((start, bytes)) => *start + bytes.len() as u64 <= at,
-        None => true,
+    match before(store, stop) {
+        Some((start, bytes)) => {
+            let end = start + bytes.len() as u64;
+            if end == at {
+                Place::Behind(start)
+            } else if end < at {
+                Place::Apart
+            } else {
+                Place::Meets
+            }
+        }
+        None => Place::Apart,
     }
+}
+
+/// Puts bytes that no extent reaches as one of their own.
+fn own(
+    store: &mut BTreeMap<u64, Bytes>,
+    alloc: Global,
+    at: u64,
+    bytes: &[u8],
+) -> Result<(), NoMemory>
+    requires extents { AreExtents store.old.entries }
+    requires some { 0 < length bytes.now }
+    requires within { at + length bytes.now ≤ top }
+    requires free { EndBy at (low (at + length bytes.now) store.old.entries) }
+    ensures ok { OnOk result (map_of store.new.entries ≡ over (map_of store.old.entries) at bytes.now) }
+    ensures extents { AreExtents store.new.entries }
+    ensures err { OnErr result (store.new.entries ≡ store.old.entries) }
+{
+    let own = Bytes::from_slice(alloc, bytes)?;
+    store.insert(at, own)?;
+    Ok(())
+}
+
+/// Puts bytes that no extent reaches at the end of the one that they touch.
+fn append(
+    store: &mut BTreeMap<u64, Bytes>,
+    start: u64,
+    at: u64,
+    bytes: &[u8],
+) -> Result<(), NoMemory>
+    requires extents { AreExtents store.old.entries }
+    requires some { 0 < length bytes.now }
+    requires within { at + length bytes.now ≤ top }
+    requires place { IsPlace (Place.Behind start) at (at + length bytes.now) store.old.entries }
+    ensures ok { OnOk result (map_of store.new.entries ≡ over (map_of store.old.entries) at bytes.now) }
+    ensures extents { AreExtents store.new.entries }
+    ensures err { OnErr result (store.new.entries ≡ store.old.entries) }
+{
+    grow(store, start, bytes)?;
+    Ok(())
+}
+
+/// Puts bytes that an extent reaches.
+fn meet(
+    store: &mut BTreeMap<u64, Bytes>,
+    alloc: Global,
+    at: u64,
+    bytes: &[u8],
+) -> Result<(), PutFault>
+    requires some { 0 < length bytes.now }
+    requires within { at + length bytes.now ≤ top }
+    requires extents { AreExtents store.old.entries }
+    ensures puts { Puts (map_of store.old.entries) at bytes.now result (map_of store.new.entries) }
+    ensures extents { AreExtents store.new.entries }
+{
+    if let Some(c) = first_clash(store, at, bytes) {
+        return Err(PutFault::Conflict {
+            at: c.at,
+            old: c.old,
+            new: c.new,
+        });
+    }
+    lay(store, alloc, at, bytes)?;
+    Ok(())
 }
 
 /// Puts bytes from an address on.
@@ -279,17 +355,15 @@ pub(crate) fn put_into(
     if bytes.is_empty() {
         return Ok(());
     }
-    if is_behind(store, at) {
-        add(store, alloc, at, bytes)?;
-        return Ok(());
+    match place(store, at, at + bytes.len() as u64) {
+        Place::Behind(start) => {
+            append(store, start, at, bytes)?;
+            Ok(())
+        }
+        Place::Apart => {
+            own(store, alloc, at, bytes)?;
+            Ok(())
+        }
+        Place::Meets => meet(store, alloc, at, bytes),
     }
-    if let Some(c) = first_clash(store, at, bytes) {
-        return Err(PutFault::Conflict {
-            at: c.at,
-            old: c.old,
-            new: c.new,
-        });
-    }
-    lay(store, alloc, at, bytes)?;
-    Ok(())
 }

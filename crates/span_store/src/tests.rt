@@ -4,11 +4,13 @@ use std::alloc::Global;
 /// Starts and sizes of bytes that depend on their address alone, and the maximal runs that they leave.
 #[test]
 fn runs_after_puts(rt: HostRuntime) {
-    let table: [(&[(u64, usize)], &[(u64, u64)]); 6] = [
+    let table: [(&[(u64, usize)], &[(u64, u64)]); 8] = [
         (&[(16, 4), (20, 4)], &[(16, 8)]),
         (&[(20, 4), (16, 4)], &[(16, 8)]),
         (&[(16, 8), (18, 0), (16, 2)], &[(16, 8)]),
         (&[(16, 1), (20, 1), (18, 1), (16, 8)], &[(16, 8)]),
+        (&[(16, 8), (18, 2), (20, 8)], &[(16, 12)]),
+        (&[(24, 4), (16, 4), (32, 1), (18, 8)], &[(16, 12), (32, 1)]),
         (&[(0, 1), (TOP - 1, 1)], &[(0, 1), (TOP - 1, 1)]),
         (&[(0, 0)], &[]),
     ];
@@ -42,6 +44,10 @@ fn each_call_once(rt: HostRuntime) {
     match spans.put(0x1002, &[4]) {
         Err(PutFault::Conflict { at, old, new }) => assert_eq!(rt; (at, old, new), (0x1002, 3, 4)),
         _ => panic!(rt; "no conflict"),
+    }
+    assert_eq!(rt; spans.extents(), 1);
+    if spans.extents() == 1 {
+        assert_eq!(rt; spans.extent(0), (0x1000, 3));
     }
     assert_eq!(rt; spans.get(0x1002), Some(3));
     assert_eq!(rt; spans.hole_in(0xFFF, 2), Some(0xFFF));

@@ -5,6 +5,7 @@ use Rattle.span_store.specs.ByteMap.{ByteMap, Holds}
 use Rattle.span_store.specs.Extents.{Extent}
 use Rattle.rec_text.specs.Cutting.{IsCut}
 use Rattle.rec_text.proofs.Cuts as cuts
+use Rattle.rec_text.proofs.Smalls.{Small, AllSmall}
 use Rattle.srec_rec.specs.Writing.{data_line, lines_of, line_of, IsWritten}
 
 -- how many addresses there are up to the top
@@ -29,19 +30,25 @@ pub begun : (m : ByteMap) (text : List ℕ) → text ≡ head → Progress m 0 t
 begun m text e = record { lines = []; cut = cuts.begun room m; spelled = e ∙ sym (append-nil head) }
 
 pub advanced : (m : ByteMap) (here : ℕ) (text more : List ℕ) (at n : ℕ) (bs : List ℕ) → Progress m here text → here ≤ at → ((a : ℕ) → here ≤ a → a < at → get m a ≡ None)
-    → Holds m at bs → IsCut (room at) m (at, bs) → at + n ≤ 2 ^ 32 → length bs ≡ n → more ≡ text ++ data_line (at, bs) → Progress m (at + n) more
-advanced m here text more at n bs p le none holds is within size spelled =
+    → Holds m at bs → IsCut (room at) m (at, bs) → Small bs → at + n ≤ 2 ^ 32 → length bs ≡ n → more ≡ text ++ data_line (at, bs) → Progress m (at + n) more
+advanced m here text more at n bs p le none holds is small within size spelled =
     let fits : at + length bs ≤ 2 ^ 32 = omega arith in
     record {
       lines = p.lines ++ ((at, bs) ∷ []);
-      cut = subst (λ k. cuts.Progress room m (at + k) (p.lines ++ ((at, bs) ∷ []))) size (cuts.advanced room m here p.lines at bs p.cut le none holds is fits);
+      cut = subst (λ k. cuts.Progress room m (at + k) (p.lines ++ ((at, bs) ∷ []))) size (cuts.advanced room m here p.lines at bs p.cut le none holds is small fits);
       spelled = spelled ∙ ap (λ t. t ++ data_line (at, bs)) p.spelled ∙ append_assoc head (lines_of p.lines) (data_line (at, bs)) ∙ ap (λ t. head ++ t) (sym (lines_of-push p.lines (at, bs)));
     }
 
-pub finished : (m : ByteMap) (here : ℕ) (text more : List ℕ) → Progress m here text → ((a : ℕ) → here ≤ a → get m a ≡ None) → more ≡ text ++ line_of 7 (5 ∷ 0 ∷ 0 ∷ 0 ∷ 0 ∷ []) → IsWritten m more
-finished m here text more p none spelled =
-    record {
-      lines = p.lines;
-      cuts = cuts.finished room m here p.lines p.cut none;
-      spelled = spelled ∙ ap (λ t. t ++ line_of 7 (5 ∷ 0 ∷ 0 ∷ 0 ∷ 0 ∷ [])) p.spelled ∙ append_assoc head (lines_of p.lines) (line_of 7 (5 ∷ 0 ∷ 0 ∷ 0 ∷ 0 ∷ []));
-    }
+-- the whole text, whose data are bytes
+abbrev pub Ends : ByteMap → List ℕ → Type 0
+Ends m text = (w : IsWritten m text) × AllSmall w.lines
+
+pub finished : (m : ByteMap) (here : ℕ) (text more : List ℕ) → Progress m here text → ((a : ℕ) → here ≤ a → get m a ≡ None) → more ≡ text ++ line_of 7 (5 ∷ 0 ∷ 0 ∷ 0 ∷ 0 ∷ []) → Ends m more
+finished m here text more p none spelled = (
+  record {
+    lines = p.lines;
+    cuts = cuts.finished room m here p.lines p.cut none;
+    spelled = spelled ∙ ap (λ t. t ++ line_of 7 (5 ∷ 0 ∷ 0 ∷ 0 ∷ 0 ∷ [])) p.spelled ∙ append_assoc head (lines_of p.lines) (line_of 7 (5 ∷ 0 ∷ 0 ∷ 0 ∷ 0 ∷ []));
+  },
+  p.cut.small,
+)

@@ -53,7 +53,7 @@ good_at done (x ∷ front) (y ∷ f) line back g e =
     let h : x ≡ y = ap first_of e in
     subst (λ d. IsGood d line) (append_assoc done (x ∷ []) f ∙ ap (λ t. done ++ (t ∷ f)) h) (good_at (done ++ (x ∷ [])) front f line back g.1 (ap others_of e))
 
-all_good : (done front : List (List ℕ)) → ((f : List (List ℕ)) (line : List ℕ) (back : List (List ℕ)) → front ≡ f ++ (line ∷ back) → IsGood (done ++ f) line) → AreGood done front
+pub all_good : (done front : List (List ℕ)) → ((f : List (List ℕ)) (line : List ℕ) (back : List (List ℕ)) → front ≡ f ++ (line ∷ back) → IsGood (done ++ f) line) → AreGood done front
 all_good done [] h = tt
 all_good done (x ∷ front) h = (
   subst (λ d. IsGood d x) (append-nil done) (h [] x front refl),
@@ -86,10 +86,10 @@ one_later done line more m is f =
       all = λ a b g. f.all a b (subst (λ t. Gives t a b) (sym e) g);
     }
 
-hold_empty : (done : List (List ℕ)) (count : ℕ) (m : ByteMap) → Holding done count m → Holding (done ++ ([] ∷ [])) count m
+pub hold_empty : (done : List (List ℕ)) (count : ℕ) (m : ByteMap) → Holding done count m → Holding (done ++ ([] ∷ [])) count m
 hold_empty done count m h = hold_skip done [] count m h (λ d. let (kind, bytes, r, lo, hi) = d in no_record kind bytes r)
 
-no_data : (line : List ℕ) (kind : ℕ) (bytes : List ℕ) → IsRecord line kind bytes → (kind ≡ 0) ⊎ (3 < kind) → IsData line → ⊥
+pub no_data : (line : List ℕ) (kind : ℕ) (bytes : List ℕ) → IsRecord line kind bytes → (kind ≡ 0) ⊎ (3 < kind) → IsData line → ⊥
 no_data line kind bytes r which d =
     let (other, more, s, lo, hi) = d in
     let e = same_kind line kind other bytes more r s in
@@ -136,7 +136,7 @@ found done s n ((c ∷ cs) ∷ more) m f h e =
           ]
     ]
 
-nothing_given : Holding [] 0 empty
+pub nothing_given : Holding [] 0 empty
 nothing_given = record {
   counted = refl;
   given = λ a b e. absurd (none-some b (sym (get-empty nat_cmp a) ∙ e));
@@ -188,17 +188,17 @@ applied_ok done line kind bytes s whole h r six says new old =
       ]
     ]
 
-stepped : (s t : State) (n : ℕ) (line : List ℕ) (kind : ℕ) (bytes : List ℕ) → s.ended ≡ false → IsRecord line kind bytes → applied s (kind, bytes) ≡ Ok t → step s n line ≡ Ok t
+pub stepped : (s t : State) (n : ℕ) (line : List ℕ) (kind : ℕ) (bytes : List ℕ) → s.ended ≡ false → IsRecord line kind bytes → applied s (kind, bytes) ≡ Ok t → step s n line ≡ Ok t
 stepped s t n [] kind bytes f r e = absurd (no_record kind bytes r)
 stepped s t n (c ∷ cs) kind bytes f r e =
     ap (λ b. cond b (Err (AfterEnd n)) (record_of n (c ∷ cs) >>= applied s)) f ∙ ap (λ q. q >>= applied s) (record_is n (c ∷ cs) kind bytes r) ∙ e
 
-abbrev Behind : List (List ℕ) → List (List ℕ) → List (List ℕ) → State → ℕ → Type 0
-Behind done front rest s n = (t : State) × (k : ℕ) × (t.ended ≡ false) × Holding (done ++ front) t.count t.spans × (read_from s n (front ++ rest) ≡ read_from t k rest)
+abbrev pub Behind : List (List ℕ) → List (List ℕ) → List (List ℕ) → State → ℕ → Type 0
+Behind done front rest s n = (t : State) × (k : ℕ) × (t.ended ≡ false) × Holding (done ++ front) t.count t.spans × (read_from s n (front ++ rest) ≡ read_from t k rest) × (k ≡ n + length front)
 
-follow : (done front rest : List (List ℕ)) (s : State) (n : ℕ) (whole : ByteMap) → s.ended ≡ false → Holding done s.count s.spans → AreGood done front
+pub follow : (done front rest : List (List ℕ)) (s : State) (n : ℕ) (whole : ByteMap) → s.ended ≡ false → Holding done s.count s.spans → AreGood done front
     → ((a b : ℕ) → Gives (done ++ front) a b → get whole a ≡ Some b) → Behind done front rest s n
-follow done [] rest s n whole f h rs all = (s, n, f, subst (λ t. Holding t s.count s.spans) (sym (append-nil done)) h, refl)
+follow done [] rest s n whole f h rs all = (s, n, f, subst (λ t. Holding t s.count s.spans) (sym (append-nil done)) h, refl, omega arith)
 follow done (line ∷ front) rest s n whole f h rs all =
     let e : (done ++ (line ∷ [])) ++ front ≡ done ++ (line ∷ front) = append_assoc done (line ∷ []) front in
     let later : (a b : ℕ) → Gives ((done ++ (line ∷ [])) ++ front) a b → get whole a ≡ Some b = λ a b g. all a b (subst (λ t. Gives t a b) e g) in
@@ -206,12 +206,14 @@ follow done (line ∷ front) rest s n whole f h rs all =
       | inl blank ↦
           let held : Holding (done ++ (line ∷ [])) s.count s.spans = subst (λ l. Holding (done ++ (l ∷ [])) s.count s.spans) (sym blank) (hold_empty done s.count s.spans h) in
           let go = follow (done ++ (line ∷ [])) front rest s (n + 1) whole f held rs.1 later in
-          (go.0, go.1, go.2, subst (λ t. Holding t go.0.count go.0.spans) e go.3, ap (λ l. read_from s n (l ∷ (front ++ rest))) blank ∙ go.4)
+          let place : go.1 ≡ n + length (line ∷ front) = (let k = go.5 in omega arith) in
+          (go.0, go.1, go.2, subst (λ t. Holding t go.0.count go.0.spans) e go.3, ap (λ l. read_from s n (l ∷ (front ++ rest))) blank ∙ go.4, place)
       | inr full ↦
           let (kind, bytes, r, six, says) = full in
           let one = applied_ok done line kind bytes s whole h r six says (λ a b g. later a b (gives_early (done ++ (line ∷ [])) a b front g)) (λ a b g. all a b (gives_early done a b (line ∷ front) g)) in
           let go = follow (done ++ (line ∷ [])) front rest one.0 (n + 1) whole (one.1 ∙ f) one.3 rs.1 later in
-          (go.0, go.1, go.2, subst (λ t. Holding t go.0.count go.0.spans) e go.3, ap (λ q. q >>= λ t. read_from t (n + 1) (front ++ rest)) (stepped s one.0 (n + 1) line kind bytes f r one.2) ∙ go.4)
+          let place : go.1 ≡ n + length (line ∷ front) = (let k = go.5 in omega arith) in
+          (go.0, go.1, go.2, subst (λ t. Holding t go.0.count go.0.spans) e go.3, ap (λ q. q >>= λ t. read_from t (n + 1) (front ++ rest)) (stepped s one.0 (n + 1) line kind bytes f r one.2) ∙ go.4, place)
     ]
 
 empties : (t : State) (n : ℕ) (ls : List (List ℕ)) → t.ended ≡ true → AreEmpty ls → read_from t n ls ≡ Ok t.spans

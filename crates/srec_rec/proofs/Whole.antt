@@ -113,7 +113,7 @@ abbrev tail_of : List (List ℕ) → List (List ℕ)
 tail_of [] = []
 tail_of (x ∷ xs) = xs
 
-snoc : (front : List (List ℕ)) (x : List ℕ) (f : List (List ℕ)) (l : List ℕ) (k : List (List ℕ)) → front ++ (x ∷ []) ≡ f ++ (l ∷ k)
+pub snoc : (front : List (List ℕ)) (x : List ℕ) (f : List (List ℕ)) (l : List ℕ) (k : List (List ℕ)) → front ++ (x ∷ []) ≡ f ++ (l ∷ k)
     → ((front ≡ f) × (l ≡ x)) ⊎ ((more : List (List ℕ)) × (front ≡ f ++ (l ∷ more)))
 snoc [] x [] l k e = inl (refl, sym (ap head_of e))
 snoc [] x (y ∷ f) l k e =

@@ -1,4 +1,5 @@
 pub mod Reading
+pub mod Refusals
 pub mod Record
 pub mod SrecText
 pub mod Writing

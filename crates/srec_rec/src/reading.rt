@@ -3,6 +3,7 @@ ghost use Rattle.srec_rec.specs.Record.{is_record};
 ghost use Rattle.srec_rec.specs.Reading.{with_map, applied, step, reading_of};
 ghost use Rattle.span_store.specs.ByteMap.{ByteMap};
 ghost use Rattle.srec_rec.specs.SrecText.{IsSrecText};
+ghost use Rattle.srec_rec.specs.Refusals.{IsRefused};
 ghost use Rattle.rec_text.specs.Putting.{putting};
 ghost use Rattle.rec_text.specs.declared.fault.RecFault.{RecFault};
 
@@ -117,8 +118,11 @@ pub fn read(alloc: Global, text: &[u8]) -> Result<Spans, RecFault>
 }
 
 /// A text is read exactly where it is records, one end, and nothing behind it, its count records say
-/// the number of data records before them, and its map is the union of what its data records give.
+/// the number of data records before them, and its map is the union of what its data records give. It is
+/// refused exactly by the first line that is wrong, for what is wrong with it, or for want of an end.
 pub fn text_law()
     ensures read { (text : List ℕ) (m : ByteMap) → reading_of text ≡ Ok m → IsSrecText text m }
     ensures is { (text : List ℕ) (m : ByteMap) → IsSrecText text m → reading_of text ≡ Ok m }
+    ensures refused { (text : List ℕ) (e : RecFault) → reading_of text ≡ Err e → IsRefused text e }
+    ensures refuses { (text : List ℕ) (e : RecFault) → IsRefused text e → reading_of text ≡ Err e }
 {}

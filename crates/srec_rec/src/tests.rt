@@ -44,7 +44,7 @@ fn texts_that_are_read(rt: HostRuntime) {
 /// Texts that are refused, at their first, a middle and their last line.
 #[test]
 fn texts_that_are_refused(rt: HostRuntime) {
-    let table: [(&str, (u8, u64, u64)); 10] = [
+    let table: [(&str, (u8, u64, u64)); 16] = [
         ("S107100001020304DF\nS9030000FC\n", (2, 1, 0)),
         ("S107100001020304DE\nS5030002FA\nS9030000FC\n", (3, 2, 1)),
         ("S4030000FC\nS9030000FC\n", (1, 1, 0)),
@@ -56,6 +56,12 @@ fn texts_that_are_refused(rt: HostRuntime) {
             "S107100001020304DE\nS1041002FFEA\nS9030000FC\n",
             (5, 0x1002, 0),
         ),
+        ("S5030001FB\nS9030000FC\n", (3, 1, 0)),
+        ("S107100001020304DE\nS5030002FA", (3, 2, 1)),
+        ("S9030000FC\nS107100001020304DE\nS9030000FC\n", (4, 2, 0)),
+        ("S107100001020304DE\nS1041002FFEA", (5, 0x1002, 0)),
+        ("S107100001020304DE\nS1041002FFEB\nS9030000FC\n", (2, 2, 0)),
+        ("", (6, 0, 0)),
         ("S107100001020304DE\n", (6, 0, 0)),
         ("S107100001020304DE\nS9030000FD\n", (2, 2, 0)),
     ];

@@ -1,3 +1,5 @@
+pub mod Events
+pub mod Frames
 pub mod IdealAsk
 pub mod IdealCalls
 pub mod IdealCalm
@@ -13,4 +15,9 @@ pub mod Laters
 pub mod Leads
 pub mod Limits
 pub mod Looks
+pub mod Openings
 pub mod Outcomes
+pub mod Parts
+pub mod Polling
+pub mod Recording
+pub mod Starts

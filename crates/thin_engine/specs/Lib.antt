@@ -11,5 +11,9 @@ pub mod Reading
 pub mod Reads
 pub mod Said
 pub mod SameUnits
+pub mod Shown
+pub mod Sounding
 pub mod Stages
+pub mod Standing
+pub mod Talking
 pub mod Undisturbed

@@ -1,7 +1,7 @@
-ghost use Rattle.std.specs.Prelude.{◌≡◌, ◌+◌, ◌≤◌, ◌<◌, drop, length};
-ghost use Rattle.doip_frame.specs.Frame.{is_length};
+ghost use Rattle.std.specs.Prelude.{◌≡◌, ◌+◌, ◌≤◌, ◌<◌, IsTrue, drop, length};
+ghost use Rattle.doip_frame.specs.Frame.{is_length, stream_of};
 ghost use Rattle.thin_engine.specs.Look.{Cuts, look_of, look_sized, two_at, four_at};
-ghost use Rattle.thin_engine.specs.Reading.{IsWithin};
+ghost use Rattle.thin_engine.specs.Reading.{IsWithin, IsBehindRead, IsBehindAt, IsAnswerRead, IsActivationRead, IsRead};
 ghost use Rattle.thin_engine.specs.Reads.{stand_at, message_seen, behind_at, answer_seen, activation_seen, read_of};
 
 /// The two logical addresses of a conversation.
@@ -103,6 +103,7 @@ pub enum Reading {
 /// Whether these addresses stand at `i`.
 fn are_at(s: &[u8], i: usize, source: u16, target: u16) -> bool
     requires { i + 4 ≤ length s.now }
+    ensures places { IsTrue result → (two_at s.now i ≡ source) × (two_at s.now (i + 2) ≡ target) }
     ensures is { result ≡ stand_at s.now i source target }
 {
     two(s, i) == source && two(s, i + 2) == target
@@ -117,7 +118,9 @@ enum Behind {
 }
 
 /// The unit's message alone.
+#[tactic(auto, using(crate::proofs::Frames::lone_message, crate::proofs::Frames::nothing_yet))]
 fn read_message(route: &Route, rest: &[u8]) -> Behind
+    ensures read { IsBehindRead route.now.tester route.now.unit rest.now result }
     ensures is { result ≡ message_seen route.now.tester route.now.unit rest.now (look_of rest.now) }
     ensures long { result ≡ Behind.Message → 12 ≤ length rest.now }
 {
@@ -148,6 +151,7 @@ pub fn from_on(got: &[u8], from: usize) -> &[u8]
 fn read_behind(route: &Route, got: &[u8], from: usize) -> Reading
     requires { from ≤ length got.now }
     ensures within { IsWithin (length got.now) result }
+    ensures read { IsBehindAt route.now.tester route.now.unit from got.now result }
     ensures is { result ≡ behind_at route.now.tester route.now.unit from got.now }
 {
     match read_message(route, from_on(got, from)) {
@@ -158,8 +162,10 @@ fn read_behind(route: &Route, got: &[u8], from: usize) -> Reading
 }
 
 /// An acknowledgement, and then the unit's message alone.
+#[tactic(auto, using(crate::proofs::Frames::so_far_behind, crate::proofs::Frames::answer_behind, crate::proofs::Frames::nothing_yet))]
 fn read_answer(route: &Route, got: &[u8]) -> Reading
     ensures within { IsWithin (length got.now) result }
+    ensures read { IsAnswerRead route.now.tester route.now.unit got.now result }
     ensures is { result ≡ answer_seen route.now.tester route.now.unit got.now (look_of got.now) }
 {
     match front(got) {
@@ -178,8 +184,10 @@ fn read_answer(route: &Route, got: &[u8]) -> Reading
 }
 
 /// The answer to a routing activation alone.
+#[tactic(auto, using(crate::proofs::Frames::accepting, crate::proofs::Frames::nothing_yet))]
 fn read_activation(got: &[u8]) -> Reading
     ensures within { IsWithin (length got.now) result }
+    ensures read { IsActivationRead got.now result }
     ensures is { result ≡ activation_seen got.now (look_of got.now) }
 {
     match front(got) {
@@ -206,6 +214,7 @@ pub enum Awaited {
 
 pub fn read_awaited(awaited: Awaited, route: &Route, got: &[u8]) -> Reading
     ensures within { IsWithin (length got.now) result }
+    ensures read { IsRead awaited route.now.tester route.now.unit got.now result }
     ensures is { result ≡ read_of awaited route.now.tester route.now.unit got.now }
 {
     match awaited {

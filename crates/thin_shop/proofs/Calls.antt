@@ -1,6 +1,6 @@
 -- The calls of a shop in memory are those of a shop.
-use Rattle.std.proofs.Common.{◌≡◌, ◌⊎◌, inl, inr, ℕ, zero, suc, ◌+◌, ◌-◌, ◌<◌, ◌≤◌, ◌^◌, min, Bool, true, false, List, length, refl, sym, ◌∙◌, ap, subst, arith, Result, Ok, Err}
-use Rattle.std.specs.Prelude.{IsErr, nat_le, take, ⊤}
+use Rattle.std.proofs.Common.{◌≡◌, ℕ, suc, ◌+◌, ◌≤◌, true, List, refl, sym, ◌∙◌, ap, subst, arith, Result, Ok, Err}
+use Rattle.std.specs.Prelude.{IsErr, nat_le, ⊤}
 use Rattle.std.proofs.lemmas.Bool.{le-leb}
 use Rattle.disk_model.specs.Disk.{DiskState}
 use Rattle.disk_model.specs.declared.device.DeviceFault.{DeviceFault}
@@ -8,13 +8,13 @@ use Rattle.unit_model.specs.declared.reply.Got.{Got}
 use Rattle.unit_model.specs.declared.reply.Got.TheVariants.{Quiet, Bytes}
 use Rattle.unit_model.specs.Vehicle.{Vehicle}
 use Rattle.flash_base.specs.Counts.{Rises}
-use Rattle.shop_model.specs.History.{History, Call, LAST, Received, Passes, DiskCall, LinkCall, disk_now, vehicle_now}
+use Rattle.shop_model.specs.History.{Call, LAST, Received, Passes, DiskCall, LinkCall, disk_now, vehicle_now}
 use Rattle.thin_shop.specs.declared.past.Past.{Past, Start, Then'}
 use Rattle.thin_shop.specs.declared.shop.ThinShop.{ThinShop}
 use Rattle.thin_shop.specs.Disks.{disk_of}
 use Rattle.thin_shop.specs.Cars.{vehicle_of}
 use Rattle.thin_shop.specs.Moments.{depth, disk_in, vehicle_in, call_in}
-use Rattle.thin_shop.specs.Shops.{history_of, Later, Noted, SameRest, DiskMissed, LinkMissed, DiskDone, LinkDone}
+use Rattle.thin_shop.specs.Shops.{history_of, Later, Noted, DiskMissed, LinkMissed, DiskDone, LinkDone}
 
 disk_at_depth : (p : Past) (d : DiskState) → disk_in p d (depth p) ≡ d
 disk_at_depth Start d = refl

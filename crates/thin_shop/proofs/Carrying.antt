@@ -1,10 +1,10 @@
 -- What a receive carries.
-use Rattle.std.proofs.Common.{◌≡◌, ◌⊎◌, inl, inr, ℕ, ◌+◌, ◌-◌, ◌≤◌, List, ◌++◌, length, take, drop, refl, sym, ◌∙◌, ap, arith}
+use Rattle.std.proofs.Common.{◌≡◌, inl, ℕ, ◌+◌, ◌-◌, List, ◌++◌, take, drop, sym, ◌∙◌, ap, arith}
 use Rattle.std.specs.Prelude.{slice_range, ⊤}
 use Rattle.std.proofs.lemmas.List.{take-append-drop, drop-drop}
 use Rattle.unit_model.specs.Unit.{ControlUnit}
-use Rattle.unit_model.specs.Vehicle.{Gateway, Vehicle}
-use Rattle.unit_model.specs.Poll.{Carries, IsShown, IsPlain}
+use Rattle.unit_model.specs.Vehicle.{Gateway}
+use Rattle.unit_model.specs.Poll.{Carries, IsShown}
 
 pub front_and_rest : (s n : ℕ) (xs front : List ℕ) → front ≡ slice_range xs s (s + n) → drop s xs ≡ front ++ drop (s + n) xs
 front_and_rest s n xs front is =

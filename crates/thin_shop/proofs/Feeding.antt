@@ -1,17 +1,13 @@
 -- Bytes are fed where their frames are handled one after another.
-use Rattle.std.proofs.Common.{◌≡◌, ◌⊎◌, inl, inr, ℕ, zero, suc, ◌+◌, ◌<◌, ◌≤◌, List, [], ◌∷◌, ◌++◌, length, true, None, Some, Option, refl, sym, ◌∙◌, ap, subst, arith}
+use Rattle.std.proofs.Common.{ℕ, zero, suc, ◌≤◌, List, [], ◌∷◌, ◌++◌, length, true, None, Some, Option, refl, sym, ◌∙◌, ap, subst, arith}
 use Rattle.std.proofs.lemmas.List.{append_assoc, append-nil}
 use Rattle.doip_frame.specs.declared.frame.Bad.{Bad}
 use Rattle.doip_frame.specs.declared.frame.Frame.{Frame}
-use Rattle.doip_frame.specs.Frame.{Cut, Partial, Wrong, Whole, cut_frame, frame_of, Stream, stream_of, stream_in, stream_after, nack_code, header_nack_bytes}
+use Rattle.doip_frame.specs.Frame.{Cut, Partial, Wrong, Whole, cut_frame, stream_of, stream_in, stream_after, nack_code, header_nack_bytes}
 use Rattle.doip_frame.proofs.Streams.{Shortens, shortens}
-use Rattle.unit_model.specs.Vehicle.{Gateway, Vehicle}
+use Rattle.unit_model.specs.Vehicle.{Vehicle}
 use Rattle.unit_model.specs.Feed.{Word, Handles, AfterCut, FeedsAll, FeedsHearing, queue_words, say}
-
--- frames were handled in order, and the replies of the units gathered
-abbrev pub Runs : List Frame → Vehicle → Vehicle → List Word → Type 0
-Runs [] old new out = (new ≡ old) × (out ≡ [])
-Runs (f ∷ fs) old new out = (mid : Vehicle) × (first : List Word) × (second : List Word) × Handles f old mid first × Runs fs mid new second × (out ≡ first ++ second)
+use Rattle.thin_shop.specs.Desks.{Runs}
 
 pub one_more : (fs : List Frame) (f : Frame) (a b c : Vehicle) (before out : List Word) → Runs fs a b before → Handles f b c out → Runs (fs ++ f ∷ []) a c (before ++ out)
 one_more [] f a b c before out runs did =

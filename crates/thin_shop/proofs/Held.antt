@@ -1,7 +1,8 @@
 -- What a deframer holds behind a piece is the beginning of a frame.
-use Rattle.std.proofs.Common.{◌≡◌, ◌∙◌, ℕ, true, List, ◌++◌, None, Some, Option, refl, ap}
+use Rattle.std.proofs.Common.{◌≡◌, ◌∙◌, ℕ, true, List, ◌++◌, None, Some, Option, refl, ap, Result, Ok, Err}
+use Rattle.std.specs.Prelude.{OnOk, OnErr}
 use Rattle.doip_frame.specs.declared.frame.Bad.{Bad}
-use Rattle.doip_frame.specs.Frame.{cut_frame, Partial, Cut, stream_of}
+use Rattle.doip_frame.specs.Frame.{cut_frame, Partial, stream_of}
 use Rattle.doip_frame.specs.Deframe.{is_partial, held_after, kept, left}
 use Rattle.doip_frame.proofs.Feeds.{left_part}
 use Rattle.thin_shop.specs.Holding.{unfinished_of}
@@ -16,3 +17,8 @@ held_part (Some h) piece = kept_part (stream_of (h ++ piece)).bad (stream_of (h 
 
 pub held_now : (now held : Option (List ℕ)) (piece : List ℕ) → now ≡ held_after held piece → is_partial (cut_frame (unfinished_of now)) ≡ true
 held_now now held piece is = ap (λ (o : Option (List ℕ)). is_partial (cut_frame (unfinished_of o))) is ∙ held_part held piece
+
+-- after a call of a deframer
+pub held_either : {T E : Type 0} (r : Result T E) (now held : Option (List ℕ)) (piece : List ℕ) → is_partial (cut_frame (unfinished_of held)) ≡ true → OnOk r (now ≡ held_after held piece) → OnErr r (now ≡ held) → is_partial (cut_frame (unfinished_of now)) ≡ true
+held_either (Ok x) now held piece was is same = held_now now held piece is
+held_either (Err e) now held piece was is same = ap (λ (o : Option (List ℕ)). is_partial (cut_frame (unfinished_of o))) same ∙ was

@@ -4,3 +4,9 @@ pub mod Feeding
 pub mod Unfed
 pub mod Options
 pub mod Held
+pub mod Sizes
+pub mod OneFrame
+pub mod Prefixes
+pub mod Refusals
+pub mod Sends
+pub mod Works

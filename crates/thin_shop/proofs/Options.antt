@@ -1,7 +1,7 @@
 -- Ranges at the beginning of options.
-use Rattle.std.proofs.Common.{◌≡◌, ℕ, zero, suc, ◌+◌, ◌-◌, ◌*◌, ◌/◌, ◌%◌, ◌<◌, ◌≤◌, Bool, true, false, List, [], ◌∷◌, length, take, drop, get_or, None, Some, refl, sym, ◌∙◌, ap, arith}
+use Rattle.std.proofs.Common.{◌≡◌, ℕ, suc, ◌+◌, ◌-◌, ◌*◌, ◌/◌, ◌%◌, ◌≤◌, true, false, List, [], ◌∷◌, length, take, drop, None, Some, refl, sym, ◌∙◌, ap, arith}
 use Rattle.std.specs.Prelude.{slice_index, slice_range, nat_le, ◌&&◌}
-use Rattle.std.proofs.lemmas.Bool.{le-leb, lt-leb, and_left, and_right, and_from, cases_Bool, eqb-true, eq-eqb, and_parts}
+use Rattle.std.proofs.lemmas.Bool.{le-leb, and_from, eqb-true, eq-eqb, and_parts}
 use Rattle.std.proofs.lemmas.List.{drop-drop}
 use Rattle.flash_base.specs.Numbers.{number_of}
 use Rattle.flash_base.specs.Lists.{same_bytes}

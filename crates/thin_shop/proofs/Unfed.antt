@@ -1,15 +1,14 @@
 -- A send of which nothing came.
-use Rattle.std.proofs.Common.{◌≡◌, ◌⊎◌, inl, inr, ℕ, zero, suc, ◌∙◌, Bool, true, false, List, [], ◌∷◌, ◌++◌, length, take, None, Some, Option, refl, sym, ap, subst}
-use Rattle.std.specs.Prelude.{MatchBool, IsTrue}
+use Rattle.std.proofs.Common.{◌≡◌, inl, ℕ, suc, Bool, true, false, List, [], ◌++◌, length, refl, sym, subst}
+use Rattle.std.specs.Prelude.{MatchBool}
 use Rattle.std.proofs.lemmas.List.{append-nil}
 use Rattle.doip_frame.specs.Frame.{Cut, Partial, Wrong, Whole, cut_frame}
 use Rattle.doip_frame.specs.Deframe.{is_partial}
-use Rattle.unit_model.specs.Unit.{ControlUnit}
-use Rattle.unit_model.specs.Vehicle.{Gateway, Vehicle, redialed}
-use Rattle.unit_model.specs.Feed.{Word, queue_words, AfterCut, FeedsAll, Feeds, FeedsHearing, FeedsPart}
+use Rattle.unit_model.specs.Vehicle.{Vehicle}
+use Rattle.unit_model.specs.Feed.{AfterCut, FeedsAll, FeedsHearing, FeedsPart}
 use Rattle.thin_shop.specs.declared.car.Car.{Car}
 use Rattle.thin_shop.specs.Cars.{vehicle_of}
-use Rattle.thin_shop.specs.Holding.{is_deaf, unfinished_of}
+use Rattle.thin_shop.specs.Holding.{is_deaf}
 
 pub partial_is : (cut : Cut) → is_partial cut ≡ true → cut ≡ Partial
 partial_is Partial is = refl

@@ -1,5 +1,5 @@
 -- The built-in vehicle.
-use Rattle.std.specs.Prelude.{ℕ, false, [], ◌∷◌}
+use Rattle.std.specs.Prelude.{false, [], ◌∷◌}
 use Rattle.flash_base.specs.declared.unit.KeyRule.TheVariants.{Free}
 use Rattle.unit_model.specs.declared.spec.UnitSpec.{UnitSpec}
 use Rattle.unit_model.specs.Running.{unit_of}

@@ -1,5 +1,5 @@
 -- A download whose range ends below 2^64.
-use Rattle.std.specs.Prelude.{ℕ, ◌+◌, ◌<◌, ◌^◌}
+use Rattle.std.specs.Prelude.{◌+◌, ◌<◌, ◌^◌}
 use Rattle.uds_codec.specs.declared.request.Request.{Request}
 use Rattle.uds_codec.specs.declared.request.Request.TheVariants.{Session, Seed, Key, ReadId, Routine, Download, Transfer, Exit, Reset}
 

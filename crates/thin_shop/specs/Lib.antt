@@ -2,6 +2,8 @@ pub mod BuiltIn
 pub mod Cars
 pub mod Disks
 pub mod Downloads
+pub mod Feeding
+pub mod Desks
 pub mod Holding
 pub mod Moments
 pub mod New

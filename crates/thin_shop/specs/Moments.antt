@@ -1,5 +1,5 @@
 -- What there was at each moment so far.
-use Rattle.std.specs.Prelude.{ℕ, zero, suc, Bool, ◌==◌, nat_le, List, if◌then◌else◌}
+use Rattle.std.specs.Prelude.{ℕ, suc, ◌==◌, nat_le, if◌then◌else◌}
 use Rattle.disk_model.specs.Disk.{DiskState}
 use Rattle.unit_model.specs.Vehicle.{Vehicle}
 use Rattle.shop_model.specs.History.{Call, Len, ReadAt, WriteAt, Sync, Send, Receive, Redial}

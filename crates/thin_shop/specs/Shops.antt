@@ -1,6 +1,6 @@
 -- What a shop in memory tells, and what one call adds to its record.
 use Rattle.std.proofs.Common.{refl, arith}
-use Rattle.std.specs.Prelude.{◌≡◌, ◌⊎◌, ℕ, zero, suc, ◌+◌, ◌<◌, ◌≤◌, ◌^◌, ◌-◌, min, Bool, true, false, List, [], length, nat_le, if◌then◌else◌, Result, is_ok}
+use Rattle.std.specs.Prelude.{◌≡◌, ℕ, suc, ◌+◌, ◌<◌, ◌≤◌, ◌^◌, ◌-◌, min, Bool, true, false, [], length, nat_le, if◌then◌else◌, Result, is_ok}
 use Rattle.disk_model.specs.declared.device.DeviceFault.{DeviceFault}
 use Rattle.disk_model.specs.Disk.{DiskState, IsCrashImage}
 use Rattle.unit_model.specs.Vehicle.{Vehicle}

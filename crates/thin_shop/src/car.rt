@@ -3,10 +3,10 @@ ghost use Rattle.doip_frame.specs.Frame.{cut_frame};
 ghost use Rattle.doip_frame.specs.Deframe.{is_partial};
 ghost use Rattle.thin_shop.specs.Holding.{unfinished_of};
 
-use crate::handling::{Place, handle_all};
+use crate::handling::{Desk, handle_all, refuse_header, reply_all};
 use disk_model::DeviceFault;
-use doip_frame::Deframer;
-use flash_base::NoMemory;
+use doip_frame::{Deframer, Fed};
+use flash_base::{Bytes, Items, NoMemory};
 use std::alloc::Global;
 use unit_model::{Got, Unit, UnitSpec};
 
@@ -24,6 +24,8 @@ pub struct Car {
     carried: Vec<u8>,
     pub(crate) tick: u64,
     unit: Unit,
+    /// The messages that the unit heard, in order.
+    heard: Items<Bytes>,
     ghost order: { start ≤ length ready.items },
     ghost partial: { IsTrue (is_partial (cut_frame (unfinished_of deframer))) },
 }
@@ -32,8 +34,12 @@ impl Car {
     ghost use Rattle.unit_model.specs.Vehicle.{Vehicle, redialed};
     ghost use Rattle.unit_model.specs.Running.{IsUnitSpec, unit_of};
     ghost use Rattle.shop_model.specs.History.{Received, IsPiece, Sent};
-    ghost use Rattle.thin_shop.specs.Cars.{vehicle_of};
+    ghost use Rattle.std.specs.Prelude.{MatchOption, None};
+    ghost use Rattle.flash_base.specs.ByteMaps.{byte_at};
+    ghost use Rattle.unit_model.specs.Regions.{IsPart};
+    ghost use Rattle.thin_shop.specs.Cars.{vehicle_of, memory_in, heard_in};
     ghost use Rattle.thin_shop.specs.New.{new_vehicle};
+    ghost use Rattle.thin_shop.specs.Feeding.{CarCut, CarWorked, CarPart};
 
     /// The vehicle with this gateway and the unit of this spec, to which nothing was sent.
     pub(crate) fn new(alloc: Global, entity: u16, spec: &UnitSpec) -> Result<Car, NoMemory>
@@ -49,6 +55,7 @@ impl Car {
             carried: Vec::new(alloc),
             tick: 0,
             unit: Unit::new(alloc, spec)?,
+            heard: Items::new(alloc),
         })
     }
 
@@ -89,25 +96,17 @@ impl Car {
         }
     }
 
-    /// Handles the bytes that the tester sends: each whole frame in order, and behind them a refused
-    /// header. Where there is no memory a part of them was handled, and the connection is broken.
+    /// Handles the bytes that the tester sends: each whole frame in order, behind them a refused header,
+    /// and then the unit's replies. Where there is no memory the bytes up to some frame's end were handled,
+    /// and where these were any the connection is broken.
     pub(crate) fn feed(&mut self, alloc: Global, bytes: &[u8]) -> Result<(), DeviceFault>
+        ensures vehicle { Sent bytes.now (vehicle_of self.old) (vehicle_of self.new) result }
         ensures tick { self.new.tick ≡ self.old.tick }
     {
-        let Ok(fed) = self.deframer.feed(bytes) else {
+        let Ok(fed) = self.cut(bytes) else {
             return Err(DeviceFault);
         };
-        let place = Place {
-            entity: self.entity,
-            alloc,
-        };
-        match handle_all(
-            &place,
-            &mut self.active,
-            &mut self.ready,
-            &mut self.unit,
-            &fed,
-        ) {
+        match self.work(alloc, &fed) {
             Ok(()) => Ok(()),
             Err(_) => {
                 self.redial(alloc);
@@ -116,11 +115,46 @@ impl Car {
         }
     }
 
-    /// The next bytes of the unit's memory from an address on, at most so many; None where the unit has no such address.
-    pub fn memory(&self, at: u64, size: u64) -> Option<&[u8]>
-        requires { 1 ≤ size }
+    /// The next bytes of the unit's memory from an address on, at most so many; None where it has no such address.
+    pub fn memory(&self, at: u64, most: u64) -> Option<&[u8]>
+        requires { 1 ≤ most }
+        ensures { MatchOption result (byte_at (memory_in self.now) at ≡ None) (λ p. IsPart at most (memory_in self.now) p.now) }
     {
-        self.unit.memory.part(at, size)
+        self.unit.memory.part(at, most)
+    }
+
+    /// The requests that the unit heard, in order, over every connection.
+    pub fn heard(&self) -> &[Bytes]
+        ensures { result.now ≡ heard_in self.now }
+    {
+        self.heard.as_slice()
+    }
+
+    fn cut(&mut self, bytes: &[u8]) -> Result<Fed, NoMemory>
+        ensures ok { IfOk result (λ fed. CarCut bytes.now self.old self.new fed.frames fed.bad) }
+        ensures err { OnErr result (vehicle_of self.new ≡ vehicle_of self.old) }
+        ensures tick { self.new.tick ≡ self.old.tick }
+    {
+        self.deframer.feed(bytes)
+    }
+
+    fn work(&mut self, alloc: Global, fed: &Fed) -> Result<(), NoMemory>
+        ensures ok { OnOk result (CarWorked fed.now.frames fed.now.bad self.old self.new) }
+        ensures err { OnErr result (CarPart fed.now.frames self.old self.new) }
+        ensures tick { self.new.tick ≡ self.old.tick }
+    {
+        let mut desk = Desk {
+            entity: self.entity,
+            active: self.active,
+            answers: Vec::new(alloc),
+            alloc,
+        };
+        let replies = handle_all(&mut desk, &mut self.unit, &mut self.heard, &fed.frames)?;
+        refuse_header(&mut desk, &fed.bad)?;
+        reply_all(&mut desk, self.unit.address, replies.as_slice())?;
+        self.ready.extend_from_slice(&desk.answers)?;
+        self.active = desk.active;
+        Ok(())
     }
 }
 

@@ -144,6 +144,7 @@ impl ThinShop {
         requires { self.old.link_calls < self.old.moment }
         ensures done { LinkDone result self.old self.new }
         ensures linked { self.new.linked ≡ self.old.linked }
+        ensures vehicle { Sent bytes.now (vehicle_of self.old.car) (vehicle_of self.new.car) result }
     {
         self.link_calls += 1;
         match self.car.feed(self.alloc, bytes) {
@@ -191,12 +192,12 @@ impl ThinShop {
 }
 
 impl Shop for ThinShop {
-    ghost use Rattle.std.specs.Prelude.{◌≡◌, ◌+◌, ◌≤◌, ◌<◌, ◌↔◌, ◌^◌, true, false, IsTrue, IsOk, IfOk, OnOk, length, slice_range};
+    ghost use Rattle.std.specs.Prelude.{◌≡◌, ◌+◌, ◌≤◌, ◌<◌, ◌↔◌, ◌^◌, true, IsTrue, IsOk, IfOk, OnOk, length, slice_range};
     ghost use Rattle.thin_shop.specs.Shops.{history_of, readable_of};
 
     ghost tells_disk = { true };
 
-    ghost tells_vehicle = { false };
+    ghost tells_vehicle = { true };
 
     ghost history = { history_of };
 

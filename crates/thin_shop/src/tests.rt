@@ -1,3 +1,6 @@
+ghost use Rattle.std.specs.Prelude.{◌≡◌, ◌≤◌, IsTrue, length};
+ghost use Rattle.thin_shop.specs.Shops.{history_of};
+
 use crate::ThinShop;
 use crate::built_in::plain;
 use crate::hear::hear;
@@ -72,5 +75,67 @@ fn a_disk_is_written_and_read(rt: HostRuntime) -> Result<(), Fail> {
     let quiet = shop.receive(&mut out).map_err(|_| "receive")?;
     assert_eq!(rt; quiet, Got::Quiet);
     assert_eq!(rt; shop.starved(), 0);
+    Ok(())
+}
+
+/// Whether the gateway has just these bytes ready once it was sent the others.
+fn answers(shop: &mut ThinShop, sent: &[u8], want: &[u8]) -> bool
+    requires linked { IsTrue (history_of shop.old).linked }
+    requires some { 1 ≤ length sent.now }
+    requires few { length sent.now ≤ 65600 }
+    ensures { (history_of shop.new).linked ≡ (history_of shop.old).linked }
+{
+    if shop.send(sent).is_err() {
+        return false;
+    }
+    let mut out = [0u8; 64];
+    match shop.receive(&mut out) {
+        Ok(Got::Bytes(n)) => &out[..n] == want,
+        Ok(Got::Quiet) => want.is_empty(),
+        Err(_) => false,
+    }
+}
+
+#[test]
+fn a_gateway_answers(rt: HostRuntime) -> Result<(), Fail> {
+    let mut shop = ThinShop::new(rt.alloc())?;
+    shop.redial().map_err(|_| "redial")?;
+    let early = answers(
+        &mut shop,
+        &[
+            0x03, 0xfc, 0x80, 0x01, 0, 0, 0, 5, 0x0e, 0x80, 0x10, 0x01, 0x37,
+        ],
+        &[
+            0x03, 0xfc, 0x80, 0x03, 0, 0, 0, 5, 0x10, 0x01, 0x0e, 0x80, 0x02,
+        ],
+    );
+    assert!(rt; early);
+    let half = answers(&mut shop, &[0x03, 0xfc, 0x00, 0x05, 0, 0, 0, 7, 0x0e], &[]);
+    assert!(rt; half);
+    let active = answers(
+        &mut shop,
+        &[0x80, 0, 0, 0, 0, 0],
+        &[
+            0x03, 0xfc, 0x00, 0x06, 0, 0, 0, 9, 0x0e, 0x80, 0x40, 0x00, 0x10, 0, 0, 0, 0,
+        ],
+    );
+    assert!(rt; active);
+    let other = answers(
+        &mut shop,
+        &[
+            0x03, 0xfc, 0x80, 0x01, 0, 0, 0, 5, 0x0e, 0x80, 0x10, 0x02, 0x37,
+        ],
+        &[
+            0x03, 0xfc, 0x80, 0x03, 0, 0, 0, 5, 0x10, 0x02, 0x0e, 0x80, 0x03,
+        ],
+    );
+    assert!(rt; other);
+    let bad = answers(
+        &mut shop,
+        &[0x03, 0xfd],
+        &[0x03, 0xfc, 0x00, 0x00, 0, 0, 0, 1, 0x00],
+    );
+    assert!(rt; bad);
+    assert!(rt; shop.car().heard().is_empty());
     Ok(())
 }

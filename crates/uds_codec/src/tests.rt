@@ -60,7 +60,7 @@ fn same(a: &Request, b: &Request) -> bool {
     }
 }
 
-/// The request is written as these bytes, these are read as it, and what begins them is too short.
+/// The request is written as these bytes, and they are read as it.
 fn is_spelled(rt: &impl Abort, alloc: Global, request: &Request, bytes: &[u8]) -> Result<(), Fail>
     requires { HasForm request.now }
 {
@@ -71,10 +71,11 @@ fn is_spelled(rt: &impl Abort, alloc: Global, request: &Request, bytes: &[u8]) -
     Ok(())
 }
 
-/// Each proper beginning of the bytes is short.
-fn begins(rt: &impl Abort, alloc: Global, bytes: &[u8]) {
+/// Each proper beginning of the bytes is short, but those from `least` bytes on, which are requests too.
+fn begins(rt: &impl Abort, alloc: Global, bytes: &[u8], least: usize) {
     for n in 0..bytes.len() {
-        assert_eq!(rt; outcome(decode(alloc, &bytes[..n])), (1, 0));
+        let wanted: (u8, usize) = if n < least { (1, 0) } else { (0, 0) };
+        assert_eq!(rt; outcome(decode(alloc, &bytes[..n])), wanted);
     }
 }
 
@@ -119,19 +120,12 @@ fn requests_of_a_run(rt: HostRuntime) -> Result<(), Fail> {
         b"\x31\x01\xff\x01",
     )?;
     is_spelled(&rt, alloc, &Request::Reset, b"\x11\x01")?;
-    Ok(())
-}
-
-#[test]
-fn keys_and_idents(rt: HostRuntime) -> Result<(), Fail> {
-    let alloc = rt.alloc();
     is_spelled(
         &rt,
         alloc,
         &Request::ReadId { did: 0xf195 },
         b"\x22\xf1\x95",
     )?;
-    is_spelled(&rt, alloc, &Request::Seed { level: 0x7d }, b"\x27\x7d")?;
     let key = Bytes::from_slice(alloc, b"\xed\xcb")?;
     is_spelled(
         &rt,
@@ -139,6 +133,52 @@ fn keys_and_idents(rt: HostRuntime) -> Result<(), Fail> {
         &Request::Key { level: 1, key },
         b"\x27\x02\xed\xcb",
     )?;
+    Ok(())
+}
+
+/// The requests of one size each, at their least and greatest numbers.
+#[test]
+fn least_and_greatest_numbers(rt: HostRuntime) -> Result<(), Fail> {
+    let alloc = rt.alloc();
+    is_spelled(&rt, alloc, &Request::Session { kind: 1 }, b"\x10\x01")?;
+    is_spelled(&rt, alloc, &Request::Session { kind: 3 }, b"\x10\x03")?;
+    is_spelled(&rt, alloc, &Request::ReadId { did: 0 }, b"\x22\x00\x00")?;
+    is_spelled(
+        &rt,
+        alloc,
+        &Request::ReadId { did: 0xffff },
+        b"\x22\xff\xff",
+    )?;
+    is_spelled(&rt, alloc, &Request::Seed { level: 1 }, b"\x27\x01")?;
+    is_spelled(&rt, alloc, &Request::Seed { level: 0x7d }, b"\x27\x7d")?;
+    let width = Width { size: 1, at: 1 };
+    let least = Request::Download {
+        width,
+        at: 0,
+        size: 0,
+    };
+    is_spelled(&rt, alloc, &least, b"\x34\x00\x11\x00\x00")?;
+    let width = Width { size: 4, at: 4 };
+    let greatest = Request::Download {
+        width,
+        at: 0xffff_ffff,
+        size: 0xffff_ffff,
+    };
+    is_spelled(
+        &rt,
+        alloc,
+        &greatest,
+        b"\x34\x00\x44\xff\xff\xff\xff\xff\xff\xff\xff",
+    )?;
+    Ok(())
+}
+
+/// The requests of several sizes, at the least and the greatest.
+#[test]
+fn least_and_greatest_sizes(rt: HostRuntime) -> Result<(), Fail> {
+    let alloc = rt.alloc();
+    let key = Bytes::from_slice(alloc, b"\xed")?;
+    is_spelled(&rt, alloc, &Request::Key { level: 1, key }, b"\x27\x02\xed")?;
     let key = Bytes::from_slice(alloc, b"0123456789abcdef0123456789abcdef")?;
     is_spelled(
         &rt,
@@ -146,7 +186,51 @@ fn keys_and_idents(rt: HostRuntime) -> Result<(), Fail> {
         &Request::Key { level: 0x7d, key },
         b"\x27\x7e0123456789abcdef0123456789abcdef",
     )?;
+    let body = Bytes::from_slice(alloc, b"a")?;
+    is_spelled(
+        &rt,
+        alloc,
+        &Request::Transfer { counter: 0, body },
+        b"\x36\x00a",
+    )?;
+    let body = Bytes::from_vec(vec![in alloc; 0x5au8; 65_533]?);
+    assert!(rt; body.len() == 65_533);
+    let mut bytes = vec![in alloc; 0x5au8; 65_535]?;
+    bytes[0] = 0x36;
+    bytes[1] = 0xff;
+    is_spelled(
+        &rt,
+        alloc,
+        &Request::Transfer {
+            counter: 0xff,
+            body,
+        },
+        bytes.as_slice(),
+    )?;
+    bytes.push(0x5a)?;
+    assert_eq!(rt; outcome(decode(alloc, bytes.as_slice())), (3, 65_535));
     Ok(())
+}
+
+/// What begins a request and ends too early, request by request.
+#[test]
+fn beginnings(rt: HostRuntime) {
+    let alloc = rt.alloc();
+    let rows: [(&[u8], usize); 10] = [
+        (b"\x10\x02", 2),
+        (b"\x11\x01", 2),
+        (b"\x22\xf1\x95", 3),
+        (b"\x27\x01", 2),
+        (b"\x27\x02\xed\xcb", 3),
+        (b"\x31\x01\xff\x01", 4),
+        (b"\x31\x01\xff\x00\x11\x00\x03", 4),
+        (b"\x34\x00\x23\x01\x00\x00\x00\x10", 8),
+        (b"\x36\x01abc", 3),
+        (b"\x37", 1),
+    ];
+    for (bytes, least) in rows.iter() {
+        begins(&rt, alloc, bytes, *least);
+    }
 }
 
 /// An address and a size at each pair of widths, at their greatest numbers.
@@ -179,7 +263,7 @@ fn widths(rt: HostRuntime) -> Result<(), Fail> {
                 size: greatest[(size - 1) as usize],
             };
             assert!(rt; same(&wanted, &read));
-            begins(&rt, alloc, bytes.as_slice());
+            begins(&rt, alloc, bytes.as_slice(), bytes.len());
             bytes.push(0)?;
             let end = 3 + size as usize + at as usize;
             assert_eq!(rt; outcome(decode(alloc, bytes.as_slice())), (3, end));
@@ -236,49 +320,55 @@ fn refusals(rt: HostRuntime) {
     }
 }
 
-/// The longest block, and one byte more.
-#[test]
-fn longest_block(rt: HostRuntime) -> Result<(), Fail> {
-    let alloc = rt.alloc();
-    let mut bytes = Vec::new(alloc);
-    bytes.extend_from_slice(b"\x36\xff")?;
-    for _ in 0..65_533u32 {
-        bytes.push(0x5a)?;
-    }
-    assert_eq!(rt; outcome(decode(alloc, bytes.as_slice())), (0, 0));
-    bytes.push(0x5a)?;
-    assert_eq!(rt; outcome(decode(alloc, bytes.as_slice())), (3, 65_535));
-    Ok(())
-}
-
-/// Of all first bytes the eight services are known.
+/// Garbage behind each first byte: a service refuses it at its own place, a block takes it, and no other first byte is of a service.
 #[test]
 fn first_bytes(rt: HostRuntime) {
     let alloc = rt.alloc();
-    let mut known = 0u32;
     for sid in 0..256u32 {
         let first = sid as u8;
-        match outcome(decode(alloc, &[first, 0xee, 0xee, 0xee])) {
-            (2, unknown) => assert_eq!(rt; unknown, sid as usize),
-            _ => known = known.wrapping_add(1),
-        }
+        let wanted: (u8, usize) = match first {
+            0x10 | 0x11 | 0x27 | 0x31 | 0x34 | 0x37 => (3, 1),
+            0x22 => (3, 3),
+            0x36 => (0, 0),
+            _ => (2, sid as usize),
+        };
+        let garbage = [first, 0xee, 0xee, 0xee];
+        assert_eq!(rt; outcome(decode(alloc, &garbage)), wanted);
+        let wanted: (u8, usize) = match first {
+            0x50 | 0x51 | 0x62 | 0x67 | 0x71 | 0x74 | 0x76 | 0x77 => (0, 0),
+            0x7f => (3, 3),
+            _ => (2, sid as usize),
+        };
+        assert_eq!(rt; outcome(decode_reply(alloc, &garbage)), wanted);
     }
-    assert_eq!(rt; known, 8);
 }
 
-/// Every negative code, and positive answers.
+/// Every negative code, of which the table has sixteen, is read as it is.
 #[test]
-fn answers(rt: HostRuntime) -> Result<(), Fail> {
+fn negative_codes(rt: HostRuntime) -> Result<(), Fail> {
     let alloc = rt.alloc();
-    let listed = (0..=255u8).filter(|nrc| is_listed_code(*nrc)).count();
-    assert_eq!(rt; listed, 16);
-    for nrc in 0..256u32 {
-        let code = nrc as u8;
+    let listed = [
+        0x11u8, 0x12, 0x13, 0x21, 0x22, 0x24, 0x31, 0x33, 0x35, 0x70, 0x71, 0x72, 0x73, 0x78, 0x7e,
+        0x7f,
+    ];
+    for number in 0..256u32 {
+        let code = number as u8;
+        assert_eq!(rt;
+            is_listed_code(code),
+            listed.iter().any(|other| *other == code)
+        );
         match decode_reply(alloc, &[0x7f, 0x34, code])? {
             Reply::Negative { sid, nrc } => assert_eq!(rt; (sid, nrc), (0x34, code)),
             Reply::Positive { .. } => assert!(rt; false),
         }
     }
+    Ok(())
+}
+
+/// A positive answer, and what is none.
+#[test]
+fn answers(rt: HostRuntime) -> Result<(), Fail> {
+    let alloc = rt.alloc();
     match decode_reply(alloc, b"\x74\x10\x12")? {
         Reply::Positive { sid, rest } => {
             assert_eq!(rt; sid, 0x34);

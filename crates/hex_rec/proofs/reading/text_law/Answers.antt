@@ -1,5 +1,6 @@
 use Rattle.hex_rec.proofs.Whole.{whole_text}
 use Rattle.hex_rec.proofs.Back.{read_whole}
+use Rattle.hex_rec.proofs.Refused.{refused_text, refuses_text}
 use Rattle.hex_rec.proofs.reading.text_law.Goals as goal
 
 pub returns-clause-read : goal.returns-clause-read
@@ -7,3 +8,9 @@ returns-clause-read c = whole_text
 
 pub returns-clause-is : goal.returns-clause-is
 returns-clause-is c = read_whole
+
+pub returns-clause-refused : goal.returns-clause-refused
+returns-clause-refused c = refused_text
+
+pub returns-clause-refuses : goal.returns-clause-refuses
+returns-clause-refuses c = refuses_text

@@ -1,30 +1,35 @@
-use Rattle.std.proofs.Common.{◌≡◌, ◌+◌, ◌^◌, ◌<◌, ◌⊎◌, sym, inl, inr, arith}
+use Rattle.std.proofs.Common.{◌≡◌, ℕ, ◌+◌, ◌-◌, ◌⊎◌, min, length, take, sym, inl, inr, arith, subst, length-take}
 use Rattle.std.proofs.lemmas.Bool.{cases_lt}
-use Rattle.std.proofs.lemmas.Option.{none-some}
-use Rattle.std.proofs.Common.{length-set}
-use Rattle.span_store.specs.ByteMap.{top}
-use Rattle.rec_text.proofs.Cuts.{held_more, cut_here, some_here}
+use Rattle.span_store.specs.ByteMap.{Holds}
+use Rattle.span_store.proofs.Maps.{held_first, held-append}
+use Rattle.rec_text.proofs.Cuts.{cut_here, some_here}
 use Rattle.rec_text.proofs.cutting.cut_front.Goals as goal
 
 pub returns-in_default-clause-cut : goal.returns-in_default-clause-cut
 returns-in_default-clause-cut c =
-    let none = sym c.in_default.ensures.value in
+    let none = c.in_default.ensures in
     let most = c.min-most.ensures in
     let small = c.loop-n.invariant.small in
     cut_here c.args.room c.args.spans.now c.args.at c.loop-n.n c.loop-n.line c.loop-n.invariant.stored (some_here c.args.spans.now c.args.at c.loop-n.n c.requires.first none) (omega arith) (omega arith) (inr (inr none))
 
 pub loop-n-preserved : goal.loop-n-preserved
 loop-n-preserved c =
-    let most = c.min-most.ensures in
-    let below : c.args.at + c.loop-n.n < 2 ^ 32 = elim (cases_lt (c.args.at + c.loop-n.n) top) [
-      | inl l ↦ l
-      | inr l ↦ absurd (none-some c.in-Some.b (sym (c.in-Some.ensures.beyond l)))
-    ] in
+    let some = c.in-Some.ensures.0 in
+    let within = c.in-Some.ensures.1 in
+    let place = c.copied-n.ensures.place in
+    let stored = c.copied-n.ensures.stored in
+    let n : ℕ = c.loop-n.n in
+    let small = c.loop-n.invariant.small in
+    let front = c.loop-n.invariant.stored in
+    let size : length (take n c.loop-n.line) ≡ min n (length c.loop-n.line) = length-take n c.loop-n.line in
+    let same : n ≡ length (take n c.loop-n.line) = omega arith in
     record {
       small = omega arith;
-      stored = (let size = length-set c.loop-n.line c.loop-n.n c.in-Some.b in omega arith);
+      stored = omega arith;
       within = omega arith;
-      held = held_more c.args.spans.now c.args.at c.loop-n.n c.in-Some.b c.loop-n.line (omega arith) c.loop-n.invariant.held (sym c.in-Some.ensures.value);
+      held = subst (Holds c.args.spans.now c.args.at) (sym c.copied-n.ensures.copied)
+          (held-append c.args.spans.now c.args.at (take n c.loop-n.line) (take (c.copied-n.result - n) c.in-Some.bytes.now) c.loop-n.invariant.held
+          (subst (λ k. Holds c.args.spans.now (c.args.at + k) (take (c.copied-n.result - n) c.in-Some.bytes.now)) same (held_first c.args.spans.now (c.args.at + n) (c.copied-n.result - n) c.in-Some.bytes.now c.in-Some.ensures.2)));
     }
 
 pub returns-clause-cut : goal.returns-clause-cut

@@ -1,4 +1,4 @@
-use Rattle.std.proofs.Common.{◌/◌, ◌%◌, ◌+◌, ◌≤◌, ◌≡◌, length, get_or, refl, arith, sym, ℕ, List}
+use Rattle.std.proofs.Common.{◌/◌, ◌%◌, get_or, refl, arith, ℕ, List}
 use Rattle.thin_shop.proofs.Options.{range_there}
 use Rattle.thin_shop.proofs.routine.range.Goals as goal
 

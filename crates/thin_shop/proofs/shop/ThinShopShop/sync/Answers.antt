@@ -1,12 +1,8 @@
-use Rattle.std.proofs.Common.{◌≡◌, ◌∙◌, ◌+◌, ◌≤◌, ap, sym, subst, refl, arith, length, inl, inr, Ok, Err, List, ℕ}
-use Rattle.std.specs.Prelude.{slice_range, ⊤}
+use Rattle.std.proofs.Common.{ap}
 use Rattle.disk_model.specs.Disk.{DiskState}
-use Rattle.unit_model.specs.Vehicle.{Vehicle}
-use Rattle.unit_model.specs.Poll.{Misses}
-use Rattle.shop_model.specs.History.{DiskCall, LinkCall, WroteOrMissed, SyncedOrNot, Sent, Received, Redialed}
+use Rattle.shop_model.specs.History.{SyncedOrNot}
 use Rattle.thin_shop.specs.Disks.{disk_of}
-use Rattle.thin_shop.specs.Cars.{vehicle_of}
-use Rattle.thin_shop.proofs.Calls.{disk_is, vehicle_is, disk_did, disk_last, link_did, link_last, at_disks, at_vehicles, same_disks, same_vehicles, received}
+use Rattle.thin_shop.proofs.Calls.{disk_did, disk_last, at_disks}
 use Rattle.thin_shop.proofs.shop.ThinShopShop.sync.Goals as goal
 
 pub returns-then-not-note-clause-call : goal.returns-then-not-note-clause-call

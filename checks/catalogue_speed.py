@@ -1,0 +1,59 @@
+#!/usr/bin/env python3
+"""Reads and resolves two generated catalogues beside Python's json, in the same run.
+
+Usage: checks/catalogue_speed.py, after `rt run` in crates/catalogue_bench has built the program. Prints, for a catalogue with
+long inside texts and one of 200,000 small elements: its size; the time of catalogue_bench (tree and document) and of Python's
+json.loads; the peak memory of catalogue_bench, and of the same program that only has serde_json parse the file; and how much
+the first is above the second, in sizes of the file. Then the times of both kinds at half and at full size. It measures and
+judges nothing: figures compare only within one run.
+"""
+import json
+import os
+import pathlib
+import subprocess
+import sys
+import tempfile
+import time
+
+program = pathlib.Path(__file__).resolve().parent.parent / "crates/catalogue_bench/out/catalogue_bench"
+
+
+def run(words, folder):
+    """Its output, and the peak of its memory in bytes."""
+    with tempfile.TemporaryFile() as out:
+        child = subprocess.Popen([str(program), *words], cwd=folder, stdout=out)
+        _, status, usage = os.wait4(child.pid, 0)
+        child.returncode = status
+        out.seek(0)
+        if status != 0:
+            sys.exit(f"catalogue_bench {' '.join(words)}: status {status}")
+        return out.read().decode(), usage.ru_maxrss * 1024
+
+
+def milliseconds(text):
+    return int(text.split()[0]) / 1000
+
+
+def main():
+    if not program.exists():
+        sys.exit(f"{program} is not there: run `rt run` in crates/catalogue_bench first")
+    with tempfile.TemporaryDirectory() as folder:
+        run(["make"], folder)
+        for name, kind in [("long.json", "long inside texts"), ("small.json", "200,000 small elements")]:
+            path = pathlib.Path(folder) / name
+            size = path.stat().st_size
+            read, peak = run([name], folder)
+            parsed, peak_parsed = run(["parse", name], folder)
+            data = path.read_bytes()
+            start = time.perf_counter()
+            json.loads(data)
+            python = (time.perf_counter() - start) * 1000
+            del data
+            above = (peak - peak_parsed) / size
+            print(f"{kind}: {size} bytes; read and resolved in {milliseconds(read):.0f} ms, of which serde_json {milliseconds(parsed):.0f} ms; Python's json.loads {python:.0f} ms")
+            print(f"  peak {peak / size:.1f} times the file, serde_json alone {peak_parsed / size:.1f} times: {above:.1f} times the file above it")
+        print(run(["time"], folder)[0], end="")
+
+
+if __name__ == "__main__":
+    main()

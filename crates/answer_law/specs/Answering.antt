@@ -1,0 +1,58 @@
+-- Which bytes answer a request, by the rows of the table of services (ISO 14229-1).
+use Rattle.std.specs.Prelude.{◌≡◌, ℕ, ◌+◌, ◌/◌, ◌≤◌, List, [], ◌∷◌, ◌++◌, length}
+use Rattle.flash_base.specs.Numbers.{number_of}
+use Rattle.uds_codec.specs.declared.request.Request.{Request}
+use Rattle.uds_codec.specs.declared.request.Request.TheVariants.{Session, Seed, Key, ReadId, Routine, Download, Transfer, Exit, Reset}
+use Rattle.uds_codec.specs.Answer.{Later, Again, Refusal, Good, Bad_status, judge}
+use Rattle.uds_codec.specs.Form.{HasLength}
+use Rattle.uds_codec.specs.Laws.{IsPair, Spells}
+use Rattle.uds_codec.specs.Request.{sid_of}
+
+-- a number of 1 to 8 bytes, 3 at least, behind the byte whose high digit says how many
+pub record IsBlockNumber (digits : ℕ) (number : List ℕ) : Type 0 where
+  pub said : digits / 16 ≡ length number
+  pub some : 1 ≤ length number
+  pub few : length number ≤ 8
+  pub least : 3 ≤ number_of number
+
+-- The bytes answer the request positively, and this is what they say beyond the form.
+abbrev pub Answers : Request → List ℕ → List ℕ → Type 0
+Answers (Session kind) bytes more = bytes ≡ 80 ∷ kind ∷ more
+Answers Reset bytes more = bytes ≡ 81 ∷ 1 ∷ more
+Answers (ReadId did) bytes more = (hi : ℕ) × (lo : ℕ) × (bytes ≡ 98 ∷ hi ∷ lo ∷ more) × IsPair hi lo did
+Answers (Seed level) bytes more = (bytes ≡ 103 ∷ level ∷ more) × HasLength 1 32 more
+Answers (Key level key) bytes more = bytes ≡ 103 ∷ (level + 1) ∷ more
+Answers (Routine id option) bytes more = (hi : ℕ) × (lo : ℕ) × (bytes ≡ 113 ∷ 1 ∷ hi ∷ lo ∷ 0 ∷ more) × IsPair hi lo id
+Answers (Download width at size) bytes more = (digits : ℕ) × (rest : List ℕ) × (bytes ≡ 116 ∷ digits ∷ (more ++ rest)) × IsBlockNumber digits more
+Answers (Transfer counter body) bytes more = bytes ≡ 118 ∷ counter ∷ more
+Answers Exit bytes more = bytes ≡ 119 ∷ more
+
+-- The bytes say that the routine ended with this status, which is not 0.
+abbrev pub EndsWith : Request → List ℕ → ℕ → Type 0
+EndsWith (Routine id option) bytes status =
+    (hi : ℕ) × (lo : ℕ) × (more : List ℕ) × (bytes ≡ 113 ∷ 1 ∷ hi ∷ lo ∷ status ∷ more) × IsPair hi lo id × (1 ≤ status)
+EndsWith (Session kind) bytes status = ⊥
+EndsWith Reset bytes status = ⊥
+EndsWith (ReadId did) bytes status = ⊥
+EndsWith (Seed level) bytes status = ⊥
+EndsWith (Key level key) bytes status = ⊥
+EndsWith (Download width at size) bytes status = ⊥
+EndsWith (Transfer counter body) bytes status = ⊥
+EndsWith Exit bytes status = ⊥
+
+-- The bytes refuse the request's service with this code.
+abbrev pub Refuses : List ℕ → List ℕ → ℕ → Type 0
+Refuses request bytes code = bytes ≡ 127 ∷ sid_of request ∷ code ∷ []
+
+-- Each verdict stands exactly where the answer is as it says.
+pub record IsAnswered : Type 0 where
+  pub good : (r : Request) (request bytes more : List ℕ) → Spells r request → judge request bytes ≡ Good more → Answers r bytes more
+  pub answers : (r : Request) (request bytes more : List ℕ) → Spells r request → Answers r bytes more → judge request bytes ≡ Good more
+  pub status : (r : Request) (request bytes : List ℕ) (status : ℕ) → Spells r request → judge request bytes ≡ Bad_status status → EndsWith r bytes status
+  pub ends : (r : Request) (request bytes : List ℕ) (status : ℕ) → Spells r request → EndsWith r bytes status → judge request bytes ≡ Bad_status status
+  pub later : (request bytes : List ℕ) → judge request bytes ≡ Later → Refuses request bytes 120
+  pub again : (request bytes : List ℕ) → judge request bytes ≡ Again → Refuses request bytes 33
+  pub refusal : (request bytes : List ℕ) (code : ℕ) → judge request bytes ≡ Refusal code → Refuses request bytes code
+  pub waits : (request bytes : List ℕ) → Refuses request bytes 120 → judge request bytes ≡ Later
+  pub busy : (request bytes : List ℕ) → Refuses request bytes 33 → judge request bytes ≡ Again
+  pub refused : (request bytes : List ℕ) (code : ℕ) → (code ≡ 120 → ⊥) → (code ≡ 33 → ⊥) → Refuses request bytes code → judge request bytes ≡ Refusal code

@@ -1,0 +1,6 @@
+use Rattle.std.proofs.Common.{◌≡◌, drop}
+use Rattle.ecu_mem.specs.Parts.{first_from, has_tag}
+use Rattle.ecu_mem.proofs.parts.kid.Given as goal
+
+abbrev pub invariant-loop-i : goal.invariant-loop-i
+invariant-loop-i l = first_from 0 (has_tag l.tag) l.kid-items ≡ first_from l.i (has_tag l.tag) (drop l.i l.kid-items)

@@ -1,0 +1,4 @@
+pub mod Appends
+pub mod Looks
+pub mod Opens
+pub mod OneSlot

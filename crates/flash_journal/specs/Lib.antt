@@ -1,0 +1,5 @@
+pub mod Kept
+pub mod Look
+pub mod Opened
+pub mod Seen
+pub mod Ways

@@ -1,0 +1,76 @@
+ghost use Rattle.std.specs.Prelude.{◌≡◌, ◌+◌, ◌≤◌, true, false, length, IsNone, IfSome};
+ghost use Rattle.flash_plan.specs.declared.outcome.Entry.{Entry as AnEntry};
+ghost use Rattle.journal_model.specs.Records.{body_of, stands_at};
+ghost use Rattle.journal_steps.specs.Tables.{place_of};
+
+use flash_plan::Entry;
+
+/// The 16 bytes of an entry.
+pub fn spelling(entry: Entry) -> [u8; 16]
+    ensures { result ≡ body_of entry }
+{
+    let (kind, unit) = match entry {
+        Entry::Begun(unit) => (1, unit),
+        Entry::Complete(unit) => (2, unit),
+    };
+    [
+        kind,
+        0,
+        (unit / 256) as u8,
+        (unit % 256) as u8,
+        0,
+        0,
+        0,
+        0,
+        0,
+        0,
+        0,
+        0,
+        0,
+        0,
+        0,
+        0,
+    ]
+}
+
+/// Where an entry stands in the table of all entries of a plan.
+pub fn place_in_table(entry: Entry) -> usize
+    ensures { result ≡ place_of entry }
+{
+    match entry {
+        Entry::Begun(unit) => 2 * unit as usize,
+        Entry::Complete(unit) => 2 * unit as usize + 1,
+    }
+}
+
+/// Whether this text stands at the place.
+pub fn stands(bytes: &[u8], at: usize, text: &[u8]) -> bool
+    requires { at + length text.now ≤ length bytes.now }
+    ensures { result ≡ stands_at bytes.now at (length text.now) text.now }
+{
+    for i in 0..text.len() {
+        if bytes[at + i] != text[i] {
+            return false;
+        }
+    }
+    true
+}
+
+/// The entry whose 16 bytes stand at the place.
+pub fn entry_at(bytes: &[u8], at: usize) -> Option<Entry>
+    requires { at + 16 ≤ length bytes.now }
+    ensures some { IfSome result (λ e. stands_at bytes.now at 16 (body_of e) ≡ true) }
+    ensures none { IsNone result → (e : AnEntry) → stands_at bytes.now at 16 (body_of e) ≡ false }
+{
+    let unit = 256 * bytes[at + 2] as u16 + bytes[at + 3] as u16;
+    let entry = if bytes[at] == 1 {
+        Entry::Begun(unit)
+    } else {
+        Entry::Complete(unit)
+    };
+    if stands(bytes, at, &spelling(entry)) {
+        Some(entry)
+    } else {
+        None
+    }
+}

@@ -1,0 +1,69 @@
+-- One entry, as a run of one slot.
+use Rattle.std.proofs.Common.{◌≡◌, ◌⊎◌, inl, inr, ℕ, ◌+◌, ◌*◌, ◌<◌, true, false, List, [], ◌∷◌, length, slice_index, refl, sym, ◌∙◌, ap, subst, arith}
+use Rattle.std.specs.Prelude.{Bool, ◌&&◌, ◌||◌}
+use Rattle.std.proofs.lemmas.Bool.{cases_Bool, cases_eq, eq-eqb, ne_eqb}
+use Rattle.disk_model.specs.Disk.{DiskState, IsSettled}
+use Rattle.flash_plan.specs.declared.outcome.Entry.{Entry}
+use Rattle.flash_plan.specs.declared.outcome.Entry.TheVariants.{Begun, Complete}
+use Rattle.flash_plan.specs.Outcomes.{same_entry}
+use Rattle.journal_model.specs.Records.{Label, slots_of, unit_of, body_of, is_open}
+use Rattle.journal_steps.specs.Append.{Records, IsPrepared, is_entry, with_entry, and_some, HasSome, AddsSome, AddsAtMost, CanAppendGroup, HasAddedGroup}
+use Rattle.journal_steps.proofs.Group.{retold, or_none}
+use Rattle.journal_steps.proofs.Settled.{body_size}
+use Rattle.journal_steps.proofs.Tables.{is_itself, one_place}
+
+not_entry : (e x : Entry) → (is_entry e x ≡ true → ⊥) → is_entry e x ≡ false
+not_entry e x none = elim (cases_Bool (is_entry e x)) [ inl is ↦ absurd (none is) | inr isnt ↦ isnt ]
+
+-- entries of one spelling are the same
+pub entry_same : (e x : Entry) → is_entry e x ≡ same_entry e x
+entry_same (Begun u) (Begun v) = elim (cases_eq u v) [
+  | inl same ↦ subst (λ (w : ℕ). is_entry (Begun u) (Begun w) ≡ true) same (is_itself (Begun u)) ∙ sym (eq-eqb u v same)
+  | inr other ↦ not_entry (Begun u) (Begun v) (λ is. let at : 2 * u ≡ 2 * v = one_place (Begun u) (Begun v) is in other (omega (arith, at))) ∙ sym (ne_eqb u v other)
+]
+entry_same (Begun u) (Complete v) = not_entry (Begun u) (Complete v) (λ is. let at : 2 * u ≡ 2 * v + 1 = one_place (Begun u) (Complete v) is in omega (arith, at))
+entry_same (Complete u) (Begun v) = not_entry (Complete u) (Begun v) (λ is. let at : 2 * u + 1 ≡ 2 * v = one_place (Complete u) (Begun v) is in omega (arith, at))
+entry_same (Complete u) (Complete v) = elim (cases_eq u v) [
+  | inl same ↦ subst (λ (w : ℕ). is_entry (Complete u) (Complete w) ≡ true) same (is_itself (Complete u)) ∙ sym (eq-eqb u v same)
+  | inr other ↦ not_entry (Complete u) (Complete v) (λ is. let at : 2 * u + 1 ≡ 2 * v + 1 = one_place (Complete u) (Complete v) is in other (omega (arith, at))) ∙ sym (ne_eqb u v other)
+]
+
+-- the entry at each place of the run
+abbrev pub only : Entry → ℕ → Entry
+only e j = e
+
+-- the bytes of one open gate
+abbrev pub open_gate : List ℕ
+open_gate = 165 ∷ []
+
+module _ (P : Label) (R : Entry → Bool) (slot : ℕ) (e : Entry) where
+  pub one_can : (disk : DiskState) (slots : ℕ) (body : List ℕ) → IsSettled disk → Records P R disk.bytes → slots ≡ slots_of P → slot < slots → is_open disk.bytes slot ≡ false
+      → unit_of e < P.units → R e ≡ false → IsPrepared R e → body ≡ body_of e → CanAppendGroup P R disk slots slot (only e) 1 body open_gate
+  one_can disk slots body settled holds count lt closed named fresh prepared spelt = record {
+    settled = settled;
+    holds = holds;
+    count = count;
+    within = omega (arith, lt);
+    closed = λ j jlt. let at : slot + j ≡ slot = omega (arith, jlt) in ap (λ (k : ℕ). is_open disk.bytes k) at ∙ closed;
+    named = λ j jlt. named;
+    fresh = λ j jlt. fresh;
+    differ = λ i j ij jlt. absurd (omega (arith, ij, jlt));
+    prepared = λ j jlt. prepared;
+    bodies_size = ap length spelt ∙ body_size e;
+    spelt = λ j t jlt tlt. let at : 16 * j + t ≡ t = omega (arith, jlt) in ap (λ (k : ℕ). slice_index body k) at ∙ ap (λ (xs : List ℕ). slice_index xs t) spelt;
+    gates_size = refl;
+    opens = λ j jlt. let at : j ≡ 0 = omega (arith, jlt) in ap (λ (k : ℕ). slice_index open_gate k) at;
+  }
+
+  -- with the one entry, or without
+  pub one_some : (image : List ℕ) → HasSome P R (only e) 1 image → Records P R image ⊎ Records P (with_entry R e) image
+  one_some image some = elim (cases_Bool (some.picked 0)) [
+    | inl is ↦ inr (retold P (and_some R some.picked (only e) 1) (with_entry R e) image (λ x. (λ i. R x || (is i && is_entry e x)) ∙ (λ i. R x || entry_same e x i)) some.records)
+    | inr isnt ↦ inl (retold P (and_some R some.picked (only e) 1) R image (λ x. (λ i. R x || (isnt i && is_entry e x)) ∙ or_none (R x)) some.records)
+  ]
+
+  pub one_adds : (disk : DiskState) → AddsSome P R (only e) 1 disk → AddsAtMost P R e disk
+  one_adds disk some image left = one_some image (some image left)
+
+  pub one_added : (old : List ℕ) (disk : DiskState) → HasAddedGroup P R old slot (only e) 1 disk → Records P (with_entry R e) disk.bytes
+  one_added old disk added = retold P (and_some R (λ j. true) (only e) 1) (with_entry R e) disk.bytes (λ x i. R x || entry_same e x i) added.holds

@@ -1,0 +1,4 @@
+pub mod Frames
+pub mod Inboxes
+pub mod Keeping
+pub mod Pieces

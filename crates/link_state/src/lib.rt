@@ -1,0 +1,12 @@
+//! The state of the link to a gateway by what was received (ISO 13400-2:2019, sections 7 and 9),
+//! without a device: phase, ticks, losses, one inbox for each unit, and whether an alive check is
+//! to be answered.
+#![tactic(auto)]
+
+mod inbox;
+mod state;
+#[cfg(test)]
+mod tests;
+
+pub use inbox::Message;
+pub use state::{LinkState, Phase};

@@ -1,0 +1,218 @@
+-- What a session keeps, and how an answer is heard.
+use Rattle.std.proofs.Common.{◌≡◌, inl, inr, ℕ, zero, suc, ◌+◌, ◌-◌, ◌*◌, ◌<◌, ◌≤◌, true, false, List, [], ◌∷◌, ◌++◌, length, take, drop, refl, sym, ◌∙◌, ap, arith, length-drop, add-one, drop-cons}
+use Rattle.std.specs.Prelude.{Bool, min}
+use Rattle.std.proofs.lemmas.Bool.{cases_Bool, false≢true}
+use Rattle.std.proofs.lemmas.List.{take-append-drop}
+use Rattle.flash_base.specs.Numbers.{number_of}
+use Rattle.flash_base.specs.Lists.{Each}
+use Rattle.flash_base.specs.declared.unit.KeyRule.{KeyRule}
+use Rattle.flash_base.specs.declared.unit.KeyRule.TheVariants.{Free, Xor, Digest}
+use Rattle.flash_plan.specs.Plan.{IsAcceptedUnit, IsWanted, size_of}
+use Rattle.flash_plan.specs.declared.outcome.Outcome.{Outcome}
+use Rattle.flash_plan.specs.declared.outcome.Outcome.TheVariants.{Refused, BadAnswer, CheckFailed}
+use Rattle.flash_plan.specs.declared.unit.Segment.{Segment}
+use Rattle.flash_plan.specs.declared.unit.UnitPlan.{UnitPlan}
+use Rattle.flash_plan.specs.declared.unit.Wanted.{Wanted}
+use Rattle.run_model.proofs.Along.{IsGoodPlace, says}
+use Rattle.run_model.specs.Places.{needs_request}
+use Rattle.run_model.specs.Script as script
+use Rattle.run_model.specs.Script.{Cursor, Blocks, Place, AtIdent, AtBegin, AtProgram, AtSeed, AtKey, AtErase, AtDownload, AtBlock, AtExit, AtCheck, AtFinish, AtReset, AtDone, AtEnd, request_at, bytes_at, place_judged, place_next, routine_at, idents_from, segments_from, after_program, start_place, more_blocks, after_block, is_empty, has_value, ask_at}
+use Rattle.run_model.specs.Talk.{Talk, talk_hears, talk_judged}
+use Rattle.run_model.specs.Ways.{Reply}
+use Rattle.uds_codec.specs.Answer.{Verdict, Later, Again, Refusal, Good, Bad_status, Strange, judge, form_in}
+use Rattle.uds_codec.specs.Key.{all_zero}
+use Rattle.uds_codec.specs.Request.{sid_of}
+use Rattle.unit_session.specs.Judging.{judged, verdict_of, IsFront}
+use Rattle.unit_session.specs.Left.{left_for, requests_left}
+use Rattle.unit_session.specs.Onward.{IsFinalForm, sid_at}
+use Rattle.unit_session.specs.Session.{place_at, IsStage, segment_of, no_segment, asked, settled, IsFewer}
+use Rattle.unit_session.specs.declared.judging.Front.{Front}
+use Rattle.unit_session.specs.declared.session.Ask.TheVariants as ask
+use Rattle.unit_session.specs.declared.stage.Stage.{Stage}
+use Rattle.unit_session.specs.declared.stage.Stage.TheVariants.{Ident, Program, Seed, Key, Erase, Download, Block, Exit, Check, Finish, Reset, Done, Ended}
+use Rattle.unit_session.proofs.Forms.{judged_by}
+
+-- ------ each stage is a place of the script
+each_drop : {T : Type 0} (P : T → Type 0) (xs : List T) (n : ℕ) → Each P xs → Each P (drop n xs)
+each_drop P xs zero all = all
+each_drop P [] (suc n) all = all
+each_drop P (x ∷ xs) (suc n) all = each_drop P xs n all.1
+
+ident_good : (u : UnitPlan) (ws : List Wanted) → Each IsWanted ws → IsGoodPlace u (idents_from ws)
+ident_good u [] all = record { place_is = tt; asked = tt }
+ident_good u (w ∷ ws) all = record { place_is = tt; asked = all }
+
+cursor_is : (u : UnitPlan) (n : ℕ) → n < length u.segments → take n u.segments ++ (segment_of u n ∷ drop (n + 1) u.segments) ≡ u.segments
+cursor_is u n lt =
+    let e : drop n u.segments ≡ segment_of u n ∷ drop (suc n) u.segments = drop-cons u.segments n no_segment lt in
+    ap (λ (xs : List Segment). take n u.segments ++ xs) (sym (e ∙ ap (λ (k : ℕ). segment_of u n ∷ drop k u.segments) (sym (add-one n)))) ∙ take-append-drop n u.segments
+
+pub stage_good : (u : UnitPlan) (stage : Stage) → IsAcceptedUnit u → IsStage u stage → IsGoodPlace u (place_at u stage)
+stage_good u (Ident n) ok is = ident_good u (drop n u.idents) (each_drop IsWanted u.idents n ok.idents)
+stage_good u Program ok is = record { place_is = tt; asked = tt }
+stage_good u Seed ok is = record { place_is = tt; asked = is }
+stage_good u (Key seed) ok is = record { place_is = tt; asked = (is.keyed, is.some, is.few) }
+stage_good u (Erase n) ok is = record { place_is = cursor_is u n is; asked = tt }
+stage_good u (Download n) ok is = record { place_is = cursor_is u n is; asked = tt }
+stage_good u (Block n sent counter limit) ok is = record {
+  place_is = (
+    cursor_is u n is.segment,
+    record {
+      body = take-append-drop sent (segment_of u n).body;
+      some = omega (arith, length-drop sent (segment_of u n).body, is.within);
+      limit = is.low;
+    },
+  );
+  asked = is.high;
+}
+stage_good u (Exit n) ok is = record { place_is = cursor_is u n is; asked = tt }
+stage_good u (Check n) ok is = record { place_is = cursor_is u n is; asked = tt }
+stage_good u Finish ok is = record { place_is = tt; asked = tt }
+stage_good u Reset ok is = record { place_is = tt; asked = tt }
+stage_good u Done ok is = record { place_is = tt; asked = tt }
+stage_good u (Ended outcome) ok is = record { place_is = tt; asked = tt }
+
+-- ------ the service of a request
+pub sid_is : (u : UnitPlan) (stage : Stage) → needs_request (place_at u stage) ≡ true → sid_of (bytes_at u (place_at u stage)) ≡ sid_at stage
+sid_is u (Ident n) needs = of (drop n u.idents) needs
+  where
+    of : (ws : List Wanted) → needs_request (idents_from ws) ≡ true → sid_of (bytes_at u (idents_from ws)) ≡ 34
+    of [] n = absurd (false≢true n)
+    of (w ∷ ws) n = refl
+sid_is u Program needs = refl
+sid_is u Seed needs = refl
+sid_is u (Key seed) needs = refl
+sid_is u (Erase n) needs = refl
+sid_is u (Download n) needs = refl
+sid_is u (Block n sent counter limit) needs = refl
+sid_is u (Exit n) needs = refl
+sid_is u (Check n) needs = refl
+sid_is u Finish needs = refl
+sid_is u Reset needs = refl
+sid_is u Done needs = absurd (false≢true needs)
+sid_is u (Ended outcome) needs = absurd (false≢true needs)
+
+-- ------ how an answer is heard
+pub heard_front : (u : UnitPlan) (stage : Stage) (reply : List ℕ) (said : Front) (sid : ℕ) → IsAcceptedUnit u → IsStage u stage → needs_request (place_at u stage) ≡ true → sid ≡ sid_at stage → IsFront sid reply said
+    → judge (bytes_at u (place_at u stage)) reply ≡ verdict_of said (form_in (request_at u (place_at u stage))) reply
+heard_front u stage reply said sid ok is needs at front =
+    let good = stage_good u stage ok is in
+    judged_by u (place_at u stage) reply (says u (place_at u stage) ok good.place_is good.asked needs).reads
+    ∙ ap (λ (k : ℕ). judged k (form_in (request_at u (place_at u stage))) reply) (sid_is u stage needs ∙ sym at)
+    ∙ front (form_in (request_at u (place_at u stage)))
+
+settled_judged : (u : UnitPlan) (tick : ℕ) (t : Talk) (v : Verdict) → IsFinalForm v → talk_judged u tick v t ≡ settled (place_judged u t.place v) t
+settled_judged u tick t Later final = absurd final
+settled_judged u tick t Again final = absurd final
+settled_judged u tick t (Refusal nrc) final = refl
+settled_judged u tick t (Good rest) final = refl
+settled_judged u tick t (Bad_status status) final = refl
+settled_judged u tick t Strange final = refl
+
+-- a final answer
+pub heard_final : (u : UnitPlan) (tick : ℕ) (t : Talk) (reply : List ℕ) (v : Verdict) (place : Place) → judge (bytes_at u t.place) reply ≡ v → IsFinalForm v → place ≡ place_judged u t.place v → talk_hears u tick (Reply reply) t ≡ settled place t
+heard_final u tick t reply v place is final to =
+    ap (λ (w : Verdict). talk_judged u tick w t) is ∙ settled_judged u tick t v final ∙ ap (λ (p : Place). settled p t) (sym to)
+
+-- ------ fewer requests are left behind each
+left_segments : (u : UnitPlan) (done ss : List Segment) → requests_left u (segments_from done ss) ≡ left_for ss
+left_segments u done [] = refl
+left_segments u done (s ∷ ss) = refl
+
+left_idents : (u : UnitPlan) (ws : List Wanted) → requests_left u (idents_from ws) ≤ length ws + 3 + left_for u.segments
+left_idents u [] = omega arith
+left_idents u (w ∷ ws) = omega arith
+
+left_blocks : (u : UnitPlan) (c : Cursor) (b : Blocks) → requests_left u (more_blocks c b) ≤ length b.rest + 2 + left_for c.left
+left_blocks u c b = elim (cases_Bool (is_empty b.rest)) [ inl e ↦ rw e (omega arith) | inr e ↦ rw e (omega arith) ]
+
+left_opened : (u : UnitPlan) (rule : KeyRule) → requests_left u (after_program u rule) ≤ 2 + left_for u.segments
+left_opened u Free = omega (arith, left_segments u [] u.segments)
+left_opened u (Xor level mask) = omega arith
+left_opened u (Digest level size secret) = omega arith
+
+left_next : (u : UnitPlan) (place : Place) (rest : List ℕ) → IsGoodPlace u place → needs_request place ≡ true → IsFewer u (place_next u place rest) place
+left_next u (AtIdent w ws) rest good needs = elim (cases_Bool (has_value w.values rest)) [ inl e ↦ rw e (omega (arith, left_idents u ws)) | inr e ↦ rw e (omega arith) ]
+left_next u AtBegin rest good needs = absurd (false≢true needs)
+left_next u AtProgram rest good needs = omega (arith, left_opened u u.key)
+left_next u (AtSeed level) rest good needs = elim (cases_Bool (all_zero rest)) [ inl e ↦ rw e (omega (arith, left_segments u [] u.segments)) | inr e ↦ rw e (omega arith) ]
+left_next u (AtKey level seed) rest good needs = omega (arith, left_segments u [] u.segments)
+left_next u (AtErase c) rest good needs = omega arith
+left_next u (AtDownload c) rest good needs = omega (arith, left_blocks u c (record { sent = []; rest = c.now.body; counter = 1; limit = min (number_of rest) 65535 }))
+left_next u (AtBlock c b) rest good needs = omega (arith, left_blocks u c (after_block b), length-drop (b.limit - 2) b.rest, good.place_is.1.some, good.place_is.1.limit)
+left_next u (AtExit c) rest good needs = omega arith
+left_next u (AtCheck c) rest good needs = omega (arith, left_segments u (c.done ++ (c.now ∷ [])) c.left)
+left_next u AtFinish rest good needs = omega arith
+left_next u AtReset rest good needs = omega arith
+left_next u AtDone rest good needs = absurd (false≢true needs)
+left_next u (AtEnd outcome) rest good needs = absurd (false≢true needs)
+
+left_some : (u : UnitPlan) (place : Place) → needs_request place ≡ true → 1 ≤ requests_left u place
+left_some u (AtIdent w ws) needs = omega arith
+left_some u AtBegin needs = absurd (false≢true needs)
+left_some u AtProgram needs = omega arith
+left_some u (AtSeed level) needs = omega arith
+left_some u (AtKey level seed) needs = omega arith
+left_some u (AtErase c) needs = omega arith
+left_some u (AtDownload c) needs = omega arith
+left_some u (AtBlock c b) needs = omega arith
+left_some u (AtExit c) needs = omega arith
+left_some u (AtCheck c) needs = omega arith
+left_some u AtFinish needs = omega arith
+left_some u AtReset needs = omega arith
+left_some u AtDone needs = absurd (false≢true needs)
+left_some u (AtEnd outcome) needs = absurd (false≢true needs)
+
+pub left_ended : (u : UnitPlan) (place : Place) (outcome : Outcome) → needs_request place ≡ true → IsFewer u (AtEnd outcome) place
+left_ended u place outcome needs = omega (arith, left_some u place needs)
+
+pub left_judged : (u : UnitPlan) (place : Place) (v : Verdict) → IsGoodPlace u place → needs_request place ≡ true → IsFinalForm v → IsFewer u (place_judged u place v) place
+left_judged u place Later good needs final = absurd final
+left_judged u place Again good needs final = absurd final
+left_judged u place (Refusal nrc) good needs final = left_ended u place (Refused (sid_of (bytes_at u place)) nrc) needs
+left_judged u place (Good rest) good needs final = left_next u place rest good needs
+left_judged u place (Bad_status status) good needs final = left_ended u place (CheckFailed (routine_at u place).0 (routine_at u place).1 status) needs
+left_judged u place Strange good needs final = left_ended u place (BadAnswer (sid_of (bytes_at u place))) needs
+
+left_size : (ss : List Segment) → left_for ss ≤ size_of ss + 4 * length ss + 2
+left_size [] = omega arith
+left_size (s ∷ ss) = omega (arith, left_size ss)
+
+pub start_few : (u : UnitPlan) (begun : Bool) → IsAcceptedUnit u → requests_left u (start_place u begun) ≤ 4294967295
+start_few u true ok = omega (arith, left_size u.segments, ok.few, ok.bytes)
+start_few u false ok = omega (arith, left_idents u u.idents, left_size u.segments, ok.few, ok.bytes, ok.few_idents)
+
+pub start_of : (u : UnitPlan) (begun : Bool) → IsAcceptedUnit u → 0 + requests_left u (start_place u begun) ≤ 4294967295
+start_of u begun ok = omega (arith, start_few u begun ok)
+
+-- ------ what is next
+pub waits : (b : Bool) (a : script.Ask) → asked b a ≡ ask.Wait → b ≡ true
+waits true a is = refl
+waits false script.Begin is = cc
+waits false (script.Send bytes) is = cc
+waits false script.Done is = cc
+waits false (script.Over outcome) is = cc
+
+pub sends : (u : UnitPlan) (b : Bool) (place : Place) → asked b (ask_at u place) ≡ ask.Send → needs_request place ≡ true
+sends u true place is = cc
+sends u false (AtIdent w ws) is = refl
+sends u false AtBegin is = cc
+sends u false AtProgram is = refl
+sends u false (AtSeed level) is = refl
+sends u false (AtKey level seed) is = refl
+sends u false (AtErase c) is = refl
+sends u false (AtDownload c) is = refl
+sends u false (AtBlock c b) is = refl
+sends u false (AtExit c) is = refl
+sends u false (AtCheck c) is = refl
+sends u false AtFinish is = refl
+sends u false AtReset is = refl
+sends u false AtDone is = cc
+sends u false (AtEnd outcome) is = cc
+
+pub ident_sends : (u : UnitPlan) (n : ℕ) → n < length u.idents → asked false (ask_at u (place_at u (Ident n))) ≡ ask.Send
+ident_sends u n lt = of (drop n u.idents) (omega (arith, length-drop n u.idents, lt))
+  where
+    of : (ws : List Wanted) → 1 ≤ length ws → asked false (ask_at u (idents_from ws)) ≡ ask.Send
+    of [] some = absurd (omega (arith, some))
+    of (w ∷ ws) some = refl

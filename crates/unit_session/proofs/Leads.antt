@@ -1,0 +1,174 @@
+-- What each answer leads to, by the numbers of a session.
+use Rattle.std.proofs.Common.{◌≡◌, inl, inr, ℕ, zero, suc, ◌+◌, ◌-◌, ◌<◌, ◌≤◌, true, false, List, [], ◌∷◌, ◌++◌, length, take, drop, Some, None, refl, sym, ◌∙◌, ap, subst, arith, slice_get, length-take, add-one, take-suc, drop-cons}
+use Rattle.std.specs.Prelude.{Bool, Option, ◌==◌, ◌&&◌, nat_le, nat_lt, if◌then◌else◌, slice_index_or}
+use Rattle.std.proofs.lemmas.Bool.{cases_Bool, cases_lt, lt-ltb, le-ltb, false≢true}
+use Rattle.std.proofs.lemmas.List.{drop_all}
+use Rattle.flash_base.specs.Numbers.{big_endian}
+use Rattle.flash_plan.specs.Plan.{IsAcceptedUnit, size_of}
+use Rattle.flash_plan.specs.declared.outcome.Outcome.TheVariants.{IdentMismatch, BadAnswer, CheckFailed}
+use Rattle.flash_plan.specs.declared.unit.Segment.{Segment}
+use Rattle.flash_plan.specs.declared.unit.UnitPlan.{UnitPlan}
+use Rattle.flash_plan.specs.declared.unit.Wanted.{Wanted}
+use Rattle.run_model.specs.Script.{Blocks, Place, AtIdent, AtErase, AtEnd, request_at, bytes_at, place_judged, place_next, routine_at, idents_from, segments_from, more_blocks, is_empty, has_value}
+use Rattle.uds_codec.specs.Answer.{Verdict, Good, Bad_status, Strange, form_in, routine_form, seed_form}
+use Rattle.uds_codec.specs.Key.{level_of, all_zero}
+use Rattle.uds_codec.specs.Request.{sid_of}
+use Rattle.unit_model.specs.Unit.{next_counter}
+use Rattle.unit_session.specs.Judging.{starts_with, names_id, status_in}
+use Rattle.unit_session.specs.Onward.{IsFinalForm, LeadsTo, routine_next, blocks_from, segment_next}
+use Rattle.unit_session.specs.Session.{place_at, IsStage, IsBlockStage, segment_of, cursor_at, no_segment, seed_bytes, level_or_none}
+use Rattle.unit_session.specs.declared.stage.KeptSeed.{KeptSeed}
+use Rattle.unit_session.specs.declared.stage.Stage.{Stage}
+use Rattle.unit_session.specs.declared.stage.Stage.TheVariants.{Ident, Seed, Key, Erase, Download, Block, Check, Finish, Reset, Ended}
+use Rattle.unit_session.proofs.Forms.{after_true, named_true, named_false, status_verdict, routine_by}
+
+drop_from : {T : Type 0} (xs : List T) (n : ℕ) (x : T) → slice_get xs n ≡ Some x → drop n xs ≡ x ∷ drop (suc n) xs
+drop_from [] n x is = cc
+drop_from (y ∷ ys) zero x is = cc
+drop_from (y ∷ ys) (suc n) x is = drop_from ys n x is
+
+pub drop_at : {T : Type 0} (xs : List T) (n : ℕ) (x : T) → slice_get xs n ≡ Some x → drop n xs ≡ x ∷ drop (n + 1) xs
+drop_at {T} xs n x is = drop_from xs n x is ∙ ap (λ (k : ℕ). x ∷ drop k xs) (sym (add-one n))
+
+drop_some : (k : ℕ) (xs : List ℕ) → k < length xs → is_empty (drop k xs) ≡ false
+drop_some zero [] lt = absurd (omega (arith, lt))
+drop_some zero (x ∷ xs) lt = refl
+drop_some (suc k) [] lt = absurd (omega (arith, lt))
+drop_some (suc k) (x ∷ xs) lt = drop_some k xs (omega (arith, lt))
+
+take_none : (n : ℕ) → take {A = ℕ} n [] ≡ []
+take_none zero = refl
+take_none (suc n) = refl
+
+drop_none : (n : ℕ) → drop {A = ℕ} n [] ≡ []
+drop_none zero = refl
+drop_none (suc n) = refl
+
+take_more : (k m : ℕ) (xs : List ℕ) → take k xs ++ take m (drop k xs) ≡ take (k + m) xs
+take_more zero m xs = let e : m ≡ 0 + m = omega arith in ap (λ (n : ℕ). take n xs) e
+take_more (suc k) m [] = take_none m ∙ sym (take_none (suc k + m))
+take_more (suc k) m (x ∷ xs) =
+    ap (λ (ys : List ℕ). x ∷ ys) (take_more k m xs) ∙ (let e : suc (k + m) ≡ suc k + m = omega arith in ap (λ (n : ℕ). take n (x ∷ xs)) e)
+
+drop_more : (k m : ℕ) (xs : List ℕ) → drop m (drop k xs) ≡ drop (k + m) xs
+drop_more zero m xs = let e : m ≡ 0 + m = omega arith in ap (λ (n : ℕ). drop n xs) e
+drop_more (suc k) m [] = drop_none m ∙ sym (drop_none (suc k + m))
+drop_more (suc k) m (x ∷ xs) = drop_more k m xs ∙ (let e : suc (k + m) ≡ suc k + m = omega arith in ap (λ (n : ℕ). drop n (x ∷ xs)) e)
+
+pub not_none : (n : ℕ) (b : Bool) → b ≡ (n == 0) → b ≡ false → 1 ≤ n
+not_none zero b is none = absurd (false≢true (sym none ∙ is))
+not_none (suc n) b is none = omega arith
+
+-- ------ the segments behind a number
+erase_from : (u : UnitPlan) (n : ℕ) → n < length u.segments → segments_from (take n u.segments) (drop n u.segments) ≡ AtErase (cursor_at u n)
+erase_from u n lt =
+    let e : drop n u.segments ≡ segment_of u n ∷ drop (suc n) u.segments = drop-cons u.segments n no_segment lt in
+    ap (segments_from (take n u.segments)) (e ∙ ap (λ (k : ℕ). segment_of u n ∷ drop k u.segments) (sym (add-one n)))
+
+size_within : (ss : List Segment) (n : ℕ) → length (slice_index_or ss n no_segment).body ≤ size_of ss
+size_within [] n = omega arith
+size_within (s ∷ ss) zero = omega arith
+size_within (s ∷ ss) (suc n) = omega (arith, size_within ss n)
+
+pub body_small : (u : UnitPlan) (n : ℕ) → IsAcceptedUnit u → length (segment_of u n).body ≤ 16777216
+body_small u n ok = omega (arith, size_within u.segments n, ok.bytes)
+
+module _ (u : UnitPlan) where
+  led : (stage : Stage) (rest : List ℕ) (next : Stage) (place : Place) (v : Verdict) → IsFinalForm v → place_at u stage ≡ place → form_in (request_at u place) rest ≡ v → place_at u next ≡ place_judged u place v → IsStage u next → LeadsTo u stage rest next
+  led stage rest next place v final at form to is = record {
+    place = to ∙ ap (place_judged u place) (sym form) ∙ (λ i. place_judged u (sym at i) (form_in (request_at u (sym at i)) rest));
+    final = subst IsFinalForm (sym form ∙ (λ i. form_in (request_at u (sym at i)) rest)) final;
+    fits = is;
+  }
+
+  pub next_segment : (n : ℕ) → n < length u.segments → segments_from (take n u.segments ++ (segment_of u n ∷ [])) (drop (n + 1) u.segments) ≡ place_at u (segment_next u n)
+  next_segment n lt = elim (cases_lt (n + 1) (length u.segments)) [
+    | inl more ↦ let f : nat_lt (n + 1) (length u.segments) ≡ true = lt-ltb _ _ more in rw f (ap (λ (xs : List Segment). segments_from xs (drop (n + 1) u.segments)) done ∙ erase_from u (n + 1) more)
+    | inr none ↦
+        let f : nat_lt (n + 1) (length u.segments) ≡ false = le-ltb _ _ none in
+        rw f (ap (segments_from (take n u.segments ++ (segment_of u n ∷ []))) (drop_all (n + 1) u.segments none))
+  ]
+    where
+      done : take n u.segments ++ (segment_of u n ∷ []) ≡ take (n + 1) u.segments
+      done = sym (ap (λ (k : ℕ). take k u.segments) (add-one n) ∙ take-suc u.segments n no_segment lt)
+
+  segment_stage : (n : ℕ) → IsStage u (segment_next u n)
+  segment_stage n = elim (cases_lt (n + 1) (length u.segments)) [
+    | inl more ↦ let f : nat_lt (n + 1) (length u.segments) ≡ true = lt-ltb _ _ more in rw f more
+    | inr none ↦ let f : nat_lt (n + 1) (length u.segments) ≡ false = le-ltb _ _ none in rw f tt
+  ]
+
+  -- ------ routines
+  routine_leads : (stage : Stage) (place : Place) (rest : List ℕ) (id n : ℕ) (next : Stage) → place_at u stage ≡ place → ((xs : List ℕ) → form_in (request_at u place) xs ≡ routine_form id xs) → sid_of (bytes_at u place) ≡ 49 → routine_at u place ≡ (id, n)
+      → ((more : List ℕ) → place_next u place more ≡ place_at u next) → IsStage u next → (o : Option ℕ) → status_in id rest ≡ o → LeadsTo u stage rest (routine_next o id n next)
+  routine_leads stage place rest id n next at form sid routine to is None said =
+      led stage rest _ place Strange tt at (form rest ∙ routine_by id rest ∙ ap (λ (o : Option ℕ). status_verdict o (drop 4 rest)) said) (ap (λ (k : ℕ). AtEnd (BadAnswer k)) (sym sid)) tt
+  routine_leads stage place rest id n next at form sid routine to is (Some status) said = elim (cases_Bool (status == 0)) [
+    | inl e ↦
+        let v : form_in (request_at u place) rest ≡ Good (drop 4 rest) = form rest ∙ routine_by id rest ∙ ap (λ (o : Option ℕ). status_verdict o (drop 4 rest)) said ∙ ap (λ (b : Bool). if b then Good (drop 4 rest) else Bad_status status) e in
+        rw e (led stage rest next place (Good (drop 4 rest)) tt at v (sym (to (drop 4 rest))) is)
+    | inr e ↦
+        let v : form_in (request_at u place) rest ≡ Bad_status status = form rest ∙ routine_by id rest ∙ ap (λ (o : Option ℕ). status_verdict o (drop 4 rest)) said ∙ ap (λ (b : Bool). if b then Good (drop 4 rest) else Bad_status status) e in
+        rw e (led stage rest (Ended (CheckFailed id n status)) place (Bad_status status) tt at v (ap (λ (x : ℕ × ℕ). AtEnd (CheckFailed x.0 x.1 status)) (sym routine)) tt)
+  ]
+
+  done_count : (n : ℕ) → n < length u.segments → length (take n u.segments) ≡ n
+  done_count n lt = let e = length-take n u.segments in omega (arith, e, lt)
+
+  pub erase_leads : (n : ℕ) (rest : List ℕ) → n < length u.segments → LeadsTo u (Erase n) rest (routine_next (status_in 65280 rest) 65280 n (Download n))
+  erase_leads n rest lt = routine_leads (Erase n) _ rest 65280 n (Download n) refl (λ xs. refl) refl (λ i. (65280, done_count n lt i)) (λ more. refl) lt _ refl
+
+  pub check_leads : (n : ℕ) (rest : List ℕ) → n < length u.segments → LeadsTo u (Check n) rest (routine_next (status_in u.check rest) u.check n (segment_next u n))
+  check_leads n rest lt = routine_leads (Check n) _ rest u.check n (segment_next u n) refl (λ xs. refl) refl (λ i. (u.check, done_count n lt i)) (λ more. next_segment n lt) (segment_stage n) _ refl
+
+  pub finish_leads : (rest : List ℕ) → LeadsTo u Finish rest (routine_next (status_in 65281 rest) 65281 (length u.segments) Reset)
+  finish_leads rest = routine_leads Finish _ rest 65281 (length u.segments) Reset refl (λ xs. refl) refl refl (λ more. refl) tt _ refl
+
+  -- ------ session, seed and key
+  seed_form_at : (rest : List ℕ) (level : ℕ) → level ≡ level_or_none (level_of u.key) → starts_with level rest ≡ true → form_in (request_at u (place_at u Seed)) rest ≡ seed_form (drop 1 rest)
+  seed_form_at rest level at is = after_true _ rest seed_form (ap (λ (k : ℕ). starts_with k rest) (sym at) ∙ is)
+
+  pub seed_kept : (rest seed : List ℕ) (kept : KeptSeed) (level : ℕ) → level ≡ level_or_none (level_of u.key) → starts_with level rest ≡ true → seed ≡ drop 1 rest → (nat_le 1 (length seed) && nat_le (length seed) 32) ≡ true → all_zero seed ≡ false → seed_bytes kept ≡ seed
+      → IsStage u (Key kept) → LeadsTo u Seed rest (Key kept)
+  seed_kept rest seed kept level at is eq good z bytes stage =
+      led Seed rest (Key kept) _ (Good seed) tt refl (seed_form_at rest level at is ∙ ap seed_form (sym eq) ∙ ap (λ (b : Bool). if b then Good seed else Strange) good) (rw (z, bytes) refl) stage
+
+  -- ------ identifiers
+  pub ident_bytes : (n : ℕ) (w : Wanted) → slice_get u.idents n ≡ Some w → bytes_at u (place_at u (Ident n)) ≡ 34 ∷ big_endian 2 w.did
+  ident_bytes n w is = ap (bytes_at u) (ap idents_from (drop_at u.idents n w is))
+
+  ident_place : (n : ℕ) (w : Wanted) → slice_get u.idents n ≡ Some w → place_at u (Ident n) ≡ AtIdent w (drop (n + 1) u.idents)
+  ident_place n w is = ap idents_from (drop_at u.idents n w is)
+
+  pub ident_bad : (n : ℕ) (w : Wanted) (rest : List ℕ) → slice_get u.idents n ≡ Some w → names_id w.did rest ≡ false → LeadsTo u (Ident n) rest (Ended (BadAnswer 34))
+  ident_bad n w rest is bad = led (Ident n) rest _ _ Strange tt (ident_place n w is) (named_false w.did rest bad) refl tt
+
+  pub ident_expected : (n : ℕ) (w : Wanted) (rest : List ℕ) → slice_get u.idents n ≡ Some w → names_id w.did rest ≡ true → has_value w.values (drop 2 rest) ≡ true → n + 1 ≤ length u.idents → LeadsTo u (Ident n) rest (Ident (n + 1))
+  ident_expected n w rest is good has le = led (Ident n) rest _ _ (Good (drop 2 rest)) tt (ident_place n w is) (named_true w.did rest good) (rw has refl) le
+
+  pub ident_other : (n : ℕ) (w : Wanted) (rest : List ℕ) → slice_get u.idents n ≡ Some w → names_id w.did rest ≡ true → has_value w.values (drop 2 rest) ≡ false → LeadsTo u (Ident n) rest (Ended (IdentMismatch w.did))
+  ident_other n w rest is good has = led (Ident n) rest _ _ (Good (drop 2 rest)) tt (ident_place n w is) (named_true w.did rest good) (rw has refl) tt
+
+  -- ------ blocks
+  abbrev blocks_at : ℕ → ℕ → ℕ → ℕ → Blocks
+  blocks_at n k counter limit = record { sent = take k (segment_of u n).body; rest = drop k (segment_of u n).body; counter = counter; limit = limit }
+
+  from_there : (n k counter limit : ℕ) → more_blocks (cursor_at u n) (blocks_at n k counter limit) ≡ place_at u (blocks_from (length (segment_of u n).body) n k counter limit)
+  from_there n k counter limit = elim (cases_lt k (length (segment_of u n).body)) [
+    | inl lt ↦ let e = drop_some k (segment_of u n).body lt in let f : nat_lt k (length (segment_of u n).body) ≡ true = lt-ltb _ _ lt in rw (e, f) refl
+    | inr ge ↦ let e : drop k (segment_of u n).body ≡ [] = drop_all k (segment_of u n).body ge in let f : nat_lt k (length (segment_of u n).body) ≡ false = le-ltb _ _ ge in rw (f, e) refl
+  ]
+
+  blocks_stage : (n k counter limit : ℕ) → n < length u.segments → 3 ≤ limit → limit ≤ 65535 → IsStage u (blocks_from (length (segment_of u n).body) n k counter limit)
+  blocks_stage n k counter limit lt low high = elim (cases_lt k (length (segment_of u n).body)) [
+    | inl within ↦ let f : nat_lt k (length (segment_of u n).body) ≡ true = lt-ltb _ _ within in rw f (record { segment = lt; within = within; low = low; high = high })
+    | inr ge ↦ let f : nat_lt k (length (segment_of u n).body) ≡ false = le-ltb _ _ ge in rw f lt
+  ]
+
+  pub block_leads : (n sent counter limit : ℕ) (rest : List ℕ) → IsBlockStage u n sent limit → starts_with counter rest ≡ true
+      → LeadsTo u (Block n sent counter limit) rest (blocks_from (length (segment_of u n).body) n (sent + (limit - 2)) (next_counter counter) limit)
+  block_leads n sent counter limit rest is good =
+      led (Block n sent counter limit) rest _ _ (Good (drop 1 rest)) tt refl (after_true counter rest Good good)
+      (sym ((λ i. more_blocks (cursor_at u n) (record { sent = take_more sent (limit - 2) (segment_of u n).body i; rest = drop_more sent (limit - 2) (segment_of u n).body i; counter = next_counter counter; limit = limit }))
+      ∙ from_there n (sent + (limit - 2)) (next_counter counter) limit))
+      (blocks_stage n (sent + (limit - 2)) (next_counter counter) limit is.segment is.low is.high)

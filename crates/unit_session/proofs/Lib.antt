@@ -1,0 +1,4 @@
+pub mod Forms
+pub mod Keeps
+pub mod Leads
+pub mod Wholes

@@ -1,0 +1,5 @@
+pub mod Judging
+pub mod Left
+pub mod Onward
+pub mod Session
+pub mod Whole

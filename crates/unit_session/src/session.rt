@@ -1,0 +1,257 @@
+use crate::judging::{Front, front_of};
+use crate::onward::{onward, sid};
+use crate::requests::request;
+use crate::stage::Stage;
+use flash_base::{Bytes, NoMemory};
+use flash_plan::{Outcome, UnitPlan};
+use std::alloc::Global;
+
+/// What a conversation waits for.
+#[derive(Clone, Copy, Debug, PartialEq, Eq)]
+pub enum Ask {
+    /// That the unit is begun is to be recorded.
+    Begin,
+    /// A request is to be sent.
+    Send,
+    /// An answer is awaited.
+    Wait,
+    /// Each request was answered; that the unit is complete is to be recorded.
+    Done,
+    /// It ended with this outcome.
+    Ended(Outcome),
+}
+
+/// The conversation with one unit of an accepted plan, kept as numbers: contracts see it as the
+/// conversation `talk_of` of its unit.
+#[derive(Clone, Copy, Debug, PartialEq, Eq)]
+pub struct UnitSession {
+    stage: Stage,
+    begun: bool,
+    awaiting: bool,
+    number: u32,
+    since: u64,
+    pendings: u8,
+    busies: u8,
+}
+
+/// The responses pending to one sending of a request that are waited through.
+const PENDINGS: u8 = 200;
+
+/// The repeats of one request.
+const BUSIES: u8 = 20;
+
+/// The quiet ticks after which no answer is awaited any more.
+const PATIENCE: u64 = 1000;
+
+impl UnitSession {
+    ghost use Rattle.std.specs.Prelude.{◌≡◌, ◌<◌, ◌≤◌, ℕ, true, IfOk};
+    ghost use Rattle.flash_plan.specs.Plan.{IsAcceptedUnit};
+    ghost use Rattle.flash_plan.specs.declared.unit.UnitPlan.{UnitPlan};
+    ghost use Rattle.run_model.specs.Places.{needs_request};
+    ghost use Rattle.run_model.specs.Script.{bytes_at};
+    ghost use Rattle.run_model.specs.Talk.{talk_start, talk_sent, talk_hears, talk_quiet, talk_judged, end_talk, sid_at};
+    ghost use Rattle.run_model.specs.Ways.{Reply, Unheard};
+    ghost use Rattle.uds_codec.specs.Answer.{Later, Again};
+    ghost use Rattle.unit_session.specs.Session.{talk_of, talk_of_any, is_begun, ask_of, place_at, settled, IsStage, IsOf, IsFewer};
+
+    /// The conversation at its first request; `begun` says whether it is recorded that the unit is begun.
+    pub fn new(begun: bool) -> UnitSession
+        ensures talk { (u : UnitPlan) → talk_of u result ≡ talk_start u begun }
+        ensures begun { is_begun result ≡ begun }
+        ensures of { (u : UnitPlan) → IsAcceptedUnit u → IsOf u result }
+    {
+        UnitSession {
+            stage: if begun {
+                Stage::Program
+            } else {
+                Stage::Ident { number: 0 }
+            },
+            begun,
+            awaiting: false,
+            number: 0,
+            since: 0,
+            pendings: 0,
+            busies: 0,
+        }
+    }
+
+    /// What is next.
+    pub fn next(&self, unit: &UnitPlan) -> Ask
+        ensures { result ≡ ask_of unit.now (talk_of unit.now self.now) }
+    {
+        if self.awaiting {
+            return Ask::Wait;
+        }
+        match self.stage {
+            Stage::Ident { number } => {
+                if usize::from(number) < unit.idents.len() {
+                    Ask::Send
+                } else {
+                    Ask::Begin
+                }
+            }
+            Stage::Done => Ask::Done,
+            Stage::Ended { outcome } => Ask::Ended(outcome),
+            Stage::Program
+            | Stage::Seed
+            | Stage::Key { .. }
+            | Stage::Erase { .. }
+            | Stage::Download { .. }
+            | Stage::Block { .. }
+            | Stage::Exit { .. }
+            | Stage::Check { .. }
+            | Stage::Finish
+            | Stage::Reset => Ask::Send,
+        }
+    }
+
+    /// How many final answers this attempt has: the number of the next request, from 0.
+    pub fn number(&self) -> u32
+        ensures { (u : UnitPlan) → result ≡ (talk_of u self.now).number }
+    {
+        self.number
+    }
+
+    /// The bytes of the next request (ISO 14229-1).
+    pub fn request(&self, alloc: Global, unit: &UnitPlan) -> Result<Bytes, NoMemory>
+        requires accepted { IsAcceptedUnit unit.now }
+        requires of { IsOf unit.now self.now }
+        requires send { ask_of unit.now (talk_of unit.now self.now) ≡ Ask.Send }
+        ensures { IfOk result (λ b. b ≡ bytes_at unit.now (talk_of unit.now self.now).place) }
+    {
+        request(alloc, unit, self.stage)
+    }
+
+    /// The request was sent at this tick.
+    pub fn sent(&mut self, tick: u64)
+        ensures talk { (u : UnitPlan) → talk_of u self.new ≡ talk_sent tick (talk_of u self.old) }
+        ensures begun { is_begun self.new ≡ is_begun self.old }
+        ensures of { (u : UnitPlan) → needs_request (talk_of u self.old).place ≡ true → IsOf u self.old → IsOf u self.new }
+    {
+        self.awaiting = true;
+        self.since = tick;
+        self.pendings = 0;
+    }
+
+    /// The conversation is over.
+    fn end(&mut self, outcome: Outcome)
+        ensures talk { (u : UnitPlan) → talk_of u self.new ≡ end_talk outcome (talk_of u self.old) }
+        ensures begun { is_begun self.new ≡ is_begun self.old }
+        ensures of { (u : UnitPlan) → IsOf u self.old → IsOf u self.new }
+    {
+        self.stage = Stage::Ended { outcome };
+        self.awaiting = false;
+    }
+
+    /// A response pending: the 201st to one sending ends the conversation.
+    fn later(&mut self, sid: u8, tick: u64)
+        requires { (talk_of_any self.old).pendings ≤ 200 }
+        ensures talk { (u : UnitPlan) → sid ≡ sid_at u (talk_of u self.old) → talk_of u self.new ≡ talk_judged u tick Later (talk_of u self.old) }
+        ensures begun { is_begun self.new ≡ is_begun self.old }
+        ensures of { (u : UnitPlan) → IsOf u self.old → IsOf u self.new }
+    {
+        if self.pendings == PENDINGS {
+            self.end(Outcome::PendingLimit { sid });
+        } else {
+            self.since = tick;
+            self.pendings += 1;
+        }
+    }
+
+    /// A busy answer: the request is sent again, and the 21st ends the conversation.
+    fn again(&mut self, sid: u8)
+        requires { (talk_of_any self.old).busies ≤ 20 }
+        ensures talk { (u : UnitPlan) (tick : ℕ) → sid ≡ sid_at u (talk_of u self.old) → talk_of u self.new ≡ talk_judged u tick Again (talk_of u self.old) }
+        ensures begun { is_begun self.new ≡ is_begun self.old }
+        ensures of { (u : UnitPlan) → IsOf u self.old → IsOf u self.new }
+    {
+        if self.busies == BUSIES {
+            self.end(Outcome::BusyLimit { sid });
+        } else {
+            self.awaiting = false;
+            self.pendings = 0;
+            self.busies += 1;
+        }
+    }
+
+    /// A final answer, and the stage that it leads to.
+    fn settle(&mut self, stage: Stage)
+        requires { (talk_of_any self.old).number < 4294967295 }
+        ensures talk { (u : UnitPlan) → talk_of u self.new ≡ settled (place_at u stage) (talk_of u self.old) }
+        ensures begun { is_begun self.new ≡ is_begun self.old }
+        ensures of { (u : UnitPlan) → IsStage u stage → IsFewer u (place_at u stage) (talk_of u self.old).place → IsOf u self.old → IsOf u self.new }
+    {
+        self.stage = stage;
+        self.number += 1;
+        self.awaiting = false;
+        self.pendings = 0;
+        self.busies = 0;
+    }
+
+    /// An answer came (ISO 14229-1): a response pending waits on, a busy answer has the request sent again, and any
+    /// other is final.
+    pub fn hear(&mut self, unit: &UnitPlan, reply: &[u8], tick: u64)
+        requires accepted { IsAcceptedUnit unit.now }
+        requires of { IsOf unit.now self.old }
+        requires wait { ask_of unit.now (talk_of unit.now self.old) ≡ Ask.Wait }
+        ensures talk { talk_of unit.now self.new ≡ talk_hears unit.now tick (Reply reply.now) (talk_of unit.now self.old) }
+        ensures begun { is_begun self.new ≡ is_begun self.old }
+        ensures of { IsOf unit.now self.new }
+    {
+        let sid = sid(self.stage);
+        match front_of(sid, reply) {
+            Front::Later => self.later(sid, tick),
+            Front::Again => self.again(sid),
+            Front::Refusal(nrc) => self.settle(Stage::Ended {
+                outcome: Outcome::Refused { sid, nrc },
+            }),
+            Front::Positive => {
+                let stage = onward(unit, self.stage, &reply[1..]);
+                self.settle(stage);
+            }
+            Front::Strange => self.settle(Stage::Ended {
+                outcome: Outcome::BadAnswer { sid },
+            }),
+        }
+    }
+
+    /// The gateway could not deliver the request (ISO 13400-2, payload type 0x8003).
+    pub fn nack(&mut self, code: u8)
+        ensures talk { (u : UnitPlan) (tick : ℕ) → talk_of u self.new ≡ talk_hears u tick (Unheard code) (talk_of u self.old) }
+        ensures begun { is_begun self.new ≡ is_begun self.old }
+        ensures of { (u : UnitPlan) → IsOf u self.old → IsOf u self.new }
+    {
+        self.end(Outcome::Undelivered { code });
+    }
+
+    /// A poll for this unit brought nothing; `tick` is the tick at its end. It ends the conversation 1,000 ticks or
+    /// more after the last request or response pending.
+    pub fn quiet(&mut self, tick: u64)
+        ensures talk { (u : UnitPlan) → needs_request (talk_of u self.old).place ≡ true → talk_of u self.new ≡ talk_quiet u tick (talk_of u self.old) }
+        ensures begun { is_begun self.new ≡ is_begun self.old }
+        ensures of { (u : UnitPlan) → IsOf u self.old → IsOf u self.new }
+    {
+        if tick.saturating_sub(self.since) >= PATIENCE {
+            let sid = sid(self.stage);
+            self.end(Outcome::NoAnswer { sid });
+        }
+    }
+
+    /// The link was lost: the attempt starts again.
+    pub fn lost(&mut self)
+        ensures talk { (u : UnitPlan) → talk_of u self.new ≡ talk_start u (is_begun self.old) }
+        ensures begun { is_begun self.new ≡ is_begun self.old }
+        ensures of { (u : UnitPlan) → IsAcceptedUnit u → IsOf u self.new }
+    {
+        *self = UnitSession::new(self.begun);
+    }
+
+    /// It was recorded that the unit is begun.
+    pub fn begun(&mut self)
+        ensures talk { (u : UnitPlan) → talk_of u self.new ≡ talk_start u true }
+        ensures begun { is_begun self.new ≡ true }
+        ensures of { (u : UnitPlan) → IsAcceptedUnit u → IsOf u self.new }
+    {
+        *self = UnitSession::new(true);
+    }
+}
