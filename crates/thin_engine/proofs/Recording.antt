@@ -1,7 +1,7 @@
 -- What the disk records while an entry is recorded, and behind it.
-use Rattle.std.proofs.Common.{◌≡◌, ◌⊎◌, inl, inr, ℕ, true, false, List, Result, Ok, Err, refl, sym, ◌∙◌, ap, subst}
+use Rattle.std.proofs.Common.{◌≡◌, inl, inr, ℕ, true, false, List, Result, Ok, Err, refl, sym, ◌∙◌, subst}
 use Rattle.std.specs.Prelude.{Bool, ◌==◌, ◌&&◌, ◌||◌, OnOk}
-use Rattle.disk_model.specs.Disk.{DiskState, IsCrashImage, IsSettled}
+use Rattle.disk_model.specs.Disk.{DiskState, IsSettled}
 use Rattle.flash_plan.specs.declared.outcome.Entry.{Entry}
 use Rattle.flash_plan.specs.declared.outcome.Entry.TheVariants.{Begun, Complete}
 use Rattle.flash_plan.specs.declared.outcome.Outcome.{Outcome}
@@ -15,7 +15,7 @@ use Rattle.run_model.specs.Sound.{IsSound}
 use Rattle.thin_journal.specs.Append.{Records, AddsAtMost, and_entry, is_entry}
 use Rattle.thin_journal.specs.Entries.{begun_alone, both, HasBegun}
 use Rattle.thin_journal.specs.Later.{Stays}
-use Rattle.thin_journal.specs.Make.{no_entry, IsNew}
+use Rattle.thin_journal.specs.Make.{no_entry}
 use Rattle.thin_journal.proofs.Both.{both_is}
 use Rattle.thin_journal.proofs.Steps.{all_settled}
 use Rattle.bay_core.proofs.OneStep.{step_law}
@@ -24,7 +24,7 @@ use Rattle.bay_core.specs.Joint.{IsJoint}
 use Rattle.bay_core.specs.declared.event.Event.TheVariants.{Began, Completed}
 use Rattle.thin_engine.specs.Shown.{Keeps}
 use Rattle.thin_engine.specs.Standing.{rules_of}
-use Rattle.thin_engine.specs.Talking.{Run, SoundAt, Covers, Fits, IsResting, is_begun}
+use Rattle.thin_engine.specs.Talking.{Run, SoundAt, Covers, IsResting, is_begun}
 use Rattle.thin_engine.proofs.Events.{may_begin_now, begun_rests, may_complete}
 use Rattle.thin_engine.proofs.Parts.{stays_keeps}
 

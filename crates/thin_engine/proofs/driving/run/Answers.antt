@@ -1,4 +1,4 @@
-use Rattle.std.proofs.Common.{◌≡◌, Ok, Err, sym, subst, ap, arith, refl, ◌∙◌}
+use Rattle.std.proofs.Common.{Ok, Err, sym, subst, ap, arith, refl, ◌∙◌}
 use Rattle.disk_model.specs.Disk.{DiskState}
 use Rattle.flash_plan.specs.declared.outcome.Outcome.TheVariants.{DiskFault}
 use Rattle.flash_plan.specs.declared.unit.UnitPlan.{UnitPlan}
@@ -6,7 +6,7 @@ use Rattle.journal_model.specs.Records.{label_of}
 use Rattle.thin_journal.specs.Entries.{HasBegun}
 use Rattle.thin_journal.specs.Make.{IsNew}
 use Rattle.thin_journal.proofs.Laters.{later_then}
-use Rattle.thin_engine.specs.Talking.{Run, SoundAt, IsRoute, task_of, is_begun}
+use Rattle.thin_engine.specs.Talking.{SoundAt, IsRoute, is_begun}
 use Rattle.thin_engine.specs.declared.reading.Route.{Route}
 use Rattle.thin_engine.proofs.Parts.{keeps_then, keeps_shown}
 use Rattle.thin_engine.proofs.Recording.{begin_keeps, complete_keeps}
