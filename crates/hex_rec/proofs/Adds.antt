@@ -1,18 +1,12 @@
 -- What bytes put into a map add to it.
-use Rattle.std.proofs.Common.{zero, suc, ◌≡◌, ℕ, ◌+◌, ◌-◌, ◌*◌, ◌%◌, ◌^◌, ◌<◌, ◌≤◌, ◌⊎◌, List, [], ◌∷◌, length, take, drop, min, cond, true, false, Option, Some, None, Result, Ok, Err, refl, sym, ap, ◌∙◌, subst, inl, inr, arith, length-take, length-drop}
+use Rattle.std.proofs.Common.{◌≡◌, ℕ, ◌+◌, ◌-◌, ◌%◌, ◌^◌, ◌<◌, ◌≤◌, List, length, take, drop, min, cond, Some, Ok, sym, ap, ◌∙◌, inl, inr, arith, length-take, length-drop}
 use Rattle.std.proofs.lemmas.Bool.{cases_lt, le-leb, lt-leb}
-use Rattle.std.proofs.lemmas.Option.{none-some}
 use Rattle.std.specs.List.{slice_get}
-use Rattle.std.specs.Prelude.{IsSome, nat_le}
-use Rattle.std.specs.FinMap.{get}
-use Rattle.span_store.specs.ByteMap.{ByteMap, over, clash}
-use Rattle.span_store.specs.declared.clash.Clash.{Clash}
-use Rattle.span_store.proofs.Lookups.{reads, get-over, reads_hit, reads_other, cases_in}
+use Rattle.span_store.specs.ByteMap.{ByteMap}
 use Rattle.span_store.proofs.Pieces.{slice_get-drop}
-use Rattle.span_store.proofs.Settled.{stands, slice_get-take}
-use Rattle.rec_text.specs.Putting.{◌>>=◌, putting, put_unless, put_round}
-use Rattle.rec_text.specs.declared.fault.RecFault.{RecFault}
-use Rattle.rec_text.proofs.Adds.{Adds, From, some_below, putting_adds}
+use Rattle.span_store.proofs.Settled.{slice_get-take}
+use Rattle.rec_text.specs.Putting.{◌>>=◌, putting, put_round}
+use Rattle.rec_text.proofs.Adds.{Adds, some_below, putting_adds}
 use Rattle.hex_rec.specs.Reading.{put_line}
 use Rattle.hex_rec.specs.HexText.{address}
 use Rattle.hex_rec.specs.Base.{IsBase}

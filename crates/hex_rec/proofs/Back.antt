@@ -1,17 +1,13 @@
 -- A text with the form, and its map, is read so.
-use Rattle.std.proofs.Common.{zero, suc, ◌≡◌, ℕ, ◌+◌, ◌-◌, ◌*◌, ◌%◌, ◌^◌, ◌<◌, ◌≤◌, ◌⊎◌, List, [], ◌∷◌, ◌++◌, length, take, drop, get_or, min, true, false, cond, eqb, Option, Some, None, Result, Ok, Err, refl, sym, ap, ◌∙◌, subst, inl, inr, arith, append-nil, append_assoc, length-take, length-drop}
+use Rattle.std.proofs.Common.{suc, ◌≡◌, ℕ, ◌+◌, ◌-◌, ◌*◌, ◌%◌, ◌^◌, ◌<◌, ◌≤◌, List, [], ◌∷◌, ◌++◌, length, take, drop, get_or, min, true, false, cond, eqb, Some, Result, Ok, Err, refl, sym, ap, ◌∙◌, subst, inl, inr, arith, append-nil, append_assoc, length-take, length-drop}
 use Rattle.std.specs.Prelude.{◌≢◌}
 use Rattle.std.proofs.lemmas.Bool.{cases_lt, cases_Bool, eqb-true, eq-eqb, ne_eqb, le-leb, lt-leb, false≢true}
-use Rattle.std.proofs.lemmas.Option.{none-some, same_Some}
-use Rattle.std.specs.List.{slice_get}
 use Rattle.std.specs.Cmp.{nat_cmp_total}
 use Rattle.std.specs.FinMap.{get, empty, same_map, nat_cmp-IsAntisymmetric}
-use Rattle.span_store.specs.ByteMap.{ByteMap, over, clash, clash_at}
-use Rattle.span_store.specs.declared.clash.Clash.{Clash}
+use Rattle.span_store.specs.ByteMap.{ByteMap, over}
 use Rattle.span_store.proofs.Pieces.{slice_get-drop}
 use Rattle.span_store.proofs.Settled.{slice_get-take}
-use Rattle.rec_text.specs.Lines.{lines}
-use Rattle.rec_text.specs.Putting.{◌>>=◌, putting, put_unless, put_round}
+use Rattle.rec_text.specs.Putting.{◌>>=◌, putting, put_round}
 use Rattle.rec_text.specs.declared.fault.RecFault.{RecFault}
 use Rattle.rec_text.specs.declared.fault.RecFault.TheVariants.{AfterEnd}
 use Rattle.hex_rec.specs.Record.{record_of}
@@ -22,7 +18,7 @@ use Rattle.hex_rec.specs.declared.base.Base.{Base}
 use Rattle.hex_rec.specs.declared.base.Base.TheVariants.{Linear, Segment}
 use Rattle.hex_rec.specs.declared.reading.State.{State}
 use Rattle.hex_rec.proofs.Bases.{record_is}
-use Rattle.rec_text.proofs.Adds.{Adds, From, putting_adds, some_below, put_ok, same_options}
+use Rattle.rec_text.proofs.Adds.{From, putting_adds, some_below, put_ok, same_options}
 use Rattle.hex_rec.proofs.Adds.{At}
 use Rattle.hex_rec.proofs.Whole.{Holding, small, data_size, data_at, hold_empty, hold_record, gives_last, offset_of, data_of, nothing_given}
 

@@ -1,5 +1,5 @@
 -- A text is refused exactly by the first line that is wrong.
-use Rattle.std.proofs.Common.{zero, suc, ◌≡◌, ℕ, ◌+◌, ◌*◌, ◌%◌, ◌<◌, ◌⊎◌, List, [], ◌∷◌, ◌++◌, length, get_or, sum, true, false, cond, eqb, Option, Some, None, Result, Ok, Err, refl, sym, ap, ◌∙◌, subst, inl, inr, arith, append-nil, append_assoc, length-append}
+use Rattle.std.proofs.Common.{suc, ◌≡◌, ℕ, ◌+◌, ◌*◌, ◌%◌, ◌<◌, ◌⊎◌, List, [], ◌∷◌, ◌++◌, length, get_or, sum, true, false, cond, eqb, Option, Some, None, Result, Ok, Err, refl, sym, ap, ◌∙◌, subst, inl, inr, arith, append-nil, append_assoc, length-append}
 use Rattle.std.specs.Prelude.{◌≢◌}
 use Rattle.std.proofs.lemmas.Bool.{cases_Bool, eqb-true, eq-eqb, ne_eqb, false≢true}
 use Rattle.std.proofs.lemmas.Option.{none-some, same_Some}
@@ -16,13 +16,13 @@ use Rattle.rec_text.proofs.Adds.{same_options}
 use Rattle.rec_text.proofs.Conflicts.{one_lowest}
 use Rattle.hex_rec.specs.Record.{is_record, checked, record_of}
 use Rattle.hex_rec.specs.Reading.{put_line, with_map, applied, step, read_from, reading_of}
-use Rattle.hex_rec.specs.HexText.{IsRecord, kind_of, value_of, AreRecords, AreEmpty, HasBase, address, Gives}
+use Rattle.hex_rec.specs.HexText.{IsRecord, kind_of, value_of, AreRecords, AreEmpty, address}
 use Rattle.hex_rec.specs.Refusals.{Stands, AreRight, HasForm, Differs, IsWrong, IsRefused}
 use Rattle.hex_rec.specs.declared.base.Base.{Base}
 use Rattle.hex_rec.specs.declared.base.Base.TheVariants.{Linear, Segment}
 use Rattle.hex_rec.specs.declared.reading.State.{State}
 use Rattle.hex_rec.proofs.Shapes.{chosen, bind_ok, record_ok, applied_ended}
-use Rattle.hex_rec.proofs.Bases.{same_record, record_is, one_base}
+use Rattle.hex_rec.proofs.Bases.{record_is, one_base}
 use Rattle.hex_rec.proofs.Whole.{Holding, small, data_size, data_at, hold_empty, hold_record, offset_of, data_of, nothing_given}
 use Rattle.hex_rec.proofs.Back.{Behind, follow, stepped}
 use Rattle.hex_rec.proofs.Meets.{Meets, bind_err, line_err, line_free}

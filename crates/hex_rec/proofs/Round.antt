@@ -1,5 +1,5 @@
 -- What was written is read to the same bytes.
-use Rattle.std.proofs.Common.{zero, suc, ◌≡◌, ℕ, ◌+◌, ◌-◌, ◌*◌, ◌/◌, ◌%◌, ◌^◌, ◌<◌, ◌≤◌, ◌⊎◌, List, [], ◌∷◌, ◌++◌, length, take, drop, get_or, sum, true, false, cond, eqb, Option, Some, None, Result, Ok, Err, refl, sym, ap, ◌∙◌, subst, inl, inr, arith, append-nil, append_assoc, length-append}
+use Rattle.std.proofs.Common.{◌≡◌, ℕ, ◌+◌, ◌-◌, ◌*◌, ◌/◌, ◌%◌, ◌^◌, ◌<◌, ◌≤◌, List, [], ◌∷◌, ◌++◌, length, take, drop, sum, true, false, cond, eqb, Some, None, Ok, Err, refl, sym, ap, ◌∙◌, subst, inl, inr, arith, append-nil, append_assoc, length-append}
 use Rattle.std.proofs.lemmas.Bool.{cases_Bool, eqb-true, eq-eqb, le-leb}
 use Rattle.std.specs.FinMap.{get}
 use Rattle.span_store.specs.ByteMap.{ByteMap, over, clash}
@@ -10,17 +10,15 @@ use Rattle.span_store.proofs.Settled.{behind_free}
 use Rattle.rec_text.specs.Spelling.{digits_of}
 use Rattle.rec_text.specs.Lines.{lines}
 use Rattle.rec_text.specs.Putting.{◌>>=◌, putting, put_unless, put_round}
-use Rattle.rec_text.specs.Cutting.{IsCut, AreCut}
-use Rattle.rec_text.specs.declared.fault.RecFault.{RecFault}
+use Rattle.rec_text.specs.Cutting.{AreCut}
 use Rattle.rec_text.specs.declared.fault.RecFault.TheVariants.{AfterEnd}
 use Rattle.rec_text.proofs.Digits.{digits_of-append}
 use Rattle.rec_text.proofs.OneWay.{one_way}
 use Rattle.rec_text.proofs.Smalls.{Small, AllSmall, Small-push, sum-push, take_front, small_all}
 use Rattle.rec_text.proofs.Spells.{digits_back, digits_plain, line_first}
 use Rattle.hex_rec.specs.Record.{is_record, checked, record_of}
-use Rattle.hex_rec.specs.Reading.{put_line, with_map, applied, step, read_from, reading_of}
+use Rattle.hex_rec.specs.Reading.{put_line, with_map, applied, read_from, reading_of}
 use Rattle.hex_rec.specs.Writing.{checksum, line_of, base_line, lines_at, lines_of, room, IsWritten}
-use Rattle.hex_rec.specs.declared.base.Base.{Base}
 use Rattle.hex_rec.specs.declared.base.Base.TheVariants.{Linear}
 use Rattle.hex_rec.specs.declared.reading.State.{State}
 

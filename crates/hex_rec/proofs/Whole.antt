@@ -1,5 +1,5 @@
 -- A text that is read has the map that its data lines give.
-use Rattle.std.proofs.Common.{zero, suc, ◌≡◌, ℕ, ◌+◌, ◌-◌, ◌*◌, ◌%◌, ◌^◌, ◌<◌, ◌≤◌, ◌⊎◌, List, [], ◌∷◌, ◌++◌, length, take, drop, get_or, min, ◌&&◌, Bool, true, false, cond, eqb, Option, Some, None, Result, Ok, Err, refl, sym, ap, ◌∙◌, subst, inl, inr, arith, append-nil, append_assoc, length-take, length-drop, length-append}
+use Rattle.std.proofs.Common.{zero, suc, ◌≡◌, ℕ, ◌+◌, ◌-◌, ◌*◌, ◌<◌, ◌⊎◌, List, [], ◌∷◌, ◌++◌, length, take, drop, get_or, min, ◌&&◌, Bool, true, false, cond, eqb, Option, Some, None, Result, Ok, Err, refl, sym, ap, ◌∙◌, subst, inl, inr, arith, append-nil, append_assoc, length-take, length-drop, length-append}
 use Rattle.std.specs.Prelude.{◌≢◌}
 use Rattle.std.proofs.lemmas.Bool.{cases_Bool, eqb-true, eq-eqb, ne_eqb, false≢true}
 use Rattle.std.proofs.lemmas.Option.{none-some, same_Some}
@@ -15,16 +15,16 @@ use Rattle.rec_text.specs.Putting.{◌>>=◌}
 use Rattle.rec_text.specs.declared.fault.RecFault.{RecFault}
 use Rattle.rec_text.specs.declared.fault.RecFault.TheVariants.{AfterEnd}
 use Rattle.rec_text.proofs.Spelled.{first_small}
-use Rattle.hex_rec.specs.Record.{is_kind, is_record, record_of}
+use Rattle.hex_rec.specs.Record.{is_kind, record_of}
 use Rattle.hex_rec.specs.Reading.{put_line, with_map, applied, step, read_from, reading_of}
-use Rattle.hex_rec.specs.HexText.{IsRecord, kind_of, value_of, AreRecords, AreEmpty, Sets, HasBase, address, Gives, HasShape, IsHexText}
+use Rattle.hex_rec.specs.HexText.{IsRecord, kind_of, value_of, AreRecords, AreEmpty, Sets, HasBase, address, Gives, IsHexText}
 use Rattle.hex_rec.specs.Base.{IsBase}
 use Rattle.hex_rec.specs.declared.base.Base.{Base}
 use Rattle.hex_rec.specs.declared.base.Base.TheVariants.{Linear, Segment}
 use Rattle.hex_rec.specs.declared.reading.State.{State}
 use Rattle.hex_rec.proofs.Shapes.{chosen, bind_ok, record_ok, nothing_after, applied_ended}
 use Rattle.hex_rec.proofs.Bases.{same_record, no_record, set_of, sets_or, base_keep, base_next, one_base}
-use Rattle.hex_rec.proofs.Adds.{At, line_adds}
+use Rattle.hex_rec.proofs.Adds.{line_adds}
 
 -- ------ the bytes of a line are bytes
 with_byte_some : (o : Option ℕ) (r : Option (List ℕ)) (bs : List ℕ) → with_byte o r ≡ Some bs → (b : ℕ) × (t : List ℕ) × (r ≡ Some t) × (b ∷ t ≡ bs)

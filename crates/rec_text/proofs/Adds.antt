@@ -1,5 +1,5 @@
 -- What bytes put into a map add to it, and where they meet no other byte.
-use Rattle.std.proofs.Common.{zero, suc, ◌≡◌, ℕ, ◌+◌, ◌<◌, ◌≤◌, ◌⊎◌, List, [], ◌∷◌, length, Option, Some, None, Result, Ok, Err, refl, sym, ap, ◌∙◌, subst, inl, inr, arith}
+use Rattle.std.proofs.Common.{zero, suc, ◌≡◌, ℕ, ◌+◌, ◌<◌, ◌⊎◌, List, [], ◌∷◌, length, Option, Some, None, Ok, refl, sym, ap, ◌∙◌, subst, inl, inr, arith}
 use Rattle.std.proofs.lemmas.Bool.{eq-eqb}
 use Rattle.std.proofs.lemmas.Option.{none-some, same_Some}
 use Rattle.std.specs.List.{slice_get}
@@ -10,7 +10,6 @@ use Rattle.span_store.specs.declared.clash.Clash.{Clash}
 use Rattle.span_store.proofs.Lookups.{reads, get-over, reads_hit, reads_other, cases_in}
 use Rattle.span_store.proofs.Settled.{stands}
 use Rattle.rec_text.specs.Putting.{putting, put_unless}
-use Rattle.rec_text.specs.declared.fault.RecFault.{RecFault}
 
 -- the new map has what the old one had, and these bytes
 pub record Adds (m new : ByteMap) (P : ℕ → ℕ → Type 0) : Type 0 where

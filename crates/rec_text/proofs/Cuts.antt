@@ -1,7 +1,6 @@
 -- Lines that are being cut.
-use Rattle.std.proofs.Common.{zero, suc, ◌≡◌, ℕ, ◌+◌, ◌-◌, ◌^◌, ◌<◌, ◌≤◌, ◌⊎◌, List, [], ◌∷◌, ◌++◌, length, take, set, min, Some, None, sym, ap, ◌∙◌, subst, inl, inr, arith, append-nil, length-take}
+use Rattle.std.proofs.Common.{zero, suc, ◌≡◌, ℕ, ◌+◌, ◌-◌, ◌^◌, ◌<◌, ◌≤◌, ◌⊎◌, List, [], ◌∷◌, ◌++◌, length, take, min, None, sym, ap, ◌∙◌, inl, inr, arith, append-nil, length-take}
 use Rattle.std.proofs.lemmas.Bool.{cases_lt}
-use Rattle.std.proofs.lemmas.List.{take_more_set}
 use Rattle.std.specs.Prelude.{IsSome}
 use Rattle.std.specs.Cmp.{nat_cmp_total}
 use Rattle.std.specs.FinMap.{get, same_map, nat_cmp-IsAntisymmetric}
@@ -9,7 +8,7 @@ use Rattle.span_store.specs.ByteMap.{ByteMap, over, part, Holds}
 use Rattle.span_store.specs.Extents.{Extent, map_of, EndBy, AreExtents}
 use Rattle.span_store.proofs.Order.{joined, EndBy-append, EndBy_more}
 use Rattle.span_store.proofs.Lookups.{placed}
-use Rattle.span_store.proofs.Maps.{part_none, part_same, part_more, part_in, part_out, held-append, some_not_none}
+use Rattle.span_store.proofs.Maps.{part_none, part_same, part_more, part_in, part_out, some_not_none}
 use Rattle.rec_text.specs.Cutting.{IsCut, AreCut, Cuts}
 use Rattle.rec_text.proofs.Smalls.{Small, AllSmall, AllSmall-push}
 

@@ -1,9 +1,8 @@
 -- Lists of bytes, and one more at their end.
-use Rattle.std.proofs.Common.{zero, suc, ◌≡◌, ℕ, ◌+◌, ◌^◌, ◌<◌, List, [], ◌∷◌, ◌++◌, length, take, sum, Some, refl, sym, ap, ◌∙◌, subst, arith, append_assoc}
+use Rattle.std.proofs.Common.{suc, ◌≡◌, ℕ, ◌+◌, ◌^◌, ◌<◌, List, [], ◌∷◌, ◌++◌, length, take, sum, Some, refl, sym, ap, ◌∙◌, subst, arith, append_assoc}
 use Rattle.std.proofs.lemmas.List.Sums.{sum_by-append}
 use Rattle.std.specs.List.{slice_get, All}
 use Rattle.std.specs.FinMap.{get}
-use Rattle.span_store.specs.ByteMap.{ByteMap}
 use Rattle.span_store.specs.Extents.{Extent, map_of, AreExtents}
 use Rattle.span_store.proofs.Lookups.{held}
 use Rattle.rec_text.proofs.Adds.{some_below}

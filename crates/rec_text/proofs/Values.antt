@@ -1,5 +1,5 @@
 -- The table of digits.
-use Rattle.std.proofs.Common.{zero, suc, ◌≡◌, ℕ, ◌+◌, ◌<◌, ◌≤◌, List, [], ◌∷◌, get_or, Option, Some, None, refl, sym, ap, ◌∙◌, arith}
+use Rattle.std.proofs.Common.{zero, suc, ◌≡◌, ℕ, ◌+◌, ◌<◌, ◌≤◌, List, [], ◌∷◌, get_or, Option, Some, None, refl, ap, ◌∙◌, arith}
 use Rattle.rec_text.specs.Digits.{digit_of}
 use Rattle.rec_text.proofs.Spelled.{digit_small}
 use Rattle.rec_text.specs.declared.digit_table.TheConstants.{VALUES}

@@ -1,11 +1,10 @@
 -- The bytes of a line.
-use Rattle.std.proofs.Common.{suc, ◌≡◌, ℕ, ◌+◌, ◌-◌, ◌*◌, ◌%◌, ◌^◌, ◌<◌, ◌≤◌, ◌⊎◌, ◌&&◌, Bool, true, false, cond, List, [], ◌∷◌, length, take, drop, get_or, Option, Some, None, Result, Ok, Err, refl, sym, ap, ◌∙◌, inl, inr, arith, eqb}
+use Rattle.std.proofs.Common.{◌≡◌, ℕ, ◌+◌, ◌-◌, ◌^◌, ◌<◌, ◌≤◌, ◌&&◌, Bool, true, false, List, [], ◌∷◌, length, drop, get_or, Option, Some, None, Err, refl, inl, inr, arith, eqb}
 use Rattle.std.proofs.lemmas.Bool.{cases_Bool, ne_eqb, eq-eqb, eqb-true, leb-true, lt-leb, le-leb, false≢true}
-use Rattle.std.proofs.lemmas.Bool.Decides.{nat_tests}
-use Rattle.std.specs.Prelude.{nat_le, nat_eq}
+use Rattle.std.specs.Prelude.{nat_le}
 use Rattle.rec_text.specs.Digits.{bytes_of}
 use Rattle.rec_text.specs.declared.fault.RecFault.TheVariants.{BadLine}
-use Rattle.rec_text.proofs.Spelled.{length-bytes_of, first_small}
+use Rattle.rec_text.proofs.Spelled.{first_small}
 use Rattle.srec_rec.specs.Record.{has_data, width, number_at, size_of, is_count, is_record, checked, record_of}
 
 both : (a b : Bool) → (a && b) ≡ true → (a ≡ true) × (b ≡ true)

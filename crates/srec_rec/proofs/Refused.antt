@@ -1,10 +1,9 @@
 -- A text is refused exactly by the first line that is wrong.
-use Rattle.std.proofs.Common.{zero, suc, ◌≡◌, ℕ, ◌+◌, ◌-◌, ◌%◌, ◌<◌, ◌≤◌, ◌⊎◌, ◌&&◌, List, [], ◌∷◌, ◌++◌, length, sum, Bool, true, false, cond, eqb, Option, Some, None, Result, Ok, Err, refl, sym, ap, ◌∙◌, subst, inl, inr, arith, append-nil, append_assoc, length-append}
+use Rattle.std.proofs.Common.{suc, ◌≡◌, ℕ, ◌+◌, ◌-◌, ◌%◌, ◌<◌, ◌≤◌, ◌⊎◌, ◌&&◌, List, [], ◌∷◌, ◌++◌, length, sum, true, false, cond, eqb, Option, Some, None, Result, Ok, Err, refl, sym, ap, ◌∙◌, subst, inl, inr, arith, append-nil, append_assoc, length-append}
 use Rattle.std.specs.Prelude.{◌≢◌, nat_le, nat_eq}
 use Rattle.std.proofs.lemmas.Bool.{cases_lt, cases_Bool, eqb-true, eq-eqb, ne_eqb, leb-true, le-leb, lt-leb, false≢true}
 use Rattle.std.proofs.lemmas.Option.{none-some, same_Some}
 use Rattle.std.specs.Cmp.{nat_cmp_total}
-use Rattle.std.specs.List.{slice_get}
 use Rattle.std.specs.FinMap.{get, empty, same_map, nat_cmp-IsAntisymmetric}
 use Rattle.span_store.specs.ByteMap.{ByteMap, over, clash}
 use Rattle.span_store.specs.Lowest.{IsLowest}
@@ -18,10 +17,10 @@ use Rattle.rec_text.proofs.Adds.{some_below, same_options}
 use Rattle.rec_text.proofs.Conflicts.{Differ, clash_lowest, clash_free, one_lowest}
 use Rattle.srec_rec.specs.Record.{is_record, width, number_at, size_of, checked, record_of}
 use Rattle.srec_rec.specs.Reading.{with_map, data_of, applied, step, read_from, reading_of}
-use Rattle.srec_rec.specs.SrecText.{IsRecord, Counts, IsGood, AreRecords, AreEmpty, Gives}
+use Rattle.srec_rec.specs.SrecText.{IsRecord, Counts, IsGood, AreRecords, AreEmpty}
 use Rattle.srec_rec.specs.Refusals.{Stands, AreRight, HasForm, Differs, IsWrong, IsRefused}
 use Rattle.srec_rec.specs.declared.reading.State.{State}
-use Rattle.srec_rec.proofs.Whole.{snoc, chosen, bind_ok, record_ok, record_is, same_kind, one_count, Holding, hold_skip, hold_data, data_size, data_at, did, count_part, data_part, end_part}
+use Rattle.srec_rec.proofs.Whole.{snoc, chosen, bind_ok, record_ok, record_is, one_count, Holding, hold_skip, hold_data, data_size, data_at, did, count_part, data_part, end_part}
 use Rattle.srec_rec.proofs.Text.{no_data, hold_empty, nothing_given, Behind, follow, all_good, stepped}
 
 -- ------ a refusal of one line

@@ -1,5 +1,5 @@
 -- What was written is read to the same bytes.
-use Rattle.std.proofs.Common.{◌≡◌, ℕ, ◌+◌, ◌-◌, ◌*◌, ◌/◌, ◌%◌, ◌^◌, ◌<◌, ◌≤◌, ◌&&◌, List, [], ◌∷◌, ◌++◌, length, take, drop, sum, true, false, cond, eqb, None, Result, Ok, Err, refl, sym, ap, ◌∙◌, subst, Some, arith, append-nil, append_assoc, length-append}
+use Rattle.std.proofs.Common.{◌≡◌, ℕ, ◌+◌, ◌-◌, ◌*◌, ◌/◌, ◌%◌, ◌^◌, ◌<◌, ◌≤◌, ◌&&◌, List, [], ◌∷◌, ◌++◌, length, take, sum, true, false, cond, None, Ok, Err, refl, sym, ap, ◌∙◌, subst, Some, arith, append-nil, append_assoc, length-append}
 use Rattle.std.proofs.lemmas.Bool.{eq-eqb, le-leb}
 use Rattle.std.specs.Prelude.{nat_le}
 use Rattle.std.specs.FinMap.{get}
@@ -13,13 +13,12 @@ use Rattle.rec_text.specs.Spelling.{digits_of}
 use Rattle.rec_text.specs.Lines.{lines}
 use Rattle.rec_text.specs.Putting.{◌>>=◌, putting, put_unless}
 use Rattle.rec_text.specs.Cutting.{AreCut}
-use Rattle.rec_text.specs.declared.fault.RecFault.{RecFault}
 use Rattle.rec_text.specs.declared.fault.RecFault.TheVariants.{AfterEnd, BadLine}
 use Rattle.rec_text.proofs.Digits.{digits_of-append}
 use Rattle.rec_text.proofs.OneWay.{one_way}
 use Rattle.rec_text.proofs.Smalls.{Small, AllSmall, Small-push, sum-push, take_front, small_all}
 use Rattle.rec_text.proofs.Spells.{digits_back, digits_plain, line_first}
-use Rattle.srec_rec.specs.Record.{is_record, checked, record_of, number_at, size_of}
+use Rattle.srec_rec.specs.Record.{is_record, checked, record_of, number_at}
 use Rattle.srec_rec.specs.Reading.{with_map, data_of, applied, read_from, reading_of}
 use Rattle.srec_rec.specs.Writing.{checksum, line_of, data_line, lines_of, IsWritten}
 use Rattle.srec_rec.specs.declared.reading.State.{State}

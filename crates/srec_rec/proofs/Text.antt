@@ -1,21 +1,18 @@
 -- A text is read exactly where the whole-text relation holds.
-use Rattle.std.proofs.Common.{zero, suc, ◌≡◌, ℕ, ◌+◌, ◌-◌, ◌%◌, ◌<◌, ◌≤◌, ◌⊎◌, List, [], ◌∷◌, ◌++◌, length, get_or, true, false, cond, eqb, Some, None, Result, Ok, Err, refl, sym, ap, ◌∙◌, subst, inl, inr, arith, append-nil, append_assoc, length-append}
-use Rattle.std.specs.Prelude.{nat_le}
+use Rattle.std.proofs.Common.{◌≡◌, ℕ, ◌+◌, ◌<◌, ◌≤◌, ◌⊎◌, List, [], ◌∷◌, ◌++◌, length, true, false, cond, Some, Ok, Err, refl, sym, ap, ◌∙◌, subst, inl, inr, arith, append-nil, append_assoc, length-append}
 use Rattle.std.proofs.lemmas.Bool.{cases_lt, eq-eqb, ne_eqb, le-leb, lt-leb}
 use Rattle.std.proofs.lemmas.Option.{none-some}
-use Rattle.std.specs.List.{slice_get}
 use Rattle.std.specs.Ordering.{nat_cmp}
 use Rattle.std.specs.Cmp.{nat_cmp_total}
 use Rattle.std.specs.FinMap.{get, empty, get-empty, same_map, nat_cmp-IsAntisymmetric}
 use Rattle.span_store.specs.ByteMap.{ByteMap, over}
 use Rattle.rec_text.specs.Lines.{lines}
-use Rattle.rec_text.specs.Putting.{◌>>=◌, putting}
-use Rattle.rec_text.specs.declared.fault.RecFault.{RecFault}
+use Rattle.rec_text.specs.Putting.{◌>>=◌}
 use Rattle.rec_text.specs.declared.fault.RecFault.TheVariants.{AfterEnd, BadCount}
 use Rattle.rec_text.proofs.Adds.{some_below, put_ok, same_options}
 use Rattle.srec_rec.specs.Record.{width, number_at, size_of, record_of}
 use Rattle.srec_rec.specs.Reading.{with_map, data_of, applied, step, read_from, reading_of}
-use Rattle.srec_rec.specs.SrecText.{IsRecord, IsData, Counts, IsGood, AreRecords, AreEmpty, Gives, IsSrecText}
+use Rattle.srec_rec.specs.SrecText.{IsRecord, IsData, Counts, IsGood, AreEmpty, Gives, IsSrecText}
 use Rattle.srec_rec.specs.declared.reading.State.{State}
 use Rattle.srec_rec.proofs.Whole.{chosen, bind_ok, record_ok, record_is, same_kind, no_record, gives_early, gives_last, one_count, Holding, hold_skip, hold_data, data_size, data_at, did, count_part, data_part, end_part}
 

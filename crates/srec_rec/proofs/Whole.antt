@@ -1,24 +1,21 @@
 -- A text is read exactly where the whole-text relation holds.
-use Rattle.std.proofs.Common.{zero, suc, ◌≡◌, ℕ, ◌+◌, ◌-◌, ◌*◌, ◌%◌, ◌^◌, ◌<◌, ◌≤◌, ◌⊎◌, ◌&&◌, List, [], ◌∷◌, ◌++◌, length, take, drop, get_or, min, sum, Bool, true, false, cond, eqb, Option, Some, None, Result, Ok, Err, refl, sym, ap, ◌∙◌, subst, inl, inr, arith, append-nil, append_assoc, length-take, length-drop, length-append}
+use Rattle.std.proofs.Common.{suc, ◌≡◌, ℕ, ◌+◌, ◌-◌, ◌%◌, ◌<◌, ◌≤◌, ◌⊎◌, ◌&&◌, List, [], ◌∷◌, ◌++◌, length, drop, get_or, min, sum, Bool, true, false, cond, eqb, Option, Some, None, Result, Ok, Err, refl, sym, ap, ◌∙◌, subst, inl, inr, arith, append_assoc, length-take, length-drop, length-append}
 use Rattle.std.specs.Prelude.{nat_le, nat_eq}
-use Rattle.std.proofs.lemmas.Bool.{cases_lt, cases_Bool, eqb-true, eq-eqb, ne_eqb, leb-true, leb-false, le-leb, lt-leb, false≢true}
-use Rattle.std.proofs.lemmas.Option.{none-some, same_Some}
+use Rattle.std.proofs.lemmas.Bool.{cases_lt, cases_Bool, eqb-true, eq-eqb, leb-true, le-leb, lt-leb, false≢true}
+use Rattle.std.proofs.lemmas.Option.{same_Some}
 use Rattle.std.specs.List.{slice_get}
-use Rattle.std.specs.Ordering.{nat_cmp}
-use Rattle.std.specs.Cmp.{nat_cmp_total}
-use Rattle.std.specs.FinMap.{get, empty, get-empty, same_map, nat_cmp-IsAntisymmetric}
-use Rattle.span_store.specs.ByteMap.{ByteMap, over}
+use Rattle.std.specs.FinMap.{get}
+use Rattle.span_store.specs.ByteMap.{ByteMap}
 use Rattle.span_store.proofs.Pieces.{slice_get-drop}
 use Rattle.span_store.proofs.Settled.{slice_get-take}
 use Rattle.rec_text.specs.Digits.{bytes_of}
-use Rattle.rec_text.specs.Lines.{lines}
 use Rattle.rec_text.specs.Putting.{◌>>=◌, putting}
 use Rattle.rec_text.specs.declared.fault.RecFault.{RecFault}
-use Rattle.rec_text.specs.declared.fault.RecFault.TheVariants.{AfterEnd, BadLine, BadSum, BadCount}
-use Rattle.rec_text.proofs.Adds.{Adds, From, putting_adds, some_below, put_ok, same_options}
+use Rattle.rec_text.specs.declared.fault.RecFault.TheVariants.{BadLine, BadSum, BadCount}
+use Rattle.rec_text.proofs.Adds.{putting_adds, some_below}
 use Rattle.srec_rec.specs.Record.{is_record, width, number_at, size_of, checked, record_of}
-use Rattle.srec_rec.specs.Reading.{with_map, data_of, applied, step, read_from, reading_of}
-use Rattle.srec_rec.specs.SrecText.{IsRecord, IsData, Counts, IsGood, AreRecords, AreEmpty, Gives, IsSrecText}
+use Rattle.srec_rec.specs.Reading.{with_map, data_of, applied}
+use Rattle.srec_rec.specs.SrecText.{IsRecord, IsData, Counts, Gives}
 use Rattle.srec_rec.specs.declared.reading.State.{State}
 use Rattle.srec_rec.proofs.Records.{form}
 

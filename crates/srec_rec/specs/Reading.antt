@@ -1,5 +1,5 @@
 -- What the reader does, line after line.
-use Rattle.std.specs.Prelude.{ℕ, ◌+◌, ◌-◌, true, false, ◌&&◌, ◌||◌, List, [], ◌∷◌, take, drop, slice_index, nat_eq, nat_le, Option, Some, None, Result, Ok, Err, if◌then◌else◌}
+use Rattle.std.specs.Prelude.{ℕ, ◌+◌, true, false, List, [], ◌∷◌, take, drop, nat_eq, nat_le, Result, Ok, Err, if◌then◌else◌}
 use Rattle.std.specs.FinMap.{empty}
 use Rattle.span_store.specs.ByteMap.{ByteMap}
 use Rattle.rec_text.specs.Lines.{lines}

@@ -1,5 +1,5 @@
 -- One line of a text of S-records.
-use Rattle.std.specs.Prelude.{ℕ, ◌+◌, ◌-◌, ◌*◌, ◌%◌, ◌^◌, Bool, true, false, ◌&&◌, ◌||◌, List, [], ◌∷◌, length, sum, take, drop, slice_index, nat_eq, nat_le, Option, Some, None, Result, Ok, Err, if◌then◌else◌}
+use Rattle.std.specs.Prelude.{ℕ, ◌+◌, ◌-◌, ◌*◌, ◌%◌, ◌^◌, Bool, ◌&&◌, ◌||◌, List, [], ◌∷◌, length, sum, take, slice_index, nat_eq, nat_le, Option, Some, None, Result, Ok, Err, if◌then◌else◌}
 use Rattle.rec_text.specs.Digits.{bytes_of}
 use Rattle.rec_text.specs.declared.fault.RecFault.{RecFault}
 use Rattle.rec_text.specs.declared.fault.RecFault.TheVariants.{BadLine, BadSum}

@@ -1,5 +1,5 @@
 -- A text of S-records and its bytes, as a whole.
-use Rattle.std.specs.Prelude.{◌≡◌, ◌≢◌, ℕ, ◌+◌, ◌-◌, ◌%◌, ◌<◌, ◌≤◌, true, List, [], ◌∷◌, ◌++◌, sum, slice_get, Some, ◌⊎◌}
+use Rattle.std.specs.Prelude.{◌≡◌, ℕ, ◌+◌, ◌-◌, ◌%◌, ◌<◌, ◌≤◌, true, List, [], ◌∷◌, ◌++◌, sum, slice_get, Some, ◌⊎◌}
 use Rattle.std.specs.FinMap.{get}
 use Rattle.span_store.specs.ByteMap.{ByteMap}
 use Rattle.rec_text.specs.Digits.{bytes_of}

@@ -1,5 +1,4 @@
 use Rattle.std.proofs.Common.{◌<◌, ◌≤◌, get_or, arith}
-use Rattle.std.proofs.lemmas.Bool.Decides.{nat_tests}
 use Rattle.rec_text.specs.declared.digit_table.TheConstants.{VALUES}
 use Rattle.rec_text.proofs.Values.{read_value, refused_value}
 use Rattle.rec_text.proofs.digit_table.digit.Goals as goal

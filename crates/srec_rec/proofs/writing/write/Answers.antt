@@ -1,6 +1,5 @@
-use Rattle.std.proofs.Common.{◌≡◌, ◌+◌, ◌<◌, ◌≤◌, ◌++◌, ◌∙◌, ℕ, List, length, take, ap, arith}
+use Rattle.std.proofs.Common.{◌++◌, ◌∙◌, ℕ, List, take, ap, arith}
 use Rattle.span_store.proofs.Maps.{held_some}
-use Rattle.srec_rec.specs.Writing.{line_of}
 use Rattle.srec_rec.proofs.Lines.{head, begun, advanced, finished}
 use Rattle.rec_text.proofs.Smalls.{small_of}
 use Rattle.srec_rec.proofs.Round.{round_small}
