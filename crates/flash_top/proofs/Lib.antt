@@ -1,4 +1,5 @@
 pub mod Closes
 pub mod Firsts
 pub mod Pieces
+pub mod Sounds
 pub mod Steps

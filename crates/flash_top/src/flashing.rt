@@ -2,9 +2,14 @@ ghost use Rattle.std.specs.Prelude.{◌≡◌, ◌≢◌, ◌⊎◌, ◌≤◌, 
 ghost use Rattle.flash_plan.specs.declared.outcome.Outcome.TheVariants as outcome;
 ghost use Rattle.flash_base.specs.Counts.{Rises};
 ghost use Rattle.journal_model.specs.Records.{label_of};
+ghost use Rattle.run_model.specs.Matching.{Matches};
+ghost use Rattle.run_model.specs.Sound.{IsFinalVehicle};
+ghost use Rattle.run_model.specs.Troubles.{IsUntroubled};
 ghost use Rattle.run_report.specs.Report.{report_text};
-ghost use Rattle.shop_model.specs.History.{disk_now};
+ghost use Rattle.shop_model.specs.History.{disk_now, vehicle_now};
 ghost use Rattle.thin_engine.specs.Later.{IsUnchanged};
+ghost use Rattle.thin_engine.specs.Sounding.{KeepsSound};
+ghost use Rattle.thin_engine.specs.Undisturbed.{IsPlainRun, none_recorded};
 ghost use Rattle.thin_journal.specs.Entries.{RecordsBoth};
 ghost use Rattle.flash_top.specs.Building.{built, IsOutside};
 ghost use Rattle.flash_top.specs.Printing.{line_of, usage_line, IsBefore, Says};
@@ -60,11 +65,29 @@ pub fn flash<R: Threads + Wait + Sync, F: Shelf, S: Shop + Send, K: Sink>(
     // What is refused before a run leaves disk and vehicle as they were.
     ensures refused { IsBefore result.1 → IsUnchanged (S.history shop) (S.history result.0) }
 
+    // Where the records of whatever a crash leaves of the disk fit the vehicle at entry, they do at each moment, as long as each
+    // receive was shown: whatever the status is.
+    ensures sound { IsTrue F.tells → IsTrue S.tells_disk → IsTrue S.tells_vehicle
+        → (order : List ℕ) (b : Built) → words_of (map string_bytes words.now) ≡ Some order → built (F.contents shelf.old) order ≡ Ok b
+        → ¬ Rises (F.faults shelf.old) (F.faults shelf.new) → KeepsSound b.plan (S.history shop) (S.history result.0) }
+
     // At `Done` whatever a crash leaves of the disk records that the unit is begun and complete, and the report was printed.
     ensures done { IsTrue F.tells → IsTrue K.tells → result.1 ≡ Status.Done
         → (order : List ℕ) (b : Built) → words_of (map string_bytes words.now) ≡ Some order → built (F.contents shelf.old) order ≡ Ok b
         → ¬ Rises (F.faults shelf.old) (F.faults shelf.new) → ¬ Rises (K.faults out.old) (K.faults out.new)
         → (IsTrue S.tells_disk → RecordsBoth (label_of b.plan) (disk_now (S.history result.0)))
+        × (K.written out.new ≡ K.written out.old ++ report_text b.plan (outcome.Complete ∷ [])) }
+
+    // Where no call and no shelf or sink fails, the vehicle departs from nothing and its unit fits, the unit of an accepted
+    // order is programmed, recorded in the empty journal and reported, but for want of memory.
+    ensures complete { IsTrue F.tells → IsTrue S.tells_disk → IsTrue S.tells_vehicle → IsTrue K.tells
+        → (order : List ℕ) (b : Built) → words_of (map string_bytes words.now) ≡ Some order → built (F.contents shelf.old) order ≡ Ok b
+        → (disk_now (S.history shop)).bytes ≡ [] → Matches b.plan none_recorded (vehicle_now (S.history shop))
+        → ¬ Rises (F.faults shelf.old) (F.faults shelf.new) → ¬ Rises (K.faults out.old) (K.faults out.new)
+        → IsUntroubled (S.history shop) (S.history result.0) → IsPlainRun (S.history shop) (S.history result.0)
+        → (result.1 ≡ Status.NoMemory) ⊎ (result.1 ≡ Status.Done)
+        × IsFinalVehicle b.plan (vehicle_now (S.history shop)) (vehicle_now (S.history result.0))
+        × RecordsBoth (label_of b.plan) (disk_now (S.history result.0))
         × (K.written out.new ≡ K.written out.old ++ report_text b.plan (outcome.Complete ∷ [])) }
 {
     let Some(order) = order_in(words) else {
@@ -98,10 +121,22 @@ fn serve<F: Shelf, S: Shop, K: Sink>(
     ensures disk { result ≡ Status.Disk → Rises (S.history shop.old).disk_faults (S.history shop.new).disk_faults }
     ensures sink { result ≡ Status.Sink → Rises (K.faults out.old) (K.faults out.new) }
     ensures refused { IsBefore result → IsUnchanged (S.history shop.old) (S.history shop.new) }
+    ensures sound { IsTrue F.tells → IsTrue S.tells_disk → IsTrue S.tells_vehicle
+        → (b : Built) → built (F.contents shelf.old) order.now ≡ Ok b → ¬ Rises (F.faults shelf.old) (F.faults shelf.new)
+        → KeepsSound b.plan (S.history shop.old) (S.history shop.new) }
     ensures done { IsTrue F.tells → IsTrue K.tells → result ≡ Status.Done
         → (b : Built) → built (F.contents shelf.old) order.now ≡ Ok b
         → ¬ Rises (F.faults shelf.old) (F.faults shelf.new) → ¬ Rises (K.faults out.old) (K.faults out.new)
         → (IsTrue S.tells_disk → RecordsBoth (label_of b.plan) (disk_now (S.history shop.new)))
+        × (K.written out.new ≡ K.written out.old ++ report_text b.plan (outcome.Complete ∷ [])) }
+    ensures complete { IsTrue F.tells → IsTrue S.tells_disk → IsTrue S.tells_vehicle → IsTrue K.tells
+        → (b : Built) → built (F.contents shelf.old) order.now ≡ Ok b
+        → (disk_now (S.history shop.old)).bytes ≡ [] → Matches b.plan none_recorded (vehicle_now (S.history shop.old))
+        → ¬ Rises (F.faults shelf.old) (F.faults shelf.new) → ¬ Rises (K.faults out.old) (K.faults out.new)
+        → IsUntroubled (S.history shop.old) (S.history shop.new) → IsPlainRun (S.history shop.old) (S.history shop.new)
+        → (result ≡ Status.NoMemory) ⊎ (result ≡ Status.Done)
+        × IsFinalVehicle b.plan (vehicle_now (S.history shop.old)) (vehicle_now (S.history shop.new))
+        × RecordsBoth (label_of b.plan) (disk_now (S.history shop.new))
         × (K.written out.new ≡ K.written out.old ++ report_text b.plan (outcome.Complete ∷ [])) }
 {
     let built = match build(alloc, shelf, order) {

@@ -1,15 +1,30 @@
-ghost use Rattle.std.specs.Prelude.{◌≡◌, ◌⊎◌, ◌<◌, ◌≤◌, [], length, IsTrue, IsErr, OnOk, IfOk, IfErr};
+ghost use Rattle.std.specs.Prelude.{◌≡◌, ◌⊎◌, ◌<◌, ◌≤◌, [], length, Bool, IsTrue, IsErr, OnOk, IfOk, IfErr, Some};
 ghost use Rattle.flash_plan.specs.Plan.{IsAcceptedUnit, plan_of};
 ghost use Rattle.flash_base.specs.Counts.{Rises};
 ghost use Rattle.shop_model.specs.History.{disk_now, vehicle_now};
-ghost use Rattle.shop_model.specs.Through.{IsLater};
+ghost use Rattle.shop_model.specs.Through.{IsLater, HoldsThrough, HoldsWhileShown};
+ghost use Rattle.run_model.specs.Matching.{Matches};
+ghost use Rattle.run_model.specs.Troubles.{IsCalm, IsUntroubled};
+ghost use Rattle.unit_model.specs.Unit.{ControlUnit};
+ghost use Rattle.unit_model.specs.Vehicle.{unit_at};
+ghost use Rattle.thin_engine.specs.Growing.{VehicleUp};
+ghost use Rattle.thin_engine.specs.Programming.{CanTake, AtStage, Turned, Programmed, HasRun};
+ghost use Rattle.thin_engine.specs.Undisturbed.{IsCount, IsQuietPart, IsUndisturbed, IsPlainRun, IsDriven, none_recorded};
 ghost use Rattle.thin_engine.specs.Later.{IsTalkLater, IsUnchanged};
 ghost use Rattle.thin_engine.specs.Causes.{IsMidway, HasCause};
+ghost use Rattle.flash_plan.specs.declared.outcome.Entry.{Entry as AnEntry};
+ghost use Rattle.flash_plan.specs.declared.outcome.Entry.TheVariants.{Begun as ItBegun, Complete as ItComplete};
 ghost use Rattle.journal_model.specs.Records.{Label, label_of};
-ghost use Rattle.thin_journal.specs.Entries.{HasBegun, HasBoth, RecordsBoth};
-ghost use Rattle.thin_journal.specs.Later.{IsDiskLater};
-ghost use Rattle.thin_journal.specs.Make.{IsNew};
-ghost use Rattle.thin_engine.specs.Stages.{IsFirst, IsFirstPlan, IsStage, work_left, segment_of};
+ghost use Rattle.run_model.specs.Script.{AtDone, AtProgram};
+ghost use Rattle.thin_journal.specs.Append.{AddsAtMost};
+ghost use Rattle.thin_journal.specs.Entries.{begun_alone, HasBegun, HasBoth, RecordsBoth};
+ghost use Rattle.thin_journal.specs.Later.{IsDiskLater, Stays};
+ghost use Rattle.thin_journal.specs.Make.{IsNew, no_entry};
+ghost use Rattle.thin_engine.specs.Shown.{Keeps};
+ghost use Rattle.thin_engine.specs.Sounding.{KeepsSound};
+ghost use Rattle.thin_engine.specs.Stages.{IsFirst, IsFirstPlan, IsStage, place_at, work_left, segment_of};
+ghost use Rattle.thin_engine.specs.Talking.{Run, SoundAt, Fits, IsResting, IsRoute, task_of, taken_up, is_begun};
+ghost use Rattle.thin_engine.specs.declared.stage.Stage.TheVariants.{Done as ItIsDone};
 
 use crate::asking::{Trouble, activate, ask};
 use crate::judging::{next, sid};
@@ -36,7 +51,8 @@ pub enum Ended {
 
 /// The outcome of a request with this service that got no answer.
 fn outcome_of(trouble: Trouble, sid: u8) -> Outcome
-    ensures { IsMidway result }
+    ensures midway { IsMidway result }
+    ensures memory { trouble ≡ Trouble.NoMemory → result ≡ Outcome.NoMemory }
 {
     match trouble {
         Trouble::NoMemory => Outcome::NoMemory,
@@ -62,6 +78,14 @@ fn turn<S: Shop>(
     ensures smaller { IfOk result (λ s. work_left (length (segment_of unit.now).body) s < work_left (length (segment_of unit.now).body) stage) }
     ensures stage { IfOk result (IsStage unit.now) }
     ensures outcome { IfErr result IsMidway }
+    ensures sound { IsTrue S.tells_vehicle → (run : Run) (R : AnEntry → Bool) → IsRoute run route.now → task_of run ≡ unit.now → (stage ≡ ItIsDone → ⊥)
+        → IsResting run R (place_at unit.now stage) (disk_now (S.history shop.old)) (vehicle_now (S.history shop.old))
+        → Keeps (SoundAt run) (S.history shop.old) (S.history shop.new)
+        (IfOk result (λ s. IsResting run R (place_at unit.now s) (disk_now (S.history shop.new)) (vehicle_now (S.history shop.new)))) }
+    ensures grows { IsTrue S.tells_vehicle → VehicleUp (vehicle_now (S.history shop.old)) (vehicle_now (S.history shop.new)) }
+    ensures turns { IsTrue S.tells_vehicle → IsQuietPart (S.history shop.old) (S.history shop.new) → (u : ControlUnit) → (stage ≡ Stage.Done → ⊥)
+        → AtStage route.now.tester route.now.unit unit.now u stage (vehicle_now (S.history shop.old))
+        → Turned result route.now.tester route.now.unit unit.now u (vehicle_now (S.history shop.new)) }
 {
     let Ok(request) = request(alloc, unit, stage) else {
         return Err(Outcome::NoMemory);
@@ -84,6 +108,14 @@ fn program<S: Shop>(
     requires accepted { IsAcceptedUnit unit.now }
     ensures later { IsTalkLater (S.history shop.old) (S.history shop.new) }
     ensures outcome { IfErr result IsMidway }
+    ensures sound { IsTrue S.tells_vehicle → (run : Run) (R : AnEntry → Bool) → IsRoute run route.now → task_of run ≡ unit.now
+        → IsResting run R AtProgram (disk_now (S.history shop.old)) (vehicle_now (S.history shop.old))
+        → Keeps (SoundAt run) (S.history shop.old) (S.history shop.new)
+        (OnOk result (IsResting run R AtDone (disk_now (S.history shop.new)) (vehicle_now (S.history shop.new)))) }
+    ensures grows { IsTrue S.tells_vehicle → VehicleUp (vehicle_now (S.history shop.old)) (vehicle_now (S.history shop.new)) }
+    ensures programs { IsTrue S.tells_vehicle → IsQuietPart (S.history shop.old) (S.history shop.new) → (u : ControlUnit)
+        → AtStage route.now.tester route.now.unit unit.now u Stage.Program (vehicle_now (S.history shop.old))
+        → Programmed result route.now.tester route.now.unit unit.now u (vehicle_now (S.history shop.new)) }
 {
     let mut stage = Stage::Program;
     'script: while stage != Stage::Done {
@@ -100,6 +132,9 @@ fn record_begun<S: Shop>(shop: &mut S) -> Result<(), Outcome>
     ensures cause { IfErr result (λ o. HasCause o (S.history shop.old) (S.history shop.new)) }
     ensures begun { OnOk result (IsTrue S.tells_disk → (P : Label) → P.units ≡ 1 → IsNew P (disk_now (S.history shop.old))
         → HasBegun P (disk_now (S.history shop.new))) }
+    ensures any_moment { IsTrue S.tells_disk → (P : Label) → P.units ≡ 1 → IsNew P (disk_now (S.history shop.old))
+        → HoldsThrough (S.history shop.old) (S.history shop.new) (Stays (vehicle_now (S.history shop.old)) (AddsAtMost P no_entry (ItBegun 0))) }
+    ensures fault { IsErr result → Rises (S.history shop.old).disk_faults (S.history shop.new).disk_faults }
 {
     match begin(shop) {
         Ok(()) => Ok(()),
@@ -114,6 +149,9 @@ fn record_complete<S: Shop>(shop: &mut S) -> Result<(), Outcome>
     ensures cause { IfErr result (λ o. HasCause o (S.history shop.old) (S.history shop.new)) }
     ensures complete { OnOk result (IsTrue S.tells_disk → (P : Label) → P.units ≡ 1 → HasBegun P (disk_now (S.history shop.old))
         → HasBoth P (disk_now (S.history shop.new))) }
+    ensures any_moment { IsTrue S.tells_disk → (P : Label) → P.units ≡ 1 → HasBegun P (disk_now (S.history shop.old))
+        → HoldsThrough (S.history shop.old) (S.history shop.new) (Stays (vehicle_now (S.history shop.old)) (AddsAtMost P begun_alone (ItComplete 0))) }
+    ensures fault { IsErr result → Rises (S.history shop.old).disk_faults (S.history shop.new).disk_faults }
 {
     match complete(shop) {
         Ok(()) => Ok(()),
@@ -130,6 +168,15 @@ fn run<S: Shop>(alloc: Global, shop: &mut S, tester: u16, unit: &UnitPlan) -> Re
     ensures cause { IfErr result (λ o. HasCause o (S.history shop.old) (S.history shop.new)) }
     ensures complete { OnOk result (IsTrue S.tells_disk → (P : Label) → P.units ≡ 1 → IsNew P (disk_now (S.history shop.old))
         → HasBoth P (disk_now (S.history shop.new))) }
+    ensures sound { IsTrue S.tells_disk → IsTrue S.tells_vehicle → (run : Run) → run.tester ≡ tester → task_of run ≡ unit.now
+        → IsNew (label_of run.plan) (disk_now (S.history shop.old))
+        → Fits run no_entry (taken_up run) (disk_now (S.history shop.old)) (vehicle_now (S.history shop.old))
+        → HoldsWhileShown (S.history shop.old) (S.history shop.new) (SoundAt run) }
+    ensures grows { IsTrue S.tells_vehicle → VehicleUp (vehicle_now (S.history shop.old)) (vehicle_now (S.history shop.new)) }
+    ensures runs { IsTrue S.tells_vehicle → IsUndisturbed (S.history shop.old) (S.history shop.new)
+        → IsCount (S.history shop.old).disk_faults → IsCalm (S.history shop.old).disk_faults (S.history shop.new).disk_faults
+        → (u : ControlUnit) → unit_at (vehicle_now (S.history shop.old)).units unit.now.address ≡ Some u → CanTake unit.now u
+        → HasRun result unit.now.address unit.now u (vehicle_now (S.history shop.new)) }
 {
     let route = Route {
         tester,
@@ -157,7 +204,17 @@ pub fn drive<S: Shop>(alloc: Global, shop: &mut S, tester: u16, plan: &Plan) -> 
 
     // At Complete, whatever a crash leaves records that the unit is begun and complete, and nothing else.
     ensures recorded { result ≡ Ended.Ran Outcome.Complete → IsTrue S.tells_disk → RecordsBoth (label_of plan.now) (disk_now (S.history shop.new)) }
+
+    // Where at entry the records of whatever a crash leaves fit the vehicle, seen from a vehicle v0, they do at each moment, as long
+    // as each receive was shown; for a journal of length 0, v0 is the vehicle at entry. So it is at each exit, whatever the outcome.
+    ensures sound { IsTrue S.tells_disk → IsTrue S.tells_vehicle → KeepsSound plan.now (S.history shop.old) (S.history shop.new) }
     ensures disk { (result ≡ Ended.Disk) ⊎ (result ≡ Ended.Ran Outcome.DiskFault) → Rises (S.history shop.old).disk_faults (S.history shop.new).disk_faults }
+
+    // Where nothing fails or departs, units that fit are programmed: but for want of memory the run ends Complete.
+    ensures complete { IsTrue S.tells_disk → IsTrue S.tells_vehicle → (disk_now (S.history shop.old)).bytes ≡ []
+        → Matches plan.now none_recorded (vehicle_now (S.history shop.old))
+        → IsUntroubled (S.history shop.old) (S.history shop.new) → IsPlainRun (S.history shop.old) (S.history shop.new)
+        → IsDriven plan.now (vehicle_now (S.history shop.old)) (vehicle_now (S.history shop.new)) result }
 {
     match shop.len() {
         Ok(length) => {

@@ -1,7 +1,8 @@
-ghost use Rattle.std.specs.Prelude.{◌≡◌, ◌≤◌, ◌<◌, ◌+◌, ◌-◌, ◌/◌, ◌%◌, ◌∷◌, drop, IsTrue, length, IfOk, IfErr, MatchOption};
+ghost use Rattle.std.specs.Prelude.{◌≡◌, ◌≤◌, ◌<◌, ◌+◌, ◌-◌, ◌/◌, ◌%◌, ℕ, List, ◌∷◌, min, Some, Ok, drop, IsTrue, length, IfOk, IfErr, MatchOption};
 ghost use Rattle.thin_engine.specs.Stages.{IsFirst, IsStage, work_left, segment_of, sid_at};
 ghost use Rattle.thin_engine.specs.Causes.{IsMidway};
-ghost use Rattle.unit_model.specs.Unit.{next_counter};
+ghost use Rattle.unit_model.specs.Unit.{next_counter, block_bytes};
+ghost use Rattle.thin_engine.specs.Said.{said_at, stage_next};
 ghost use Rattle.flash_plan.specs.Plan.{IsAcceptedUnit};
 ghost use Rattle.thin_engine.specs.Leads.{LeadsTo, IsLimit, stage_from};
 ghost use Rattle.thin_engine.specs.Judging.{cap_of};
@@ -28,14 +29,16 @@ pub fn sid(stage: Stage) -> u8
 }
 
 fn starts(answer: &[u8], first: u8, second: u8) -> bool
-    ensures { IsTrue result → answer.now ≡ first ∷ second ∷ drop 2 answer.now }
+    ensures starts { IsTrue result → answer.now ≡ first ∷ second ∷ drop 2 answer.now }
+    ensures met { (more : List ℕ) → answer.now ≡ first ∷ second ∷ more → IsTrue result }
 {
     answer.len() >= 2 && answer[0] == first && answer[1] == second
 }
 
 /// The status that the answer of a routine has.
 fn status(answer: &[u8], id: u16) -> Option<u8>
-    ensures { MatchOption result (Unit {0}) (λ s. answer.now ≡ 113 ∷ 1 ∷ (id / 256) ∷ (id % 256) ∷ s ∷ drop 5 answer.now) }
+    ensures status { MatchOption result (Unit {0}) (λ s. answer.now ≡ 113 ∷ 1 ∷ (id / 256) ∷ (id % 256) ∷ s ∷ drop 5 answer.now) }
+    ensures met { (s : ℕ) (more : List ℕ) → answer.now ≡ 113 ∷ 1 ∷ (id / 256) ∷ (id % 256) ∷ s ∷ more → result ≡ Some s }
 {
     if answer.len() >= 5
         && answer[0] == 0x71
@@ -62,7 +65,8 @@ fn capped(bytes: &[u8]) -> usize
 
 /// The second byte of the answer to a download.
 fn download_form(answer: &[u8]) -> Option<u8>
-    ensures { MatchOption result (Unit {0}) (λ f. answer.now ≡ 116 ∷ f ∷ drop 2 answer.now) }
+    ensures form { MatchOption result (Unit {0}) (λ f. answer.now ≡ 116 ∷ f ∷ drop 2 answer.now) }
+    ensures met { (f : ℕ) (more : List ℕ) → answer.now ≡ 116 ∷ f ∷ more → result ≡ Some f }
 {
     if answer.len() >= 2 && answer[0] == 0x74 {
         Some(answer[1])
@@ -73,7 +77,8 @@ fn download_form(answer: &[u8]) -> Option<u8>
 
 /// The length limit that the answer to a download has.
 fn limit_of(answer: &[u8]) -> Option<usize>
-    ensures { MatchOption result (Unit {0}) (IsLimit answer.now) }
+    ensures limit { MatchOption result (Unit {0}) (IsLimit answer.now) }
+    ensures met { (n : ℕ) → 3 ≤ n → n < 4294967296 → answer.now ≡ 116 ∷ block_bytes n → result ≡ Some (min n 65535) }
 {
     let Some(form) = download_form(answer) else {
         return None;
@@ -106,7 +111,8 @@ fn counted(counter: u8) -> u8
 
 /// Whether it is the positive answer to the end of a transfer.
 fn is_exit(answer: &[u8]) -> bool
-    ensures { IsTrue result → answer.now ≡ 119 ∷ drop 1 answer.now }
+    ensures exit { IsTrue result → answer.now ≡ 119 ∷ drop 1 answer.now }
+    ensures met { (more : List ℕ) → answer.now ≡ 119 ∷ more → IsTrue result }
 {
     !answer.is_empty() && answer[0] == 0x77
 }
@@ -135,6 +141,7 @@ fn routine(answer: &[u8], id: u16, segment: u16, stage: Stage) -> Result<Stage, 
     ensures stage { IfOk result (λ s. s ≡ stage) }
     ensures status { IfOk result (λ s. answer.now ≡ 113 ∷ 1 ∷ (id / 256) ∷ (id % 256) ∷ 0 ∷ drop 5 answer.now) }
     ensures outcome { IfErr result IsMidway }
+    ensures met { (more : List ℕ) → answer.now ≡ 113 ∷ 1 ∷ (id / 256) ∷ (id % 256) ∷ 0 ∷ more → result ≡ Ok stage }
 {
     match status(answer, id) {
         None => Err(Outcome::BadAnswer { sid: 0x31 }),
@@ -155,6 +162,7 @@ fn positive(unit: &UnitPlan, stage: Stage, answer: &[u8]) -> Result<Stage, Outco
     ensures smaller { IfOk result (λ s. work_left (length (segment_of unit.now).body) s < work_left (length (segment_of unit.now).body) stage) }
     ensures stage { IfOk result (IsStage unit.now) }
     ensures outcome { IfErr result IsMidway }
+    ensures met { (block : ℕ) → 3 ≤ block → block < 4294967296 → (stage ≡ Stage.Done → ⊥) → answer.now ≡ said_at unit.now block stage → result ≡ Ok (stage_next unit.now block stage) }
 {
     let bad = Err(Outcome::BadAnswer { sid: sid(stage) });
     match stage {
@@ -210,6 +218,7 @@ pub fn next(unit: &UnitPlan, stage: Stage, answer: &[u8]) -> Result<Stage, Outco
     ensures smaller { IfOk result (λ s. work_left (length (segment_of unit.now).body) s < work_left (length (segment_of unit.now).body) stage) }
     ensures stage { IfOk result (IsStage unit.now) }
     ensures outcome { IfErr result IsMidway }
+    ensures met { (block : ℕ) → 3 ≤ block → block < 4294967296 → (stage ≡ Stage.Done → ⊥) → answer.now ≡ said_at unit.now block stage → result ≡ Ok (stage_next unit.now block stage) }
 {
     if answer.len() == 3 && answer[0] == 0x7F && answer[1] == sid(stage) {
         return Err(Outcome::Refused {

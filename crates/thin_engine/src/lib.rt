@@ -7,8 +7,10 @@
 mod asking;
 mod driving;
 mod judging;
+mod laws;
 mod reading;
 mod requests;
 mod stage;
 
 pub use driving::{Ended, drive};
+pub use laws::an_empty_journal_is_sound;

@@ -1,7 +1,8 @@
-ghost use Rattle.std.specs.Prelude.{◌≡◌, ◌+◌, ◌≤◌, ◌<◌, length};
-ghost use Rattle.doip_frame.specs.Frame.{is_length};
+ghost use Rattle.std.specs.Prelude.{◌≡◌, ◌+◌, ◌≤◌, ◌<◌, IsTrue, drop, length};
+ghost use Rattle.doip_frame.specs.Frame.{is_length, stream_of};
 ghost use Rattle.thin_engine.specs.Look.{Cuts, look_of, look_sized, two_at, four_at};
-ghost use Rattle.thin_engine.specs.Reading.{IsWithin};
+ghost use Rattle.thin_engine.specs.Reading.{IsWithin, IsBehindRead, IsBehindAt, IsAnswerRead, IsActivationRead, IsRead};
+ghost use Rattle.thin_engine.specs.Reads.{stand_at, message_seen, behind_at, answer_seen, activation_seen, read_of};
 
 /// The two logical addresses of a conversation.
 #[derive(Clone, Copy, Debug)]
@@ -83,7 +84,8 @@ fn seen(stream: &[u8]) -> Look
 
 /// What stands at the front of a stream (ISO 13400-2:2019, section 9).
 fn front(stream: &[u8]) -> Look
-    ensures { Cuts result stream.now }
+    ensures cuts { Cuts result stream.now }
+    ensures is { result ≡ look_of stream.now }
 {
     seen(stream)
 }
@@ -101,40 +103,77 @@ pub enum Reading {
 /// Whether these addresses stand at `i`.
 fn are_at(s: &[u8], i: usize, source: u16, target: u16) -> bool
     requires { i + 4 ≤ length s.now }
+    ensures places { IsTrue result → (two_at s.now i ≡ source) × (two_at s.now (i + 2) ≡ target) }
+    ensures is { result ≡ stand_at s.now i source target }
 {
     two(s, i) == source && two(s, i + 2) == target
 }
 
-fn read_message(route: &Route, got: &[u8], from: usize) -> Reading
-    requires { from ≤ length got.now }
-    ensures within { IsWithin (length got.now) result }
+/// What stands behind the acknowledgement.
+#[derive(Clone, Copy, Debug, PartialEq, Eq)]
+enum Behind {
+    Waiting,
+    Lost,
+    Message,
+}
+
+/// The unit's message alone.
+#[tactic(auto, using(crate::proofs::Frames::lone_message, crate::proofs::Frames::nothing_yet))]
+fn read_message(route: &Route, rest: &[u8]) -> Behind
+    ensures read { IsBehindRead route.now.tester route.now.unit rest.now result }
+    ensures is { result ≡ message_seen route.now.tester route.now.unit rest.now (look_of rest.now) }
+    ensures long { result ≡ Behind.Message → 12 ≤ length rest.now }
 {
-    match front(&got[from..]) {
-        Look::Part => Reading::Waiting,
-        Look::Refused => Reading::Lost,
+    match front(rest) {
+        Look::Part => Behind::Waiting,
+        Look::Refused => Behind::Lost,
         Look::Complete { kind, size } => {
             if kind == 0x8001
-                && from + 8 + size == got.len()
-                && are_at(got, from + 8, route.unit, route.tester)
+                && 8 + size == rest.len()
+                && are_at(rest, 8, route.unit, route.tester)
             {
-                Reading::Answered(from + 12)
+                Behind::Message
             } else {
-                Reading::Lost
+                Behind::Lost
             }
         }
     }
 }
 
+pub fn from_on(got: &[u8], from: usize) -> &[u8]
+    requires { from ≤ length got.now }
+    ensures { result.now ≡ drop from got.now }
+{
+    &got[from..]
+}
+
+/// What stands behind an acknowledgement of so many bytes.
+fn read_behind(route: &Route, got: &[u8], from: usize) -> Reading
+    requires { from ≤ length got.now }
+    ensures within { IsWithin (length got.now) result }
+    ensures read { IsBehindAt route.now.tester route.now.unit from got.now result }
+    ensures is { result ≡ behind_at route.now.tester route.now.unit from got.now }
+{
+    match read_message(route, from_on(got, from)) {
+        Behind::Waiting => Reading::Waiting,
+        Behind::Lost => Reading::Lost,
+        Behind::Message => Reading::Answered(from + 12),
+    }
+}
+
 /// An acknowledgement, and then the unit's message alone.
+#[tactic(auto, using(crate::proofs::Frames::so_far_behind, crate::proofs::Frames::answer_behind, crate::proofs::Frames::nothing_yet))]
 fn read_answer(route: &Route, got: &[u8]) -> Reading
     ensures within { IsWithin (length got.now) result }
+    ensures read { IsAnswerRead route.now.tester route.now.unit got.now result }
+    ensures is { result ≡ answer_seen route.now.tester route.now.unit got.now (look_of got.now) }
 {
     match front(got) {
         Look::Part => Reading::Waiting,
         Look::Refused => Reading::Lost,
         Look::Complete { kind, size } => {
             if kind == 0x8002 && are_at(got, 8, route.unit, route.tester) {
-                read_message(route, got, 8 + size)
+                read_behind(route, got, 8 + size)
             } else if kind == 0x8003 && are_at(got, 8, route.unit, route.tester) {
                 Reading::Denied(got[12])
             } else {
@@ -145,8 +184,11 @@ fn read_answer(route: &Route, got: &[u8]) -> Reading
 }
 
 /// The answer to a routing activation alone.
+#[tactic(auto, using(crate::proofs::Frames::accepting, crate::proofs::Frames::nothing_yet))]
 fn read_activation(got: &[u8]) -> Reading
     ensures within { IsWithin (length got.now) result }
+    ensures read { IsActivationRead got.now result }
+    ensures is { result ≡ activation_seen got.now (look_of got.now) }
 {
     match front(got) {
         Look::Part => Reading::Waiting,
@@ -172,6 +214,8 @@ pub enum Awaited {
 
 pub fn read_awaited(awaited: Awaited, route: &Route, got: &[u8]) -> Reading
     ensures within { IsWithin (length got.now) result }
+    ensures read { IsRead awaited route.now.tester route.now.unit got.now result }
+    ensures is { result ≡ read_of awaited route.now.tester route.now.unit got.now }
 {
     match awaited {
         Awaited::Activation => read_activation(got),
