@@ -3,9 +3,9 @@
 
 Usage: checks/catalogue_speed.py, after `rt run` in crates/catalogue_bench has built the program. Prints, for a catalogue with
 long inside texts and one of 200,000 small elements: its size; the time of catalogue_bench (tree and document) and of Python's
-json.loads; the peak memory of catalogue_bench, and of the same program that only has serde_json parse the file; and how much
-the first is above the second, in sizes of the file. Then the times of both kinds at half and at full size. It measures and
-judges nothing: figures compare only within one run.
+json.loads, each by the clock and by the processor, the latter with the reading of the file; the peak memory of catalogue_bench,
+and of the same program that only has serde_json parse the file; and how much the first is above the second, in sizes of the
+file. Then the times of both kinds at half and at full size. It measures and judges nothing: figures compare only within one run.
 """
 import json
 import os
@@ -19,7 +19,7 @@ program = pathlib.Path(__file__).resolve().parent.parent / "crates/catalogue_ben
 
 
 def run(words, folder):
-    """Its output, and the peak of its memory in bytes."""
+    """Its output, the peak of its memory in bytes, and its processor time in milliseconds."""
     with tempfile.TemporaryFile() as out:
         child = subprocess.Popen([str(program), *words], cwd=folder, stdout=out)
         _, status, usage = os.wait4(child.pid, 0)
@@ -27,7 +27,7 @@ def run(words, folder):
         out.seek(0)
         if status != 0:
             sys.exit(f"catalogue_bench {' '.join(words)}: status {status}")
-        return out.read().decode(), usage.ru_maxrss * 1024
+        return out.read().decode(), usage.ru_maxrss * 1024, (usage.ru_utime + usage.ru_stime) * 1000
 
 
 def milliseconds(text):
@@ -42,15 +42,15 @@ def main():
         for name, kind in [("long.json", "long inside texts"), ("small.json", "200,000 small elements")]:
             path = pathlib.Path(folder) / name
             size = path.stat().st_size
-            read, peak = run([name], folder)
-            parsed, peak_parsed = run(["parse", name], folder)
-            data = path.read_bytes()
-            start = time.perf_counter()
-            json.loads(data)
-            python = (time.perf_counter() - start) * 1000
-            del data
+            read, peak, read_cpu = run([name], folder)
+            parsed, peak_parsed, parsed_cpu = run(["parse", name], folder)
+            start, start_cpu = time.perf_counter(), time.process_time()
+            json.loads(path.read_bytes())
+            python, python_cpu = (time.perf_counter() - start) * 1000, (time.process_time() - start_cpu) * 1000
             above = (peak - peak_parsed) / size
-            print(f"{kind}: {size} bytes; read and resolved in {milliseconds(read):.0f} ms, of which serde_json {milliseconds(parsed):.0f} ms; Python's json.loads {python:.0f} ms")
+            print(f"{kind}: {size} bytes")
+            print(f"  by the clock: read and resolved {milliseconds(read):.0f} ms, of it serde_json {milliseconds(parsed):.0f} ms; json.loads {python:.0f} ms")
+            print(f"  by the processor: read and resolved {read_cpu:.0f} ms, serde_json alone {parsed_cpu:.0f} ms; json.loads {python_cpu:.0f} ms")
             print(f"  peak {peak / size:.1f} times the file, serde_json alone {peak_parsed / size:.1f} times: {above:.1f} times the file above it")
         print(run(["time"], folder)[0], end="")
 

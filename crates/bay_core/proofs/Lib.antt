@@ -12,6 +12,7 @@ pub mod Sane
 pub mod Sending
 pub mod Slots
 pub mod Sounds
+pub mod Stops
 pub mod Takes
 pub mod Talks
 pub mod Tending

@@ -4,3 +4,4 @@ pub mod Law
 pub mod Legal
 pub mod LinkLaws
 pub mod Moves
+pub mod Stops

@@ -2,6 +2,7 @@
 
 ghost use Rattle.bay_core.specs.Law.{StepLaw, CoreLaw};
 ghost use Rattle.bay_core.specs.LinkLaws.{AreLinkLaws};
+ghost use Rattle.bay_core.specs.Stops.{StopLaw};
 
 /// One allowed event keeps records, soundness, link, ticks and each unit's conversation together
 /// with the vehicle, whatever the event does to vehicle and records within `Moves`.
@@ -22,4 +23,11 @@ pub fn each_legal_list_keeps_the_joint_state()
 /// denial nothing is looked at.
 pub fn a_loss_is_one_of_four()
     ensures { AreLinkLaws }
+{}
+
+/// What stopped a run has its cause in its events: a disk fault, where an append failed; a lost
+/// link, after one loss more than the rules have made anew; a denied activation, with the code of
+/// its answer, which is not 10.
+pub fn what_stops_a_run_is_in_its_events()
+    ensures { StopLaw }
 {}

@@ -7,6 +7,7 @@
 //! - `Legal`: which event is allowed after those before it.
 //! - `Moves`: what one event does to the vehicle and to the records.
 //! - `LinkLaws`: what the link's definition gives, in the link's own words.
+//! - `Stops`: what stops a run.
 //! - `Joint`: what each event keeps. `Law`: the law over every legal list.
 #![tactic(auto)]
 
@@ -16,4 +17,5 @@ mod laws;
 pub use event::{Event, Events, Heard, Tend};
 pub use laws::{
     a_loss_is_one_of_four, each_event_keeps_the_joint_state, each_legal_list_keeps_the_joint_state,
+    what_stops_a_run_is_in_its_events,
 };

@@ -11,7 +11,7 @@ use Rattle.journal_steps.specs.Append.{AddsSome, AddsAtMost, CanAppendGroup, Has
 use Rattle.journal_steps.specs.Later.{HoldsOnDisk}
 use Rattle.journal_steps.specs.Tables.{place_of}
 use Rattle.journal_steps.proofs.Moments.{weakens}
-use Rattle.journal_steps.proofs.One.{only, open_gate, one_can, one_adds, one_added, entry_same}
+use Rattle.journal_steps.proofs.One.{only, open_gate, one_can, one_adds, one_added, entry_with}
 use Rattle.journal_steps.proofs.Settled.{long_of, all_settled}
 use Rattle.journal_steps.proofs.Tables.{table_more, place_below}
 use Rattle.flash_journal.specs.declared.journal.Journal.{Journal}
@@ -43,8 +43,8 @@ pub told_as : (P : Label) (R Q : Entry → Bool) (image : List ℕ) → ((x : En
 told_as P R Q image same holds = record { journal = holds.journal; entries = λ x. holds.entries x ∙ sym (same x) }
 
 -- the table with the entry
-pub has_more : (j new : Journal) (e : Entry) → MayAppend j e → new.found.items ≡ set j.found.items (place_of e) true → (x : Entry) → has_entry new x ≡ with_entry (has_entry j) e x
-has_more j new e may found x = ap (λ (xs : List Bool). get_or xs (place_of x) false) found ∙ table_more j.found.items e x (omega (arith, j.entries, place_below e j.units may.named)) ∙ (λ i. has_entry j x || entry_same e x i)
+pub has_more : (j new : Journal) (e : Entry) → MayAppend j e → new.found.items ≡ set j.found.items (place_of e) true → (x : Entry) → has_entry new x ≡ with_entry e (has_entry j) x
+has_more j new e may found x = ap (λ (xs : List Bool). get_or xs (place_of x) false) found ∙ table_more j.found.items e x (omega (arith, j.entries, place_below e j.units may.named)) ∙ entry_with (has_entry j) e x
 
 pub kept_more : (j new : Journal) (old disk : DiskState) (slot : ℕ) (e : Entry) → IsKeptOn j old → MayAppend j e → slot < length j.gates.items
     → journal_label new ≡ journal_label j → new.gates.items ≡ set j.gates.items slot true → new.found.items ≡ set j.found.items (place_of e) true
@@ -68,4 +68,4 @@ kept_more j new old disk slot e kept may lt label gates found added = record {
 
     now : Records (journal_label new) (has_entry new) disk.bytes
     now = subst (λ (P : Label). Records P (has_entry new) disk.bytes) (sym label)
-        (told_as (journal_label j) (with_entry (has_entry j) e) (has_entry new) disk.bytes (has_more j new e may found) (one_added (journal_label j) (has_entry j) slot e old.bytes disk added))
+        (told_as (journal_label j) (with_entry e (has_entry j)) (has_entry new) disk.bytes (has_more j new e may found) (one_added (journal_label j) (has_entry j) slot e old.bytes disk added))

@@ -38,7 +38,7 @@ pub record IsKeptOn (j : Journal) (disk : DiskState) : Type 0 where
 pub record HasOneMore (old new : Journal) (e : Entry) : Type 0 where
   pub label : journal_label new ≡ journal_label old
   pub live : is_live new ≡ true
-  pub entries : (x : Entry) → has_entry new x ≡ with_entry (has_entry old) e x
+  pub entries : (x : Entry) → has_entry new x ≡ with_entry e (has_entry old) x
 
 -- the same journal, closed
 pub record IsClosed (old new : Journal) : Type 0 where

@@ -89,6 +89,12 @@ pub fn flash<R: Threads + Wait + Sync, F: Shelf, S: Shop + Send, K: Sink>(
         × IsFinalVehicle b.plan (vehicle_now (S.history shop)) (vehicle_now (S.history result.0))
         × RecordsBoth (label_of b.plan) (disk_now (S.history result.0))
         × (K.written out.new ≡ K.written out.old ++ report_text b.plan (outcome.Complete ∷ [])) }
+    // And the gateway is activated for the order's tester.
+    ensures tester { IsTrue F.tells → IsTrue S.tells_vehicle
+        → (order : List ℕ) (b : Built) → words_of (map string_bytes words.now) ≡ Some order → built (F.contents shelf.old) order ≡ Ok b
+        → Matches b.plan none_recorded (vehicle_now (S.history shop)) → ¬ Rises (F.faults shelf.old) (F.faults shelf.new)
+        → IsUntroubled (S.history shop) (S.history result.0) → IsPlainRun (S.history shop) (S.history result.0)
+        → result.1 ≡ Status.Done → (vehicle_now (S.history result.0)).gateway.active ≡ Some b.rules.tester }
 {
     let Some(order) = order_in(words) else {
         say(out, b"usage\n", b"", b"");
@@ -138,6 +144,11 @@ fn serve<F: Shelf, S: Shop, K: Sink>(
         × IsFinalVehicle b.plan (vehicle_now (S.history shop.old)) (vehicle_now (S.history shop.new))
         × RecordsBoth (label_of b.plan) (disk_now (S.history shop.new))
         × (K.written out.new ≡ K.written out.old ++ report_text b.plan (outcome.Complete ∷ [])) }
+    ensures tester { IsTrue F.tells → IsTrue S.tells_vehicle
+        → (b : Built) → built (F.contents shelf.old) order.now ≡ Ok b
+        → Matches b.plan none_recorded (vehicle_now (S.history shop.old)) → ¬ Rises (F.faults shelf.old) (F.faults shelf.new)
+        → IsUntroubled (S.history shop.old) (S.history shop.new) → IsPlainRun (S.history shop.old) (S.history shop.new)
+        → result ≡ Status.Done → (vehicle_now (S.history shop.new)).gateway.active ≡ Some b.rules.tester }
 {
     let built = match build(alloc, shelf, order) {
         Ok(built) => built,

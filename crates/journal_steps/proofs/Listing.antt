@@ -1,27 +1,14 @@
 -- A list of entries beside their table.
 use Rattle.std.proofs.Common.{◌≡◌, inl, inr, ℕ, ◌<◌, Bool, true, false, List, [], ◌∷◌, ◌++◌, length, get_or, set, refl, sym, ◌∙◌, ap, subst}
-use Rattle.std.specs.Prelude.{◌==◌, ◌||◌, replicate}
-use Rattle.std.proofs.lemmas.Bool.{both_ways, cases_eq, eq-eqb, ne_eqb}
+use Rattle.std.specs.Prelude.{◌||◌, replicate}
+use Rattle.std.proofs.lemmas.Bool.{both_ways}
 use Rattle.flash_plan.specs.declared.outcome.Entry.{Entry}
-use Rattle.flash_plan.specs.declared.outcome.Entry.TheVariants.{Begun, Complete}
 use Rattle.flash_plan.specs.Outcomes.{same_entry}
 use Rattle.journal_steps.specs.Read.{is_among, AreOnce, AreListed}
 use Rattle.journal_steps.specs.Tables.{place_of}
-use Rattle.journal_steps.proofs.One.{entry_same}
+use Rattle.journal_steps.proofs.One.{entry_same, same_sym}
 use Rattle.journal_steps.proofs.Reading.{none_of}
 use Rattle.journal_steps.proofs.Tables.{table_more}
-
-eqb_sym : (a b : ℕ) → (a == b) ≡ (b == a)
-eqb_sym a b = elim (cases_eq a b) [
-  | inl same ↦ eq-eqb a b same ∙ sym (eq-eqb b a (sym same))
-  | inr other ↦ ne_eqb a b other ∙ sym (ne_eqb b a (λ is. other (sym is)))
-]
-
-same_sym : (e x : Entry) → same_entry e x ≡ same_entry x e
-same_sym (Begun a) (Begun b) = eqb_sym a b
-same_sym (Begun a) (Complete b) = refl
-same_sym (Complete a) (Begun b) = refl
-same_sym (Complete a) (Complete b) = eqb_sym a b
 
 or_false : (b : Bool) → (b || false) ≡ b
 or_false true = refl

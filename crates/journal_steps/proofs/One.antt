@@ -1,6 +1,6 @@
 -- One entry, as a run of one slot.
 use Rattle.std.proofs.Common.{◌≡◌, ◌⊎◌, inl, inr, ℕ, ◌+◌, ◌*◌, ◌<◌, true, false, List, [], ◌∷◌, length, slice_index, refl, sym, ◌∙◌, ap, subst, arith}
-use Rattle.std.specs.Prelude.{Bool, ◌&&◌, ◌||◌}
+use Rattle.std.specs.Prelude.{Bool, ◌==◌, ◌&&◌, ◌||◌}
 use Rattle.std.proofs.lemmas.Bool.{cases_Bool, cases_eq, eq-eqb, ne_eqb}
 use Rattle.disk_model.specs.Disk.{DiskState, IsSettled}
 use Rattle.flash_plan.specs.declared.outcome.Entry.{Entry}
@@ -27,6 +27,28 @@ entry_same (Complete u) (Complete v) = elim (cases_eq u v) [
   | inl same ↦ subst (λ (w : ℕ). is_entry (Complete u) (Complete w) ≡ true) same (is_itself (Complete u)) ∙ sym (eq-eqb u v same)
   | inr other ↦ not_entry (Complete u) (Complete v) (λ is. let at : 2 * u + 1 ≡ 2 * v + 1 = one_place (Complete u) (Complete v) is in other (omega (arith, at))) ∙ sym (ne_eqb u v other)
 ]
+
+eqb_sym : (a b : ℕ) → (a == b) ≡ (b == a)
+eqb_sym a b = elim (cases_eq a b) [
+  | inl same ↦ eq-eqb a b same ∙ sym (eq-eqb b a (sym same))
+  | inr other ↦ ne_eqb a b other ∙ sym (ne_eqb b a (λ is. other (sym is)))
+]
+
+pub same_sym : (e x : Entry) → same_entry e x ≡ same_entry x e
+same_sym (Begun a) (Begun b) = eqb_sym a b
+same_sym (Begun a) (Complete b) = refl
+same_sym (Complete a) (Begun b) = refl
+same_sym (Complete a) (Complete b) = eqb_sym a b
+
+or_turned : (a b : Bool) → (a || b) ≡ (b || a)
+or_turned true true = refl
+or_turned true false = refl
+or_turned false true = refl
+or_turned false false = refl
+
+-- the records with one entry more, told by spellings
+pub entry_with : (R : Entry → Bool) (e x : Entry) → (R x || is_entry e x) ≡ with_entry e R x
+entry_with R e x = (λ i. R x || entry_same e x i) ∙ or_turned (R x) (same_entry e x) ∙ (λ i. same_sym e x i || R x)
 
 -- the entry at each place of the run
 abbrev pub only : Entry → ℕ → Entry
@@ -56,14 +78,14 @@ module _ (P : Label) (R : Entry → Bool) (slot : ℕ) (e : Entry) where
   }
 
   -- with the one entry, or without
-  pub one_some : (image : List ℕ) → HasSome P R (only e) 1 image → Records P R image ⊎ Records P (with_entry R e) image
+  pub one_some : (image : List ℕ) → HasSome P R (only e) 1 image → Records P R image ⊎ Records P (with_entry e R) image
   one_some image some = elim (cases_Bool (some.picked 0)) [
-    | inl is ↦ inr (retold P (and_some R some.picked (only e) 1) (with_entry R e) image (λ x. (λ i. R x || (is i && is_entry e x)) ∙ (λ i. R x || entry_same e x i)) some.records)
+    | inl is ↦ inr (retold P (and_some R some.picked (only e) 1) (with_entry e R) image (λ x. (λ i. R x || (is i && is_entry e x)) ∙ entry_with R e x) some.records)
     | inr isnt ↦ inl (retold P (and_some R some.picked (only e) 1) R image (λ x. (λ i. R x || (isnt i && is_entry e x)) ∙ or_none (R x)) some.records)
   ]
 
   pub one_adds : (disk : DiskState) → AddsSome P R (only e) 1 disk → AddsAtMost P R e disk
   one_adds disk some image left = one_some image (some image left)
 
-  pub one_added : (old : List ℕ) (disk : DiskState) → HasAddedGroup P R old slot (only e) 1 disk → Records P (with_entry R e) disk.bytes
-  one_added old disk added = retold P (and_some R (λ j. true) (only e) 1) (with_entry R e) disk.bytes (λ x i. R x || entry_same e x i) added.holds
+  pub one_added : (old : List ℕ) (disk : DiskState) → HasAddedGroup P R old slot (only e) 1 disk → Records P (with_entry e R) disk.bytes
+  one_added old disk added = retold P (and_some R (λ j. true) (only e) 1) (with_entry e R) disk.bytes (entry_with R e) added.holds

@@ -21,15 +21,15 @@ pub record Records (P : Label) (R : Entry → Bool) (image : List ℕ) : Type 0 
   pub entries : (x : Entry) → has image (slots_of P) x ≡ R x
 
 -- with one entry more; the same told by spellings
-abbrev pub with_entry : (Entry → Bool) → Entry → Entry → Bool
-with_entry R e x = R x || same_entry e x
+abbrev pub with_entry : Entry → (Entry → Bool) → Entry → Bool
+with_entry e R x = same_entry x e || R x
 
 abbrev pub and_entry : (Entry → Bool) → Entry → Entry → Bool
 and_entry R e x = R x || is_entry e x
 
 -- each image has the entries, or the entry too
 abbrev pub AddsAtMost : Label → (Entry → Bool) → Entry → DiskState → Type 0
-AddsAtMost P R e disk = (image : List ℕ) → IsCrashImage disk image → Records P R image ⊎ Records P (with_entry R e) image
+AddsAtMost P R e disk = (image : List ℕ) → IsCrashImage disk image → Records P R image ⊎ Records P (with_entry e R) image
 
 -- with those of m entries that are picked
 abbrev pub and_some : (Entry → Bool) → (ℕ → Bool) → (ℕ → Entry) → ℕ → Entry → Bool

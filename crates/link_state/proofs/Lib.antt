@@ -1,3 +1,4 @@
+pub mod Arriving
 pub mod Frames
 pub mod Inboxes
 pub mod Keeping

@@ -4,9 +4,11 @@
 #![tactic(auto)]
 
 mod inbox;
+mod laws;
 mod state;
 #[cfg(test)]
 mod tests;
 
 pub use inbox::Message;
+pub use laws::messages_come_in_order;
 pub use state::{LinkState, Phase};

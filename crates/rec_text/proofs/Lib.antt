@@ -7,3 +7,4 @@ pub mod Digits
 pub mod OneWay
 pub mod Smalls
 pub mod Spells
+pub mod Values

@@ -52,7 +52,7 @@ length-bytes_of (c ∷ d ∷ cs) bs e =
     let n : suc (length t) ≡ length bs = ap length same in
     omega arith
 
-digit_small : (c d : ℕ) → digit_of c ≡ Some d → d < 16
+pub digit_small : (c d : ℕ) → digit_of c ≡ Some d → d < 16
 digit_small c d e = grind (arith, nat_tests, e)
 
 byte_small : (o p : Option ℕ) (b : ℕ) → ((d : ℕ) → o ≡ Some d → d < 16) → ((d : ℕ) → p ≡ Some d → d < 16) → byte_of o p ≡ Some b → b < 256

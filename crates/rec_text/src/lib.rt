@@ -2,6 +2,7 @@
 #![tactic(auto)]
 
 mod cutting;
+mod digit_table;
 mod fault;
 mod line;
 mod putting;

@@ -1,33 +1,11 @@
-ghost use Rattle.std.specs.Prelude.{◌≡◌, ℕ, List, ◌+◌, ◌-◌, ◌*◌, ◌≤◌, ◌<◌, take, drop, length, sum, IfSome, MatchOption, Some, ◌∷◌};
-ghost use Rattle.rec_text.specs.Digits.{digit_of, byte_of, bytes_of};
+ghost use Rattle.std.specs.Prelude.{◌≡◌, ℕ, List, ◌+◌, ◌-◌, ◌*◌, ◌≤◌, ◌<◌, take, drop, length, sum, MatchOption, Some, ◌∷◌};
+ghost use Rattle.rec_text.specs.Digits.{bytes_of};
 ghost use Rattle.rec_text.specs.Lines.{lines, without_return};
+
+use crate::digit_table::pair;
 
 /// The most bytes that a line of either format spells.
 pub const SPELLED: usize = 260;
-
-/// The value of a hexadecimal digit.
-#[inline]
-fn digit(c: u8) -> Option<u8>
-    ensures value { result ≡ digit_of c }
-    ensures below { IfSome result (λ d. d < 16) }
-{
-    match c {
-        b'0'..=b'9' => Some(c - b'0'),
-        b'A'..=b'F' => Some(c - b'A' + 10),
-        b'a'..=b'f' => Some(c - b'a' + 10),
-        _ => None,
-    }
-}
-
-/// The byte of two digits.
-#[inline]
-fn pair(high: u8, low: u8) -> Option<u8>
-    ensures { result ≡ byte_of (digit_of high) (digit_of low) }
-{
-    let high = digit(high)?;
-    let low = digit(low)?;
-    Some(high * 16 + low)
-}
 
 /// The bytes that pairs of digits spell, at the front of `out`: how many, and their sum.
 pub fn parse(digits: &[u8], out: &mut [u8; SPELLED]) -> Option<(usize, u32)>

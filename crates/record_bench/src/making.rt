@@ -86,11 +86,15 @@ fn push_srec(text: &mut Bytes, kind: u8, head: &[u8], body: &[u8]) -> Result<(),
     text.push(b'\n')
 }
 
-/// The bytes of the record with this number.
+/// The bytes of the record with this number, which look like noise, as an image mostly does.
 fn filled(i: u32) -> [u8; 16] {
     let mut bytes = [0u8; 16];
-    for (k, b) in bytes.iter_mut().enumerate() {
-        *b = ((i % 256) as u8 ^ (k % 256) as u8).wrapping_mul(7);
+    let mut state = u64::from(i).wrapping_mul(0x9E37_79B9_7F4A_7C15);
+    for b in bytes.iter_mut() {
+        state = state
+            .wrapping_mul(6_364_136_223_846_793_005)
+            .wrapping_add(1_442_695_040_888_963_407);
+        *b = (state / 0x100_0000_0000_0000) as u8;
     }
     bytes
 }

@@ -1,32 +1,30 @@
 -- What each event of a run of one unit makes of where it stands.
-use Rattle.std.proofs.Common.{◌≡◌, ◌⊎◌, inl, inr, ℕ, zero, suc, ◌+◌, ◌<◌, ◌≤◌, true, false, List, [], ◌∷◌, ◌++◌, length, Some, None, refl, sym, ◌∙◌, ap, subst, arith}
+use Rattle.std.proofs.Common.{◌≡◌, ◌⊎◌, inl, inr, ℕ, ◌+◌, ◌<◌, true, false, List, [], ◌∷◌, ◌++◌, Some, None, refl, sym, ◌∙◌, ap, subst, arith}
 use Rattle.std.specs.Prelude.{Bool, Option, ◌==◌, ◌&&◌, ◌||◌, not, is_some, is_none, nat_lt, nat_le, if◌then◌else◌}
 use Rattle.std.proofs.lemmas.Bool.{and_from, and_right, eq-eqb, lt-ltb, le-ltb, lt-leb}
-use Rattle.doip_frame.proofs.Streams.{split, joined}
+use Rattle.doip_frame.proofs.Streams.{split}
 use Rattle.doip_frame.specs.Frame.{Stream, stream_of}
-use Rattle.doip_frame.specs.declared.frame.Bad.{Bad}
 use Rattle.doip_frame.specs.declared.frame.Frame.{Frame}
 use Rattle.doip_frame.specs.declared.frame.Frame.TheVariants.{Ack, Message, Activated}
 use Rattle.flash_plan.specs.Plan.{plan_of, count_of}
 use Rattle.flash_plan.specs.declared.outcome.Entry.{Entry}
-use Rattle.flash_plan.specs.declared.outcome.Entry.TheVariants.{Begun, Complete}
+use Rattle.flash_plan.specs.declared.outcome.Entry.TheVariants.{Begun}
 use Rattle.flash_plan.specs.declared.outcome.Outcome.{Outcome}
 use Rattle.flash_plan.specs.declared.outcome.Outcome.TheVariants.{DiskFault, LinkLost, NoAnswer}
-use Rattle.flash_plan.specs.declared.unit.LinkRules.{LinkRules}
 use Rattle.flash_plan.specs.declared.unit.UnitPlan.{UnitPlan}
 use Rattle.uds_codec.specs.Answer.{Verdict, Good, judge}
-use Rattle.run_model.specs.Link.{Link, Phase, Up, Waits, is_open, is_up, is_waiting, is_known, see_all, see_stream, see_end, hear_piece, polled_quiet, quiet_link, drop_link, unanswered, take_word, first_word, without_first, keep_word}
+use Rattle.run_model.specs.Link.{Link, Phase, Up, Waits, is_open, is_up, is_waiting, is_known, see_all, see_stream, see_end, hear_piece, polled_quiet, quiet_link, drop_link, take_word, first_word, without_first, keep_word}
 use Rattle.run_model.specs.Entries.{with_entry}
 use Rattle.run_model.specs.Script.{Place, AtBegin, AtProgram, AtDone, request_at, bytes_at, place_next}
-use Rattle.run_model.specs.Talk.{Talk, talk_judged, talk_takes, talk_sent, talk_quiet, talk_final, end_talk, sid_at}
+use Rattle.run_model.specs.Talk.{talk_judged, talk_takes, talk_final, end_talk, sid_at}
 use Rattle.run_model.specs.Ways.{Spoken, Reply}
-use Rattle.bay_core.specs.Core.{Slot, Core, addresses_of, core_after, slots_own, slots_lost, recorded_after, link_after, link_stop, refused_stop, stop_after, is_disk_failure, with_slot}
+use Rattle.bay_core.specs.Core.{Slot, Core, addresses_of, core_after, slots_own, slots_lost, recorded_after, link_after, link_stop, refused_stop, stop_after, is_disk_failure}
 use Rattle.bay_core.specs.Legal.{is_allowed, is_begin, is_done, is_open_unit, is_clear, fits_inbox, has_word}
 use Rattle.bay_core.specs.declared.event.Event.{Event}
-use Rattle.bay_core.specs.declared.event.Event.TheVariants.{Claimed, Began, Sent, Collected, Tended, Completed, DiskFailed, Ended}
+use Rattle.bay_core.specs.declared.event.Event.TheVariants.{Began, Sent, Collected, Tended, Completed}
 use Rattle.bay_core.specs.declared.event.Heard.{Heard}
 use Rattle.bay_core.specs.declared.event.Heard.TheVariants.{Kept, Quiet, Piece, Lost}
-use Rattle.bay_core.specs.declared.event.Tend.TheVariants.{Dialed, Asked, Said, Polled}
+use Rattle.bay_core.specs.declared.event.Tend.TheVariants.{Polled}
 use Rattle.thin_engine.specs.Standing.{rules_of, IsStill, IsSoFar, IsAnswer, IsAccepting, IsNothing, IsTaken, AtRest, Awaits, Asks}
 
 -- the unit of the plan is known

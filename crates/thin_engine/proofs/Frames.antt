@@ -1,16 +1,16 @@
 -- The frames of bytes, by what stands at their front.
-use Rattle.std.proofs.Common.{◌≡◌, ◌⊎◌, ℕ, zero, suc, ◌+◌, ◌-◌, ◌*◌, ◌<◌, ◌≤◌, true, List, [], ◌∷◌, ◌++◌, length, take, drop, get_or, Option, Some, None, inl, inr, refl, sym, ◌∙◌, ap, subst, arith, length-take, length-drop}
+use Rattle.std.proofs.Common.{◌≡◌, ℕ, suc, ◌+◌, ◌*◌, ◌<◌, ◌≤◌, true, List, [], ◌∷◌, length, take, drop, Option, None, inl, inr, sym, ◌∙◌, ap, subst, arith, length-take, length-drop}
 use Rattle.std.specs.Prelude.{slice_index, ◌==◌, ◌||◌}
 use Rattle.std.proofs.lemmas.Bool.{leb-true, eqb-true, or_cases}
 use Rattle.std.proofs.lemmas.List.{get_or-take, get_or-drop, take_all, drop_all, drop-drop}
 use Rattle.doip_frame.proofs.Streams.{enough, shortens, Shortens}
-use Rattle.doip_frame.specs.Frame.{Cut, Partial, Wrong, Whole, cut_frame, Stream, stream_of, stream_in, stream_after, with_frame, frame_of, oem_of}
+use Rattle.doip_frame.specs.Frame.{Cut, Partial, Whole, cut_frame, Stream, stream_of, stream_in, stream_after, with_frame, frame_of, oem_of}
 use Rattle.doip_frame.specs.declared.frame.Frame.{Frame}
 use Rattle.doip_frame.specs.declared.frame.Frame.TheVariants.{Ack, Message, Activated}
 use Rattle.flash_base.specs.Numbers.{number2}
 use Rattle.thin_engine.specs.Look.{CutsWhole, two_at}
 use Rattle.thin_engine.specs.Reading.{IsLone}
-use Rattle.thin_engine.specs.Standing.{IsNothing, IsStill, IsSoFar, IsAnswer, IsAccepting}
+use Rattle.thin_engine.specs.Standing.{IsNothing, IsSoFar, IsAnswer, IsAccepting}
 
 pub nothing_yet : (s : List ℕ) → cut_frame s ≡ Partial → IsNothing (stream_of s)
 nothing_yet s e =

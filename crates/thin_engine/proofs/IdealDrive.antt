@@ -1,6 +1,6 @@
 -- A run from the first call to the last.
 use Rattle.std.proofs.Common.{◌≡◌, inl, inr, ℕ, ◌≤◌, false, List, length, Result, Ok, Err, refl, sym, ◌∙◌, ap, subst, arith}
-use Rattle.std.specs.Prelude.{Option, Some, None, MatchOption}
+use Rattle.std.specs.Prelude.{Option, Some, None, MatchOption, OnOk}
 use Rattle.flash_base.specs.ByteMaps.{byte_at}
 use Rattle.flash_base.specs.Counts.{Rises}
 use Rattle.flash_base.specs.Lists.{Each}
@@ -81,8 +81,8 @@ whole_run a b c same link later untroubled plain = record {
 }
 
 -- ------ the end
-pub final : (P : List UnitPlan) (u0 : ControlUnit) (v0 v : Vehicle) → count_of P ≡ 1 → unit_at v0.units (plan_of P 0).address ≡ Some u0 → HasImage (plan_of P 0).address (plan_of P 0) u0 v → IsFinalVehicle P v0 v
-final P u0 v0 v one there image n lt =
+pub final : (P : List UnitPlan) (tester : ℕ) (u0 : ControlUnit) (v0 v : Vehicle) → count_of P ≡ 1 → unit_at v0.units (plan_of P 0).address ≡ Some u0 → HasImage tester (plan_of P 0).address (plan_of P 0) u0 v → IsFinalVehicle P v0 v
+final P tester u0 v0 v one there image n lt =
     let zero_is : n ≡ 0 = omega (arith, lt, one) in
     subst (λ (k : ℕ). HasFinalMemory (plan_of P k) v0 v) (sym zero_is) memory
   where
@@ -120,8 +120,8 @@ disk_fails a b c d same le le2 count calm rises =
     let p = parts a c d (omega (arith, same, le)) le2 count calm in
     no_fault a c count (omega (arith, same, le)) p.first (subst (λ (n : ℕ). Rises n c) same rises)
 
-pub image_kept : (unit : ℕ) (plan : UnitPlan) (u0 : ControlUnit) (v w : Vehicle) → w ≡ v → HasImage unit plan u0 v → HasImage unit plan u0 w
-image_kept unit plan u0 v w is image = subst (λ (x : Vehicle). HasImage unit plan u0 x) (sym is) image
+pub image_kept : (tester unit : ℕ) (plan : UnitPlan) (u0 : ControlUnit) (v w : Vehicle) → w ≡ v → HasImage tester unit plan u0 v → HasImage tester unit plan u0 w
+image_kept tester unit plan u0 v w is image = subst (λ (x : Vehicle). HasImage tester unit plan u0 x) (sym is) image
 
 -- ------ the whole
 abbrev pub ended_by : Result Unit Outcome → Ended
@@ -129,23 +129,31 @@ ended_by (Ok done) = Ran outcome.Complete
 ended_by (Err e) = Ran e
 
 module _ (P : List UnitPlan) (first : IsFirstPlan P) (a b c : History) (same : vehicle_now b ≡ vehicle_now a) (link : b.link_faults ≡ a.link_faults) (later : a.moment ≤ b.moment) (disk : a.disk_faults ≤ b.disk_faults) where
-  pub run_ends : (r : Result Unit Outcome) (p : UnitPlan) → p ≡ plan_of P 0 → b.disk_faults ≤ c.disk_faults
-      → (IsUndisturbed b c → IsCount b.disk_faults → IsCalm b.disk_faults c.disk_faults → (u : ControlUnit) → unit_at (vehicle_now b).units p.address ≡ Some u → CanTake p u → HasRun r p.address p u (vehicle_now c))
-      → Matches P none_recorded (vehicle_now a) → IsUntroubled a c → IsPlainRun a c → IsDriven P (vehicle_now a) (vehicle_now c) (ended_by r)
-  run_ends r p is disk2 runs matches untroubled plain =
+  -- by the result of the run behind the journal
+  pub record Ends (tester : ℕ) (r : Result Unit Outcome) : Type 0 where
+    pub driven : IsDriven P (vehicle_now a) (vehicle_now c) (ended_by r)
+    pub active : OnOk r ((vehicle_now c).gateway.active ≡ Some tester)
+
+  pub run_ends : (tester : ℕ) (r : Result Unit Outcome) (p : UnitPlan) → p ≡ plan_of P 0 → b.disk_faults ≤ c.disk_faults
+      → (IsUndisturbed b c → IsCount b.disk_faults → IsCalm b.disk_faults c.disk_faults → (u : ControlUnit) → unit_at (vehicle_now b).units p.address ≡ Some u → CanTake p u → HasRun r tester p.address p u (vehicle_now c))
+      → Matches P none_recorded (vehicle_now a) → IsUntroubled a c → IsPlainRun a c → Ends tester r
+  run_ends tester r p is disk2 runs matches untroubled plain =
       let ready = is_ready P (vehicle_now a) first matches in
       let disks = parts a.disk_faults b.disk_faults c.disk_faults disk disk2 plain.disk_count untroubled.disk in
       let there : unit_at (vehicle_now b).units p.address ≡ Some ready.unit = (λ i. unit_at (same i).units (is i).address) ∙ ready.at in
       let can : CanTake p ready.unit = subst (λ (x : UnitPlan). CanTake x ready.unit) (sym is) ready.can in
-      go r ready (subst (λ (x : UnitPlan). HasRun r x.address x ready.unit (vehicle_now c)) is (runs (whole_run a b c same link later untroubled plain) disks.count disks.second ready.unit there can))
+      go r ready (subst (λ (x : UnitPlan). HasRun r tester x.address x ready.unit (vehicle_now c)) is (runs (whole_run a b c same link later untroubled plain) disks.count disks.second ready.unit there can))
     where
-      go : (r : Result Unit Outcome) (ready : IsReady P (vehicle_now a)) → HasRun r (plan_of P 0).address (plan_of P 0) ready.unit (vehicle_now c) → IsDriven P (vehicle_now a) (vehicle_now c) (ended_by r)
-      go (Ok done) ready image = inr (inr (refl, final P ready.unit (vehicle_now a) (vehicle_now c) first.count ready.at image))
-      go (Err e) ready is = starved P (vehicle_now a) (vehicle_now c) e is
+      go : (r : Result Unit Outcome) (ready : IsReady P (vehicle_now a)) → HasRun r tester (plan_of P 0).address (plan_of P 0) ready.unit (vehicle_now c) → Ends tester r
+      go (Ok done) ready image = record {
+        driven = inr (inr (refl, final P tester ready.unit (vehicle_now a) (vehicle_now c) first.count ready.at image));
+        active = image.active;
+      }
+      go (Err e) ready is = record { driven = starved P (vehicle_now a) (vehicle_now c) e is; active = tt }
 
 -- ------ what a `?` hands on
-pub starved_run : (unit : ℕ) (plan : UnitPlan) (u0 : ControlUnit) (v : Vehicle) (r : Result Unit Outcome) (y : Outcome) → r ≡ Err y → y ≡ outcome.NoMemory → HasRun r unit plan u0 v
-starved_run unit plan u0 v r y is none = subst (λ (x : Result Unit Outcome). HasRun x unit plan u0 v) (sym is) none
+pub starved_run : (tester unit : ℕ) (plan : UnitPlan) (u0 : ControlUnit) (v : Vehicle) (r : Result Unit Outcome) (y : Outcome) → r ≡ Err y → y ≡ outcome.NoMemory → HasRun r tester unit plan u0 v
+starved_run tester unit plan u0 v r y is none = subst (λ (x : Result Unit Outcome). HasRun x tester unit plan u0 v) (sym is) none
 
 pub starved_program : (tester unit : ℕ) (plan : UnitPlan) (u0 : ControlUnit) (v : Vehicle) (r : Result Unit Outcome) (y : Outcome) → r ≡ Err y → y ≡ outcome.NoMemory → Programmed r tester unit plan u0 v
 starved_program tester unit plan u0 v r y is none = subst (λ (x : Result Unit Outcome). Programmed x tester unit plan u0 v) (sym is) none

@@ -145,8 +145,8 @@ module _ (plan : UnitPlan) (first : IsFirst plan) (ok : IsAcceptedUnit plan) whe
   over_none None = refl
   over_none (Some x) = refl
 
-  pub imaged : (tester unit : ℕ) (u0 : ControlUnit) (v : Vehicle) → CanTake plan u0 → AtStage tester unit plan u0 Done v → HasImage unit plan u0 v
-  imaged tester unit u0 v can s = record { now = s.now; at = s.at; memory = λ a. sym (by_image a) }
+  pub imaged : (tester unit : ℕ) (u0 : ControlUnit) (v : Vehicle) → CanTake plan u0 → AtStage tester unit plan u0 Done v → HasImage tester unit plan u0 v
+  imaged tester unit u0 v can s = record { now = s.now; at = s.at; memory = λ a. sym (by_image a); active = s.rests.up.active }
     where
       image : byte_at (final_memory plan u0.memory) ≡ byte_at (over u0.memory (addressed seg.at seg.body ++ []))
       image = ap (λ (ss : List Segment). byte_at (over u0.memory (image_of ss))) first.one

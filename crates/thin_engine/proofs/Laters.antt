@@ -1,5 +1,5 @@
 -- Link calls, one after another.
-use Rattle.std.proofs.Common.{◌≡◌, ◌+◌, ◌-◌, ◌≤◌, ◌<◌, ◌∙◌, refl, arith, Result}
+use Rattle.std.proofs.Common.{◌≤◌, ◌∙◌, refl, arith, Result}
 use Rattle.disk_model.specs.declared.device.DeviceFault.{DeviceFault}
 use Rattle.shop_model.specs.History.{History, Call, LAST, LinkCall}
 use Rattle.shop_model.specs.Through.{IsLater}

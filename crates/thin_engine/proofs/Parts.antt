@@ -1,5 +1,5 @@
 -- Parts of a run, one after another, as long as each receive was shown.
-use Rattle.std.proofs.Common.{◌≡◌, ◌⊎◌, inl, inr, ℕ, ◌+◌, ◌<◌, ◌≤◌, ◌^◌, min, refl, sym, ◌∙◌, ap, subst, arith, Result}
+use Rattle.std.proofs.Common.{◌≡◌, ◌⊎◌, inl, inr, ℕ, ◌+◌, ◌<◌, ◌≤◌, sym, ◌∙◌, ap, subst, arith, Result}
 use Rattle.std.specs.Prelude.{IsErr}
 use Rattle.disk_model.specs.Disk.{DiskState}
 use Rattle.disk_model.specs.declared.device.DeviceFault.{DeviceFault}

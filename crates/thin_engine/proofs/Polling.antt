@@ -1,13 +1,13 @@
 -- A receive that was shown is an event of the run.
-use Rattle.std.proofs.Common.{◌≡◌, ◌⊎◌, inl, inr, ℕ, zero, suc, ◌+◌, ◌<◌, ◌≤◌, true, false, List, [], ◌∷◌, ◌++◌, length, take, drop, Result, Ok, Err, refl, sym, ◌∙◌, ap, subst, arith, length-append, length-take}
+use Rattle.std.proofs.Common.{◌≡◌, inl, inr, ℕ, ◌+◌, ◌<◌, ◌≤◌, true, List, [], ◌∷◌, ◌++◌, length, take, drop, Result, Ok, Err, refl, sym, ◌∙◌, ap, subst, arith, length-append, length-take}
 use Rattle.std.specs.Prelude.{Bool, IfOk, IsErr, Vec, is_some}
 use Rattle.std.specs.declared.alloc.Global.{Global}
 use Rattle.std.proofs.lemmas.Bool.{false≢true}
-use Rattle.disk_model.specs.Disk.{DiskState, IsCrashImage}
+use Rattle.disk_model.specs.Disk.{DiskState}
 use Rattle.disk_model.specs.declared.device.DeviceFault.{DeviceFault}
 use Rattle.flash_plan.specs.declared.outcome.Entry.{Entry}
-use Rattle.unit_model.specs.Poll.{Ticks, Carries, IsShown, Misses}
-use Rattle.unit_model.specs.Vehicle.{Gateway, Vehicle}
+use Rattle.unit_model.specs.Poll.{Carries, IsShown}
+use Rattle.unit_model.specs.Vehicle.{Vehicle}
 use Rattle.unit_model.specs.declared.reply.Got.{Got}
 use Rattle.unit_model.specs.declared.reply.Got.TheVariants.{Quiet, Bytes}
 use Rattle.journal_model.specs.Records.{records, label_of}
@@ -21,7 +21,6 @@ use Rattle.run_model.specs.Script.{Place, AtBegin, request_at, bytes_at, place_n
 use Rattle.run_model.specs.Sound.{IsSound}
 use Rattle.bay_core.proofs.OneStep.{step_law}
 use Rattle.bay_core.specs.Core.{Core, core_after}
-use Rattle.bay_core.specs.Joint.{IsJoint}
 use Rattle.bay_core.specs.Legal.{is_allowed}
 use Rattle.bay_core.specs.Moves.{Moves, Receives}
 use Rattle.bay_core.specs.declared.event.Event.{Event}

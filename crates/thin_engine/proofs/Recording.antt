@@ -2,7 +2,6 @@
 use Rattle.std.proofs.Common.{◌≡◌, ◌⊎◌, inl, inr, ℕ, ◌<◌, true, false, List, Result, Ok, Err, refl, sym, ◌∙◌, ap, subst}
 use Rattle.std.specs.Prelude.{Bool, ◌==◌, ◌&&◌, ◌||◌, OnOk}
 use Rattle.std.proofs.Math.Bool.{or-false}
-use Rattle.std.proofs.lemmas.Bool.{cases_eq, eq-eqb, ne_eqb}
 use Rattle.disk_model.specs.Disk.{DiskState, IsCrashImage}
 use Rattle.flash_plan.specs.Outcomes.{same_entry}
 use Rattle.flash_plan.specs.declared.outcome.Entry.{Entry}
@@ -15,7 +14,6 @@ use Rattle.run_model.specs.Entries.{with_entry}
 use Rattle.run_model.specs.Script.{AtBegin, AtProgram, AtDone}
 use Rattle.run_model.specs.Sound.{IsSound}
 use Rattle.journal_steps.specs.Append.{Records, AddsAtMost}
-use Rattle.journal_steps.specs.Append as append
 use Rattle.journal_steps.specs.Later.{HoldsOnDisk}
 use Rattle.journal_steps.specs.Make.{no_entry}
 use Rattle.flash_journal.specs.Kept.{journal_label, has_entry, MayAppend, IsKeptOn, HasOneMore}
@@ -33,40 +31,26 @@ use Rattle.thin_engine.proofs.Events.{may_begin_now, begun_rests, may_complete}
 use Rattle.thin_engine.proofs.Parts.{stays_keeps}
 
 -- ------ the entries of a journal, as the core counts them
-zero_same : (u : ℕ) → (0 == u) ≡ (u == 0)
-zero_same u = elim (cases_eq u 0) [
-  | inl e ↦ eq-eqb 0 u (sym e) ∙ sym (eq-eqb u 0 e)
-  | inr ne ↦ ne_eqb 0 u (λ e. ne (sym e)) ∙ sym (ne_eqb u 0 ne)
-]
-
-pub begun_entry : (x : Entry) → append.with_entry no_entry (Begun 0) x ≡ is_begun x
-begun_entry (Begun u) = zero_same u ∙ sym (or-false (u == 0))
-begun_entry (Complete u) = refl
-
-pub both_entry : (x : Entry) → append.with_entry is_begun (Complete 0) x ≡ with_entry (Complete 0) is_begun x
-both_entry (Begun u) = or-false ((u == 0) || false)
-both_entry (Complete u) = zero_same u ∙ sym (or-false (u == 0))
-
 with_both : (x : Entry) → with_entry (Complete 0) is_begun x ≡ is_both x
 with_both (Begun u) = or-false (u == 0)
 with_both (Complete u) = or-false (u == 0)
 
 -- one entry more, where the entries before are known
-more_is : (R Q : Entry → Bool) (e : Entry) → ((x : Entry) → R x ≡ Q x) → (x : Entry) → append.with_entry R e x ≡ append.with_entry Q e x
-more_is R Q e same x = λ i. same x i || same_entry e x
+more_is : (R Q : Entry → Bool) (e : Entry) → ((x : Entry) → R x ≡ Q x) → (x : Entry) → with_entry e R x ≡ with_entry e Q x
+more_is R Q e same x = λ i. same_entry x e || same x i
 
 pub begun_of : (j j2 : Journal) → IsEmpty j → HasOneMore j j2 (Begun 0) → (x : Entry) → has_entry j2 x ≡ is_begun x
-begun_of j j2 empty more x = more.entries x ∙ more_is (has_entry j) no_entry (Begun 0) empty.none x ∙ begun_entry x
+begun_of j j2 empty more x = more.entries x ∙ more_is (has_entry j) no_entry (Begun 0) empty.none x
 
 pub both_of : (j2 j3 : Journal) → ((x : Entry) → has_entry j2 x ≡ is_begun x) → HasOneMore j2 j3 (Complete 0) → (x : Entry) → has_entry j3 x ≡ with_entry (Complete 0) is_begun x
-both_of j2 j3 begun more x = more.entries x ∙ more_is (has_entry j2) is_begun (Complete 0) begun x ∙ both_entry x
+both_of j2 j3 begun more x = more.entries x ∙ more_is (has_entry j2) is_begun (Complete 0) begun x
 
 -- a journal in which the unit is begun and not complete
 pub may_complete_next : (j j2 : Journal) → IsUnbegun j → HasOneMore j j2 (Begun 0) → MayAppend j2 (Complete 0)
 may_complete_next j j2 was more = record {
   named = subst (λ (n : ℕ). 0 < n) (sym (ap (λ (l : Label). l.units) more.label)) was.may.named;
-  fresh = more.entries (Complete 0) ∙ or-false (has_entry j (Complete 0)) ∙ was.fresh;
-  prepared = more.entries (Begun 0) ∙ (λ i. was.may.fresh i || true);
+  fresh = more.entries (Complete 0) ∙ was.fresh;
+  prepared = more.entries (Begun 0);
 }
 
 -- ------ the records of each image
@@ -93,11 +77,11 @@ module _ (run : Run) where
       subst (λ (X : Entry → Bool). IsSound run.plan X v run.v0) (sym same) sound
 
   -- at each moment of an append, where both the records and those with the entry fit the vehicle
-  adds_sound : (P : Label) (J R R2 : Entry → Bool) (e : Entry) (v : Vehicle) → P ≡ label → ((x : Entry) → J x ≡ R x) → ((x : Entry) → append.with_entry R e x ≡ R2 x) → IsSound run.plan R v run.v0 → IsSound run.plan R2 v run.v0
+  adds_sound : (P : Label) (J R R2 : Entry → Bool) (e : Entry) (v : Vehicle) → P ≡ label → ((x : Entry) → J x ≡ R x) → ((x : Entry) → with_entry e R x ≡ R2 x) → IsSound run.plan R v run.v0 → IsSound run.plan R2 v run.v0
       → (d : DiskState) → AddsAtMost P J e d → SoundAt run d v
   adds_sound P J R R2 e v named before behind sound sound2 d adds image left = elim (adds image left) [
     | inl there ↦ image_sound R image v (λ x. (λ i. records (sym named i) image x) ∙ recorded P J image there x ∙ before x) sound
-    | inr there ↦ image_sound R2 image v (λ x. (λ i. records (sym named i) image x) ∙ recorded P (append.with_entry J e) image there x ∙ more_is J R e before x ∙ behind x) sound2
+    | inr there ↦ image_sound R2 image v (λ x. (λ i. records (sym named i) image x) ∙ recorded P (with_entry e J) image there x ∙ more_is J R e before x ∙ behind x) sound2
   ]
 
   -- that the unit is begun is recorded
@@ -110,7 +94,7 @@ module _ (run : Run) where
         → OnOk r (HasOneMore j j2 (Begun 0) × IsKeptOn j2 (disk_now new))
         → IsResting run no_entry AtBegin (disk_now old) (vehicle_now old) → Keeps (SoundAt run) old new (OnOk r (IsResting run is_begun AtProgram (disk_now new) (vehicle_now new)))
     begin_keeps j2 old new r empty through stays has rests = stays_keeps (SoundAt run) (AddsAtMost (journal_label j) (has_entry j) (Begun 0)) (vehicle_now old) old new _ through
-        (adds_sound (journal_label j) (has_entry j) no_entry is_begun (Begun 0) (vehicle_now old) named empty.none begun_entry rests.fits.joint.sound joint.sound) (ended r has)
+        (adds_sound (journal_label j) (has_entry j) no_entry is_begun (Begun 0) (vehicle_now old) named empty.none (λ x. refl) rests.fits.joint.sound joint.sound) (ended r has)
       where
         joint : IsJoint (rules_of run.tester) run.plan (core_after (rules_of run.tester) run.plan (Began 0) rests.core) is_begun (vehicle_now old) run.v0 run.t0
         joint = began (disk_now old) (vehicle_now old) rests
@@ -134,4 +118,4 @@ module _ (run : Run) where
   pub complete_keeps : (j2 : Journal) (old new : History) → journal_label j2 ≡ label → ((x : Entry) → has_entry j2 x ≡ is_begun x) → HoldsOnDisk old new (AddsAtMost (journal_label j2) (has_entry j2) (Complete 0))
       → IsResting run is_begun AtDone (disk_now old) (vehicle_now old) → Keeps (SoundAt run) old new (Unit {0})
   complete_keeps j2 old new named begun through rests = stays_keeps (SoundAt run) (AddsAtMost (journal_label j2) (has_entry j2) (Complete 0)) (vehicle_now old) old new (Unit {0}) through
-      (adds_sound (journal_label j2) (has_entry j2) is_begun (with_entry (Complete 0) is_begun) (Complete 0) (vehicle_now old) named begun both_entry rests.fits.joint.sound (completed (disk_now old) (vehicle_now old) rests)) tt
+      (adds_sound (journal_label j2) (has_entry j2) is_begun (with_entry (Complete 0) is_begun) (Complete 0) (vehicle_now old) named begun (λ x. refl) rests.fits.joint.sound (completed (disk_now old) (vehicle_now old) rests)) tt

@@ -1,6 +1,6 @@
 -- The start of a run of one unit: it is taken up, the link is dialed and the activation asked for.
-use Rattle.std.proofs.Common.{◌≡◌, ◌⊎◌, inl, inr, ℕ, ◌<◌, ◌≤◌, true, false, List, [], Result, Ok, Err, refl, sym, ◌∙◌, ap, subst, arith}
-use Rattle.std.specs.Prelude.{Bool, ◌&&◌, IsErr, is_ok, is_some, nat_lt}
+use Rattle.std.proofs.Common.{◌≡◌, ℕ, ◌≤◌, true, false, List, [], Result, Ok, Err, refl, sym, ◌∙◌, ap, subst, arith}
+use Rattle.std.specs.Prelude.{Bool, IsErr, is_ok, is_some, nat_lt}
 use Rattle.std.proofs.lemmas.Bool.{and_from, lt-ltb, false≢true}
 use Rattle.disk_model.specs.Disk.{DiskState}
 use Rattle.disk_model.specs.declared.device.DeviceFault.{DeviceFault}
@@ -20,7 +20,7 @@ use Rattle.bay_core.specs.Legal.{is_allowed, all_of}
 use Rattle.bay_core.specs.declared.event.Event.TheVariants.{Claimed, Sent as Was_sent, Tended}
 use Rattle.bay_core.specs.declared.event.Tend.TheVariants.{Dialed, Asked}
 use Rattle.thin_engine.specs.Shown.{Keeps}
-use Rattle.thin_engine.specs.Standing.{rules_of, IsNothing, IsTaken, Asks}
+use Rattle.thin_engine.specs.Standing.{rules_of, Asks}
 use Rattle.thin_engine.specs.Talking.{Run, SoundAt, Covers, Fits, IsResting, Waits, Delivers, Dials, task_of, taken_up}
 use Rattle.thin_engine.specs.declared.reading.Awaited.TheVariants.{Activation, Answer}
 use Rattle.thin_engine.proofs.Events.{may_send, sent_awaits}

@@ -52,12 +52,13 @@ abbrev pub Programmed : Result Unit Outcome → ℕ → ℕ → UnitPlan → Con
 Programmed (Ok done) tester unit plan u0 v = AtStage tester unit plan u0 Done v
 Programmed (Err e) tester unit plan u0 v = e ≡ outcome.NoMemory
 
--- the unit's memory is that of one plain overwrite by its image
-pub record HasImage (unit : ℕ) (plan : UnitPlan) (u0 : ControlUnit) (v : Vehicle) : Type 0 where
+-- the unit's memory is that of one plain overwrite by its image, and the gateway is activated for the tester
+pub record HasImage (tester unit : ℕ) (plan : UnitPlan) (u0 : ControlUnit) (v : Vehicle) : Type 0 where
   pub now : ControlUnit
   pub at : unit_at v.units unit ≡ Some now
   pub memory : (a : ℕ) → byte_at now.memory a ≡ byte_at (final_memory plan u0.memory) a
+  pub active : v.gateway.active ≡ Some tester
 
-abbrev pub HasRun : Result Unit Outcome → ℕ → UnitPlan → ControlUnit → Vehicle → Type 0
-HasRun (Ok done) unit plan u0 v = HasImage unit plan u0 v
-HasRun (Err e) unit plan u0 v = e ≡ outcome.NoMemory
+abbrev pub HasRun : Result Unit Outcome → ℕ → ℕ → UnitPlan → ControlUnit → Vehicle → Type 0
+HasRun (Ok done) tester unit plan u0 v = HasImage tester unit plan u0 v
+HasRun (Err e) tester unit plan u0 v = e ≡ outcome.NoMemory

@@ -1,6 +1,6 @@
 -- What the bytes since a request say.
 use Rattle.std.specs.Prelude.{◌≡◌, ◌+◌, ◌≤◌, ℕ, List, [], ◌∷◌, drop, length, None}
-use Rattle.doip_frame.specs.Frame.{Stream, stream_of}
+use Rattle.doip_frame.specs.Frame.{stream_of}
 use Rattle.doip_frame.specs.declared.frame.Frame.TheVariants.{Message}
 use Rattle.thin_engine.specs.declared.reading.Awaited.{Awaited}
 use Rattle.thin_engine.specs.declared.reading.Awaited.TheVariants as awaited

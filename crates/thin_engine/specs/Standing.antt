@@ -1,5 +1,5 @@
 -- Where a run of one unit stands, by the core's account of its events.
-use Rattle.std.specs.Prelude.{◌≡◌, ◌⊎◌, ℕ, ◌+◌, ◌<◌, Bool, true, false, List, [], ◌∷◌, Option, Some, None}
+use Rattle.std.specs.Prelude.{◌≡◌, ◌⊎◌, ℕ, ◌+◌, Bool, true, false, List, [], ◌∷◌, Option, None}
 use Rattle.doip_frame.specs.Frame.{Stream, stream_of}
 use Rattle.doip_frame.specs.declared.frame.Frame.{Frame}
 use Rattle.doip_frame.specs.declared.frame.Frame.TheVariants.{Ack, Message, Activated}

@@ -1,5 +1,5 @@
 -- Where a run stands, with disk and vehicle.
-use Rattle.std.specs.Prelude.{◌≡◌, ℕ, Bool, List, [], ◌++◌, take, Result, Ok, Err, Vec, is_ok}
+use Rattle.std.specs.Prelude.{◌≡◌, ℕ, Bool, List, ◌++◌, take, Result, Ok, Err, Vec, is_ok}
 use Rattle.std.specs.declared.alloc.Global.{Global}
 use Rattle.disk_model.specs.Disk.{DiskState, IsCrashImage}
 use Rattle.disk_model.specs.declared.device.DeviceFault.{DeviceFault}

@@ -1,5 +1,5 @@
 ghost use Rattle.std.specs.Prelude.{◌≡◌, ◌≢◌, ◌⊎◌, ◌<◌, ◌≤◌, [], length, Bool, IsTrue, IsErr, OnOk, IfOk, IfErr, Some};
-ghost use Rattle.flash_plan.specs.Plan.{IsAcceptedUnit, plan_of};
+ghost use Rattle.flash_plan.specs.Plan.{IsAcceptedUnit};
 ghost use Rattle.flash_base.specs.Counts.{Rises};
 ghost use Rattle.shop_model.specs.History.{disk_now, vehicle_now};
 ghost use Rattle.shop_model.specs.Through.{IsLater, HoldsWhileShown};
@@ -26,7 +26,7 @@ ghost use Rattle.thin_engine.specs.Recorded.{RecordsNothing, RecordsBoth, IsUnbe
 ghost use Rattle.thin_engine.specs.Shown.{Keeps};
 ghost use Rattle.thin_engine.specs.Sounding.{KeepsSound};
 ghost use Rattle.thin_engine.specs.Stages.{IsFirst, IsFirstPlan, IsStage, place_at, work_left, segment_of};
-ghost use Rattle.thin_engine.specs.Talking.{Run, SoundAt, Fits, IsResting, IsRoute, task_of, taken_up, is_begun};
+ghost use Rattle.thin_engine.specs.Talking.{Run, SoundAt, Fits, IsResting, IsRoute, task_of, taken_up};
 ghost use Rattle.thin_engine.specs.declared.stage.Stage.TheVariants.{Done as ItIsDone};
 
 use crate::asking::{Trouble, activate, ask};
@@ -188,7 +188,7 @@ fn run<S: Shop>(
     ensures runs { IsTrue S.tells_vehicle → IsUndisturbed (S.history shop.old) (S.history shop.new)
         → IsCount (S.history shop.old).disk_faults → IsCalm (S.history shop.old).disk_faults (S.history shop.new).disk_faults
         → (u : ControlUnit) → unit_at (vehicle_now (S.history shop.old)).units unit.now.address ≡ Some u → CanTake unit.now u
-        → HasRun result unit.now.address unit.now u (vehicle_now (S.history shop.new)) }
+        → HasRun result tester unit.now.address unit.now u (vehicle_now (S.history shop.new)) }
 {
     let route = Route {
         tester,
@@ -252,6 +252,7 @@ pub fn drive<S: Shop>(alloc: Global, shop: &mut S, tester: u16, plan: &Plan) -> 
     ensures starved { result ≡ Ended.NoMemory → IsTrue S.tells_disk → (disk_now (S.history shop.new)).bytes ≡ (disk_now (S.history shop.old)).bytes }
     ensures opening { (result ≡ Ended.Disk) ⊎ (result ≡ Ended.NoMemory) →
         (vehicle_now (S.history shop.new) ≡ vehicle_now (S.history shop.old)) × ((S.history shop.new).link_calls ≡ (S.history shop.old).link_calls) }
+    ensures disk { (result ≡ Ended.Disk) ⊎ (result ≡ Ended.Ran Outcome.DiskFault) → Rises (S.history shop.old).disk_faults (S.history shop.new).disk_faults }
 
     // At Complete, whatever a crash leaves records that the unit is begun and complete, and nothing else.
     ensures recorded { result ≡ Ended.Ran Outcome.Complete → IsTrue S.tells_disk → RecordsBoth (label_of plan.now) (disk_now (S.history shop.new)) }
@@ -259,13 +260,15 @@ pub fn drive<S: Shop>(alloc: Global, shop: &mut S, tester: u16, plan: &Plan) -> 
     // Where at entry the records of whatever a crash leaves fit the vehicle, seen from a vehicle v0, they do at each moment, as long
     // as each receive was shown; for a journal of length 0, v0 is the vehicle at entry. So it is at each exit, whatever the outcome.
     ensures sound { IsTrue S.tells_disk → IsTrue S.tells_vehicle → KeepsSound plan.now (S.history shop.old) (S.history shop.new) }
-    ensures disk { (result ≡ Ended.Disk) ⊎ (result ≡ Ended.Ran Outcome.DiskFault) → Rises (S.history shop.old).disk_faults (S.history shop.new).disk_faults }
 
     // Where nothing fails or departs, units that fit are programmed: but for want of memory the run ends Complete.
     ensures complete { IsTrue S.tells_disk → IsTrue S.tells_vehicle → (disk_now (S.history shop.old)).bytes ≡ []
         → Matches plan.now none_recorded (vehicle_now (S.history shop.old))
         → IsUntroubled (S.history shop.old) (S.history shop.new) → IsPlainRun (S.history shop.old) (S.history shop.new)
         → IsDriven plan.now (vehicle_now (S.history shop.old)) (vehicle_now (S.history shop.new)) result }
+    ensures tester { IsTrue S.tells_vehicle → Matches plan.now none_recorded (vehicle_now (S.history shop.old))
+        → IsUntroubled (S.history shop.old) (S.history shop.new) → IsPlainRun (S.history shop.old) (S.history shop.new)
+        → result ≡ Ended.Ran Outcome.Complete → (vehicle_now (S.history shop.new)).gateway.active ≡ Some tester }
 {
     match shop.len() {
         Ok(length) => {

@@ -1,5 +1,5 @@
 ghost use Rattle.std.specs.Prelude.{◌≡◌, ◌+◌, ◌≤◌, ◌<◌, IsTrue, drop, length};
-ghost use Rattle.doip_frame.specs.Frame.{is_length, stream_of};
+ghost use Rattle.doip_frame.specs.Frame.{is_length};
 ghost use Rattle.thin_engine.specs.Look.{Cuts, look_of, look_sized, two_at, four_at};
 ghost use Rattle.thin_engine.specs.Reading.{IsWithin, IsBehindRead, IsBehindAt, IsAnswerRead, IsActivationRead, IsRead};
 ghost use Rattle.thin_engine.specs.Reads.{stand_at, message_seen, behind_at, answer_seen, activation_seen, read_of};

@@ -1,11 +1,11 @@
 -- What answers say, by what the code looks at.
-use Rattle.std.proofs.Common.{◌≡◌, inl, inr, ℕ, ◌+◌, ◌/◌, ◌≤◌, true, false, List, [], ◌∷◌, length, take, drop, Some, None, Result, Ok, Err, IfOk, get_or, ◌*◌, ◌<◌, min, refl, sym, ◌∙◌, ap, subst, arith}
+use Rattle.std.proofs.Common.{◌≡◌, inl, inr, ℕ, ◌+◌, ◌/◌, ◌≤◌, true, false, List, [], ◌∷◌, length, take, drop, Some, None, Result, Ok, Err, IfOk, get_or, ◌*◌, ◌<◌, min, refl, sym, ◌∙◌, ap, arith}
 use Rattle.std.specs.Prelude.{Bool, Option, ◌==◌, ◌&&◌, nat_le, if◌then◌else◌}
-use Rattle.std.proofs.lemmas.Bool.{cases_Bool, and_parts, leb-true, le-leb, lt-leb}
+use Rattle.std.proofs.lemmas.Bool.{cases_Bool, le-leb, lt-leb}
 use Rattle.flash_base.specs.Numbers.{number2, number_of, number_after}
 use Rattle.flash_plan.specs.declared.unit.UnitPlan.{UnitPlan}
 use Rattle.run_model.specs.Script.{Place, request_at, bytes_at}
-use Rattle.uds_codec.specs.Answer.{Verdict, Good, Bad_status, Strange, judge, negative_of, after_one, routine_form, id_form, block_form, form_in}
+use Rattle.uds_codec.specs.Answer.{Verdict, Good, Bad_status, Strange, judge, negative_of, after_one, routine_form, id_form, form_in}
 use Rattle.uds_codec.specs.Request.{request_of, sid_of}
 use Rattle.uds_codec.specs.declared.request.Request.{Request}
 use Rattle.unit_session.specs.Judging.{judged, starts_with, names_id, status_in, limit_in, limit_said, cap_after, cap_of}
@@ -19,10 +19,6 @@ pub after_true : (a : ℕ) (xs : List ℕ) (f : List ℕ → Verdict) → starts
 after_true a [] f is = cc
 after_true a (x ∷ xs) f is = rw is refl
 
-pub after_false : (a : ℕ) (xs : List ℕ) (f : List ℕ → Verdict) → starts_with a xs ≡ false → after_one xs a f ≡ Strange
-after_false a [] f is = refl
-after_false a (x ∷ xs) f is = rw is refl
-
 pub named_true : (id : ℕ) (xs : List ℕ) → names_id id xs ≡ true → id_form id xs ≡ Good (drop 2 xs)
 named_true id [] is = cc
 named_true id (a ∷ []) is = cc
@@ -32,11 +28,6 @@ pub named_false : (id : ℕ) (xs : List ℕ) → names_id id xs ≡ false → id
 named_false id [] is = refl
 named_false id (a ∷ []) is = refl
 named_false id (hi ∷ lo ∷ xs) is = rw is refl
-
-pub named_long : (id : ℕ) (xs : List ℕ) → names_id id xs ≡ true → 2 ≤ length xs
-named_long id [] is = cc
-named_long id (a ∷ []) is = cc
-named_long id (hi ∷ lo ∷ xs) is = omega arith
 
 abbrev pub status_verdict : Option ℕ → List ℕ → Verdict
 status_verdict None more = Strange
@@ -48,34 +39,6 @@ routine_by id (a ∷ []) = refl
 routine_by id (a ∷ hi ∷ []) = refl
 routine_by id (a ∷ hi ∷ lo ∷ []) = elim (cases_Bool (a == 1 && number2 hi lo == id)) [ inl e ↦ rw e refl | inr e ↦ rw e refl ]
 routine_by id (a ∷ hi ∷ lo ∷ s ∷ more) = elim (cases_Bool (a == 1 && number2 hi lo == id)) [ inl e ↦ rw e refl | inr e ↦ rw e refl ]
-
--- the answer to a download is in the form, or it is not
-abbrev pub limit_verdict : Option ℕ → Verdict → Type 0
-limit_verdict None v = v ≡ Strange
-limit_verdict (Some limit) v = limit_said v ≡ Some limit
-
-limit_if : (c : Bool) (xs : List ℕ) → limit_verdict (limit_said (if c then Good xs else Strange)) (if c then Good xs else Strange)
-limit_if true xs = refl
-limit_if false xs = refl
-
-pub limit_by : (xs : List ℕ) → limit_verdict (limit_in xs) (block_form xs)
-limit_by [] = refl
-limit_by (n ∷ xs) = limit_if (nat_le 1 (n / 16) && nat_le (n / 16) 8 && nat_le (n / 16) (length xs) && nat_le 3 (number_of (take (n / 16) xs))) (take (n / 16) xs)
-
-abbrev good_rest : Verdict → List ℕ
-good_rest (Good more) = more
-good_rest v = []
-
-good_if : (c : Bool) (xs more : List ℕ) → (if c then Good xs else Strange) ≡ Good more → (c ≡ true) × (xs ≡ more)
-good_if true xs more e = (refl, ap good_rest e)
-good_if false xs more e = cc
-
-pub limit_low : (xs number : List ℕ) → block_form xs ≡ Good number → 3 ≤ number_of number
-limit_low [] number e = cc
-limit_low (n ∷ xs) number e =
-    let g = good_if (nat_le 1 (n / 16) && nat_le (n / 16) 8 && nat_le (n / 16) (length xs) && nat_le 3 (number_of (take (n / 16) xs))) (take (n / 16) xs) number e in
-    let p = and_parts (nat_le 1 (n / 16) && nat_le (n / 16) 8 && nat_le (n / 16) (length xs)) (nat_le 3 (number_of (take (n / 16) xs))) g.0 in
-    subst (λ (ys : List ℕ). 3 ≤ number_of ys) g.1 (leb-true 3 (number_of (take (n / 16) xs)) p.1)
 
 -- ------ the limit, as the code finds it
 cap_from : (n : ℕ) (xs : List ℕ) → cap_after (min n 65535) xs ≡ min (number_after n xs) 65535

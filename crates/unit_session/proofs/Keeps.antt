@@ -2,7 +2,7 @@
 use Rattle.std.proofs.Common.{◌≡◌, inl, inr, ℕ, zero, suc, ◌+◌, ◌-◌, ◌*◌, ◌<◌, ◌≤◌, true, false, List, [], ◌∷◌, ◌++◌, length, take, drop, refl, sym, ◌∙◌, ap, arith, length-drop, add-one, drop-cons}
 use Rattle.std.specs.Prelude.{Bool, min}
 use Rattle.std.proofs.lemmas.Bool.{cases_Bool, false≢true}
-use Rattle.std.proofs.lemmas.List.{take-append-drop, drop_all}
+use Rattle.std.proofs.lemmas.List.{take-append-drop}
 use Rattle.flash_base.specs.Numbers.{number_of}
 use Rattle.flash_base.specs.Lists.{Each}
 use Rattle.flash_base.specs.declared.unit.KeyRule.{KeyRule}
@@ -216,6 +216,3 @@ ident_sends u n lt = of (drop n u.idents) (omega (arith, length-drop n u.idents,
     of : (ws : List Wanted) → 1 ≤ length ws → asked false (ask_at u (idents_from ws)) ≡ ask.Send
     of [] some = absurd (omega (arith, some))
     of (w ∷ ws) some = refl
-
-pub ident_begins : (u : UnitPlan) (n : ℕ) → length u.idents ≤ n → asked false (ask_at u (place_at u (Ident n))) ≡ ask.Begin
-ident_begins u n ge = ap (λ (ws : List Wanted). asked false (ask_at u (idents_from ws))) (drop_all n u.idents ge)

@@ -1,28 +1,26 @@
 -- What each answer leads to, by the numbers of a session.
 use Rattle.std.proofs.Common.{◌≡◌, inl, inr, ℕ, zero, suc, ◌+◌, ◌-◌, ◌<◌, ◌≤◌, true, false, List, [], ◌∷◌, ◌++◌, length, take, drop, Some, None, refl, sym, ◌∙◌, ap, subst, arith, slice_get, length-take, add-one, take-suc, drop-cons}
-use Rattle.std.specs.Prelude.{Bool, Option, ◌==◌, ◌&&◌, nat_le, nat_lt, if◌then◌else◌, min, slice_index_or, is_some, unwrap_or}
+use Rattle.std.specs.Prelude.{Bool, Option, ◌==◌, ◌&&◌, nat_le, nat_lt, if◌then◌else◌, slice_index_or}
 use Rattle.std.proofs.lemmas.Bool.{cases_Bool, cases_lt, lt-ltb, le-ltb, false≢true}
 use Rattle.std.proofs.lemmas.List.{drop_all}
-use Rattle.flash_base.specs.Numbers.{number_of, big_endian}
-use Rattle.flash_base.specs.declared.unit.KeyRule.{KeyRule}
-use Rattle.flash_base.specs.declared.unit.KeyRule.TheVariants.{Free}
+use Rattle.flash_base.specs.Numbers.{big_endian}
 use Rattle.flash_plan.specs.Plan.{IsAcceptedUnit, size_of}
 use Rattle.flash_plan.specs.declared.outcome.Outcome.TheVariants.{IdentMismatch, BadAnswer, CheckFailed}
 use Rattle.flash_plan.specs.declared.unit.Segment.{Segment}
 use Rattle.flash_plan.specs.declared.unit.UnitPlan.{UnitPlan}
 use Rattle.flash_plan.specs.declared.unit.Wanted.{Wanted}
-use Rattle.run_model.specs.Script.{Blocks, Place, AtIdent, AtErase, AtEnd, request_at, bytes_at, place_judged, place_next, routine_at, idents_from, segments_from, after_program, more_blocks, is_empty, has_value}
-use Rattle.uds_codec.specs.Answer.{Verdict, Good, Bad_status, Strange, form_in, routine_form, seed_form, block_form}
+use Rattle.run_model.specs.Script.{Blocks, Place, AtIdent, AtErase, AtEnd, request_at, bytes_at, place_judged, place_next, routine_at, idents_from, segments_from, more_blocks, is_empty, has_value}
+use Rattle.uds_codec.specs.Answer.{Verdict, Good, Bad_status, Strange, form_in, routine_form, seed_form}
 use Rattle.uds_codec.specs.Key.{level_of, all_zero}
 use Rattle.uds_codec.specs.Request.{sid_of}
 use Rattle.unit_model.specs.Unit.{next_counter}
-use Rattle.unit_session.specs.Judging.{starts_with, names_id, status_in, limit_in, limit_said}
+use Rattle.unit_session.specs.Judging.{starts_with, names_id, status_in}
 use Rattle.unit_session.specs.Onward.{IsFinalForm, LeadsTo, routine_next, blocks_from, segment_next}
 use Rattle.unit_session.specs.Session.{place_at, IsStage, IsBlockStage, segment_of, cursor_at, no_segment, seed_bytes, level_or_none}
 use Rattle.unit_session.specs.declared.stage.KeptSeed.{KeptSeed}
 use Rattle.unit_session.specs.declared.stage.Stage.{Stage}
-use Rattle.unit_session.specs.declared.stage.Stage.TheVariants.{Ident, Program, Seed, Key, Erase, Download, Block, Exit, Check, Finish, Reset, Done, Ended}
-use Rattle.unit_session.proofs.Forms.{after_true, after_false, named_true, named_false, status_verdict, routine_by, limit_verdict, limit_by, limit_low}
+use Rattle.unit_session.specs.declared.stage.Stage.TheVariants.{Ident, Seed, Key, Erase, Download, Block, Check, Finish, Reset, Ended}
+use Rattle.unit_session.proofs.Forms.{after_true, named_true, named_false, status_verdict, routine_by}
 
 drop_from : {T : Type 0} (xs : List T) (n : ℕ) (x : T) → slice_get xs n ≡ Some x → drop n xs ≡ x ∷ drop (suc n) xs
 drop_from [] n x is = cc
@@ -66,9 +64,6 @@ erase_from : (u : UnitPlan) (n : ℕ) → n < length u.segments → segments_fro
 erase_from u n lt =
     let e : drop n u.segments ≡ segment_of u n ∷ drop (suc n) u.segments = drop-cons u.segments n no_segment lt in
     ap (segments_from (take n u.segments)) (e ∙ ap (λ (k : ℕ). segment_of u n ∷ drop k u.segments) (sym (add-one n)))
-
-first_erase : (u : UnitPlan) → 1 ≤ length u.segments → segments_from [] u.segments ≡ AtErase (cursor_at u 0)
-first_erase u some = erase_from u 0 (omega (arith, some))
 
 size_within : (ss : List Segment) (n : ℕ) → length (slice_index_or ss n no_segment).body ≤ size_of ss
 size_within [] n = omega arith
@@ -129,57 +124,14 @@ module _ (u : UnitPlan) where
   pub finish_leads : (rest : List ℕ) → LeadsTo u Finish rest (routine_next (status_in 65281 rest) 65281 (length u.segments) Reset)
   finish_leads rest = routine_leads Finish _ rest 65281 (length u.segments) Reset refl (λ xs. refl) refl refl (λ more. refl) tt _ refl
 
-  -- ------ an answer that is not in the form
-  pub bad_program : (rest : List ℕ) → starts_with 2 rest ≡ false → LeadsTo u Program rest (Ended (BadAnswer 16))
-  bad_program rest is = led Program rest _ _ Strange tt refl (after_false 2 rest Good is) refl tt
-
-  pub bad_key : (seed : KeptSeed) (rest : List ℕ) (level : ℕ) → level ≡ level_or_none (level_of u.key) → starts_with (level + 1) rest ≡ false → LeadsTo u (Key seed) rest (Ended (BadAnswer 39))
-  bad_key seed rest level at is = led (Key seed) rest _ _ Strange tt refl (after_false _ rest Good (ap (λ (k : ℕ). starts_with (k + 1) rest) (sym at) ∙ is)) refl tt
-
-  pub bad_block : (n sent counter limit : ℕ) (rest : List ℕ) → starts_with counter rest ≡ false → LeadsTo u (Block n sent counter limit) rest (Ended (BadAnswer 54))
-  bad_block n sent counter limit rest is = led (Block n sent counter limit) rest _ _ Strange tt refl (after_false counter rest Good is) refl tt
-
-  pub bad_reset : (rest : List ℕ) → starts_with 1 rest ≡ false → LeadsTo u Reset rest (Ended (BadAnswer 17))
-  bad_reset rest is = led Reset rest _ _ Strange tt refl (after_false 1 rest Good is) refl tt
-
-  pub reset_leads : (rest : List ℕ) → starts_with 1 rest ≡ true → LeadsTo u Reset rest Done
-  reset_leads rest is = led Reset rest _ _ (Good (drop 1 rest)) tt refl (after_true 1 rest Good is) refl tt
-
-  pub exit_leads : (n : ℕ) (rest : List ℕ) → n < length u.segments → LeadsTo u (Exit n) rest (Check n)
-  exit_leads n rest lt = led (Exit n) rest _ _ (Good rest) tt refl refl refl lt
-
   -- ------ session, seed and key
-  pub free_leads : (rest : List ℕ) → starts_with 2 rest ≡ true → u.key ≡ Free → 1 ≤ length u.segments → LeadsTo u Program rest (Erase 0)
-  free_leads rest is key some = led Program rest (Erase 0) _ (Good (drop 1 rest)) tt refl (after_true 2 rest Good is) (sym (ap (after_program u) key ∙ first_erase u some)) (omega (arith, some))
-
-  keyed_place : (rule : KeyRule) (level : ℕ) → level_of rule ≡ Some level → after_program u rule ≡ place_at u Seed → Unit {0}
-  keyed_place rule level is e = tt
-
-  pub keyed_leads : (rest : List ℕ) (level : ℕ) → starts_with 2 rest ≡ true → level_of u.key ≡ Some level → after_program u u.key ≡ place_at u Seed → LeadsTo u Program rest Seed
-  keyed_leads rest level is key to = led Program rest Seed _ (Good (drop 1 rest)) tt refl (after_true 2 rest Good is) (sym to) (key ∙ ap (λ (o : Option ℕ). Some (level_or_none o)) (sym key))
-
-  pub seed_bad_level : (rest : List ℕ) (level : ℕ) → level ≡ level_or_none (level_of u.key) → starts_with level rest ≡ false → LeadsTo u Seed rest (Ended (BadAnswer 39))
-  seed_bad_level rest level at is = led Seed rest _ _ Strange tt refl (after_false _ rest seed_form (ap (λ (k : ℕ). starts_with k rest) (sym at) ∙ is)) refl tt
-
   seed_form_at : (rest : List ℕ) (level : ℕ) → level ≡ level_or_none (level_of u.key) → starts_with level rest ≡ true → form_in (request_at u (place_at u Seed)) rest ≡ seed_form (drop 1 rest)
   seed_form_at rest level at is = after_true _ rest seed_form (ap (λ (k : ℕ). starts_with k rest) (sym at) ∙ is)
-
-  pub seed_bad_size : (rest seed : List ℕ) (level : ℕ) → level ≡ level_or_none (level_of u.key) → starts_with level rest ≡ true → seed ≡ drop 1 rest → (nat_le 1 (length seed) && nat_le (length seed) 32) ≡ false → LeadsTo u Seed rest (Ended (BadAnswer 39))
-  seed_bad_size rest seed level at is eq bad =
-      led Seed rest _ _ Strange tt refl (seed_form_at rest level at is ∙ ap seed_form (sym eq) ∙ ap (λ (b : Bool). if b then Good seed else Strange) bad) refl tt
-
-  pub seed_zero : (rest seed : List ℕ) (level : ℕ) → level ≡ level_or_none (level_of u.key) → starts_with level rest ≡ true → seed ≡ drop 1 rest → (nat_le 1 (length seed) && nat_le (length seed) 32) ≡ true → all_zero seed ≡ true → 1 ≤ length u.segments → LeadsTo u Seed rest (Erase 0)
-  seed_zero rest seed level at is eq good z some =
-      led Seed rest (Erase 0) _ (Good seed) tt refl (seed_form_at rest level at is ∙ ap seed_form (sym eq) ∙ ap (λ (b : Bool). if b then Good seed else Strange) good) (rw z (sym (first_erase u some))) (omega (arith, some))
 
   pub seed_kept : (rest seed : List ℕ) (kept : KeptSeed) (level : ℕ) → level ≡ level_or_none (level_of u.key) → starts_with level rest ≡ true → seed ≡ drop 1 rest → (nat_le 1 (length seed) && nat_le (length seed) 32) ≡ true → all_zero seed ≡ false → seed_bytes kept ≡ seed
       → IsStage u (Key kept) → LeadsTo u Seed rest (Key kept)
   seed_kept rest seed kept level at is eq good z bytes stage =
       led Seed rest (Key kept) _ (Good seed) tt refl (seed_form_at rest level at is ∙ ap seed_form (sym eq) ∙ ap (λ (b : Bool). if b then Good seed else Strange) good) (rw (z, bytes) refl) stage
-
-  pub key_leads : (seed : KeptSeed) (rest : List ℕ) (level : ℕ) → level ≡ level_or_none (level_of u.key) → starts_with (level + 1) rest ≡ true → 1 ≤ length u.segments → LeadsTo u (Key seed) rest (Erase 0)
-  key_leads seed rest level at is some =
-      led (Key seed) rest (Erase 0) _ (Good (drop 1 rest)) tt refl (after_true _ rest Good (ap (λ (k : ℕ). starts_with (k + 1) rest) (sym at) ∙ is)) (sym (first_erase u some)) (omega (arith, some))
 
   -- ------ identifiers
   pub ident_bytes : (n : ℕ) (w : Wanted) → slice_get u.idents n ≡ Some w → bytes_at u (place_at u (Ident n)) ≡ 34 ∷ big_endian 2 w.did
@@ -220,15 +172,3 @@ module _ (u : UnitPlan) where
       (sym ((λ i. more_blocks (cursor_at u n) (record { sent = take_more sent (limit - 2) (segment_of u n).body i; rest = drop_more sent (limit - 2) (segment_of u n).body i; counter = next_counter counter; limit = limit }))
       ∙ from_there n (sent + (limit - 2)) (next_counter counter) limit))
       (blocks_stage n (sent + (limit - 2)) (next_counter counter) limit is.segment is.low is.high)
-
-  pub download_bad : (n : ℕ) (rest : List ℕ) → limit_in rest ≡ None → LeadsTo u (Download n) rest (Ended (BadAnswer 52))
-  download_bad n rest is = led (Download n) rest _ _ Strange tt refl (subst (λ (o : Option ℕ). limit_verdict o (block_form rest)) is (limit_by rest)) refl tt
-
-  pub download_leads : (n limit : ℕ) (rest : List ℕ) → n < length u.segments → limit_in rest ≡ Some limit → LeadsTo u (Download n) rest (blocks_from (length (segment_of u n).body) n 0 1 limit)
-  download_leads n limit rest lt is = from_verdict (block_form rest) refl is
-    where
-      from_verdict : (v : Verdict) → block_form rest ≡ v → limit_said v ≡ Some limit → LeadsTo u (Download n) rest (blocks_from (length (segment_of u n).body) n 0 1 limit)
-      from_verdict (Good number) form said =
-          let cap : min (number_of number) 65535 ≡ limit = ap (λ (o : Option ℕ). unwrap_or o 0) said in
-          led (Download n) rest _ _ (Good number) tt refl form (sym (ap (λ (l : ℕ). more_blocks (cursor_at u n) (blocks_at n 0 1 l)) cap ∙ from_there n 0 1 limit)) (blocks_stage n 0 1 limit lt (omega (arith, cap, limit_low rest number form)) (omega (arith, cap)))
-      from_verdict v form said = absurd (false≢true (ap (is_some {T = ℕ}) said))

@@ -1,3 +1,5 @@
+pub mod Ends
 pub mod Forms
 pub mod Keeps
 pub mod Leads
+pub mod Wholes

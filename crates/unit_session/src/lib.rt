@@ -4,9 +4,13 @@
 
 mod judging;
 mod keys;
+mod laws;
 mod onward;
 mod requests;
 mod session;
 mod stage;
+#[cfg(test)]
+mod tests;
 
+pub use laws::{done_means_the_whole_script, each_end_has_its_cause};
 pub use session::{Ask, UnitSession};

@@ -1,4 +1,5 @@
 use Rattle.std.proofs.Common.{◌≡◌, subst, sym}
+use Rattle.std.specs.Prelude.{Some}
 use Rattle.shop_model.specs.History.{disk_now, vehicle_now}
 use Rattle.flash_top.specs.declared.building.Built.{Built}
 use Rattle.flash_top.proofs.Closes.{closes, same_built, IsTold, concludes, IsClosed}
@@ -39,3 +40,11 @@ returns-clause-complete g c = λ tf td tv tk b files empty matches no_shelf no_s
     subst (λ (x : Built). IsClosed x.plan v0 v1 disk before after c.finish.result) same
     (concludes c.in-Ok.built.plan v0 v1 disk g.K.Sink.tells before after (g.K.Sink.faults c.args.out.now) (g.K.Sink.faults c.finish.new.out) c.finish.result tk no_sink
     c.drive-ended.result driven (λ e. c.drive-ended.ensures.recorded e td) c.finish.ensures.no_memory c.finish.ensures.starved c.finish.ensures.sink c.finish.ensures.complete c.finish.ensures.printed)
+
+pub returns-clause-tester : goal.returns-clause-tester
+returns-clause-tester g c = λ tf tv b files matches no_shelf untroubled plain is.
+    let v0 = vehicle_now (g.S.Shop.history c.args.shop.now) in
+    let v1 = vehicle_now (g.S.Shop.history c.drive-ended.new.shop) in
+    let same : c.in-Ok.built ≡ b = same_built c.in-Ok.built b _ _ _ (c.in-Ok.ensures.told tf) files no_shelf in
+    let fits = subst (λ (x : Built). Matches x.plan none_recorded v0) (sym same) matches in
+    subst (λ (x : Built). v1.gateway.active ≡ Some x.rules.tester) same (c.drive-ended.ensures.tester tv fits untroubled plain (c.finish.ensures.done is))

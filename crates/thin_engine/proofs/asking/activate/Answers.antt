@@ -1,4 +1,4 @@
-use Rattle.std.proofs.Common.{◌≡◌, ◌∙◌, ap, [], arith, Err}
+use Rattle.std.proofs.Common.{◌∙◌, ap, arith, Err}
 use Rattle.doip_frame.specs.Frame.{activate_bytes}
 use Rattle.run_model.specs.Script.{AtBegin}
 use Rattle.shop_model.specs.History.{disk_now, vehicle_now}

@@ -1,4 +1,4 @@
-use Rattle.std.proofs.Common.{◌≡◌, List, ◌∙◌, ℕ, arith}
+use Rattle.std.proofs.Common.{◌≡◌, ◌∙◌, arith}
 use Rattle.doip_frame.specs.Frame.{message_bytes}
 use Rattle.run_model.specs.Script.{bytes_at}
 use Rattle.shop_model.specs.History.{disk_now, vehicle_now}

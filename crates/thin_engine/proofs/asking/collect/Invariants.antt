@@ -1,4 +1,4 @@
-use Rattle.std.proofs.Common.{◌<◌, ℕ, []}
+use Rattle.std.proofs.Common.{◌<◌, []}
 use Rattle.std.specs.Prelude.{Bool, IsTrue}
 use Rattle.flash_plan.specs.declared.outcome.Entry.{Entry}
 use Rattle.run_model.specs.Script.{Place}

@@ -1,4 +1,5 @@
 use Rattle.std.proofs.Common.{◌≡◌, ℕ, List, [], length, refl, sym, subst, ap, ◌∙◌, arith, ◌≤◌, Result}
+use Rattle.std.specs.Prelude.{OnOk, Some}
 use Rattle.disk_model.specs.Disk.{DiskState}
 use Rattle.flash_plan.specs.Plan.{IsAcceptedUnit}
 use Rattle.flash_plan.specs.declared.unit.UnitPlan.{UnitPlan}
@@ -93,8 +94,8 @@ returns-in-Ok-run-clause-complete g c = λ td tv empty matches untroubled plain.
     let link = c.open_empty.ensures.later.link_faults ∙ c.len.ensures.call.link_faults in
     let later : a.moment ≤ b.moment = omega (arith, c.open_empty.ensures.later.is_later.later, c.len.ensures.call.passes.moment, g.met.S.Shop.bounded c.args.shop.now) in
     let disk : a.disk_faults ≤ b.disk_faults = omega (arith, c.open_empty.ensures.later.is_later.disk_faults, c.len.ensures.call.never_falls) in
-    let ends = run_ends c.args.plan.now c.requires a b e same link later disk c.run.result c.unit.result.now c.unit.ensures c.run.ensures.later.disk_faults (c.run.ensures.runs tv) matches untroubled plain in
-    subst (λ (r : Result Unit Outcome). IsDriven c.args.plan.now (vehicle_now a) (vehicle_now e) (ended_by r)) c.in-Ok-run.is ends
+    let ends = run_ends c.args.plan.now c.requires a b e same link later disk c.args.tester c.run.result c.unit.result.now c.unit.ensures c.run.ensures.later.disk_faults (c.run.ensures.runs tv) matches untroubled plain in
+    subst (λ (r : Result Unit Outcome). IsDriven c.args.plan.now (vehicle_now a) (vehicle_now e) (ended_by r)) c.in-Ok-run.is ends.driven
 
 pub returns-clause-complete : goal.returns-clause-complete
 returns-clause-complete g c = λ td tv empty matches untroubled plain.
@@ -106,5 +107,18 @@ returns-clause-complete g c = λ td tv empty matches untroubled plain.
     let link = c.open_empty.ensures.later.link_faults ∙ c.len.ensures.call.link_faults in
     let later : a.moment ≤ b.moment = omega (arith, c.open_empty.ensures.later.is_later.later, c.len.ensures.call.passes.moment, g.met.S.Shop.bounded c.args.shop.now) in
     let disk : a.disk_faults ≤ b.disk_faults = omega (arith, c.open_empty.ensures.later.is_later.disk_faults, c.len.ensures.call.never_falls) in
-    let ends = run_ends c.args.plan.now c.requires a b e same link later disk c.run.result c.unit.result.now c.unit.ensures c.run.ensures.later.disk_faults (c.run.ensures.runs tv) matches untroubled plain in
-    subst (λ (r : Result Unit Outcome). IsDriven c.args.plan.now (vehicle_now a) (vehicle_now e) (ended_by r)) c.in-Err-run.is ends
+    let ends = run_ends c.args.plan.now c.requires a b e same link later disk c.args.tester c.run.result c.unit.result.now c.unit.ensures c.run.ensures.later.disk_faults (c.run.ensures.runs tv) matches untroubled plain in
+    subst (λ (r : Result Unit Outcome). IsDriven c.args.plan.now (vehicle_now a) (vehicle_now e) (ended_by r)) c.in-Err-run.is ends.driven
+
+pub returns-in-Ok-run-clause-tester : goal.returns-in-Ok-run-clause-tester
+returns-in-Ok-run-clause-tester g c = λ tv matches untroubled plain so.
+    let a = g.S.Shop.history c.args.shop.now in
+    let n = g.S.Shop.history c.len.new.self in
+    let b = g.S.Shop.history c.open_empty.new.shop in
+    let e = g.S.Shop.history c.run.new.shop in
+    let same = c.open_empty.ensures.later.vehicle ∙ c.len.ensures.call.vehicle in
+    let link = c.open_empty.ensures.later.link_faults ∙ c.len.ensures.call.link_faults in
+    let later : a.moment ≤ b.moment = omega (arith, c.open_empty.ensures.later.is_later.later, c.len.ensures.call.passes.moment, g.met.S.Shop.bounded c.args.shop.now) in
+    let disk : a.disk_faults ≤ b.disk_faults = omega (arith, c.open_empty.ensures.later.is_later.disk_faults, c.len.ensures.call.never_falls) in
+    let ends = run_ends c.args.plan.now c.requires a b e same link later disk c.args.tester c.run.result c.unit.result.now c.unit.ensures c.run.ensures.later.disk_faults (c.run.ensures.runs tv) matches untroubled plain in
+    subst (λ (r : Result Unit Outcome). OnOk r ((vehicle_now e).gateway.active ≡ Some c.args.tester)) c.in-Ok-run.is ends.active

@@ -1,4 +1,4 @@
-use Rattle.std.proofs.Common.{rules, ◌≡◌, Result, Ok, Err, sym, subst, ◌∙◌, tests}
+use Rattle.std.proofs.Common.{rules, ◌≡◌, Result, Ok, Err, subst, ◌∙◌, tests}
 use Rattle.std.specs.Prelude.{IsErr, OnOk}
 use Rattle.std.proofs.lemmas.Bool.{false≢true}
 use Rattle.shop_model.specs.History.{disk_now, vehicle_now}

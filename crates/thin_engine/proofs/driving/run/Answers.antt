@@ -1,11 +1,11 @@
-use Rattle.std.proofs.Common.{◌≡◌, Ok, Err, sym, subst, ap, arith, refl, ◌∙◌}
+use Rattle.std.proofs.Common.{Ok, Err, sym, subst, ap, arith, refl, ◌∙◌}
 use Rattle.disk_model.specs.Disk.{DiskState}
 use Rattle.flash_plan.specs.declared.outcome.Entry.TheVariants.{Begun}
 use Rattle.flash_plan.specs.declared.outcome.Outcome.TheVariants.{DiskFault}
 use Rattle.flash_plan.specs.declared.unit.UnitPlan.{UnitPlan}
 use Rattle.journal_steps.proofs.Laters.{later_then}
 use Rattle.flash_journal.specs.Kept.{IsKeptOn, HasOneMore}
-use Rattle.thin_engine.specs.Talking.{Run, SoundAt, IsRoute, task_of, is_begun}
+use Rattle.thin_engine.specs.Talking.{SoundAt, IsRoute, is_begun}
 use Rattle.thin_engine.specs.declared.reading.Route.{Route}
 use Rattle.thin_engine.proofs.Parts.{keeps_then, keeps_shown}
 use Rattle.thin_engine.proofs.Recording.{begin_keeps, complete_keeps, begun_of, kept_both, may_complete_next}
@@ -154,7 +154,7 @@ returns-in_err-program-clause-runs g c = λ told q count calm u there can.
     let begins = run_begins c.args.tester c.args.unit.now.address c.args.unit.now u a b d e ad de (vehicle_then _ _ _ up keep) up2 (dialed_later a b d bd c.in_ok-activate.ensures.dialed) c.record_begun.ensures.later.vehicle
     (c.in_ok-activate.ensures.activates told first u there) q there can in
     let p = err_from_is_err_and c.from_residual-in_err-program.result c.from_residual-in_err-program.ensures.1 in
-    starved_run _ _ u _ c.from_residual-in_err-program.result p.0 p.1 (p.2 ∙ c.in_err-program.ensures.programs told begins.quiet u begins.stands)
+    starved_run _ _ _ u _ c.from_residual-in_err-program.result p.0 p.1 (p.2 ∙ c.in_err-program.ensures.programs told begins.quiet u begins.stands)
 
 pub returns-clause-runs : goal.returns-clause-runs
 returns-clause-runs g c = λ told q0 count calm u there can.
@@ -177,4 +177,4 @@ returns-clause-runs g c = λ told q0 count calm u there can.
     let begins = run_begins c.args.tester c.args.unit.now.address c.args.unit.now u a b d e ad de (vehicle_then _ _ _ up keep) up2 (dialed_later a b d bd c.in_ok-activate.ensures.dialed) c.record_begun.ensures.later.vehicle
     (c.in_ok-activate.ensures.activates told first u there) q there can in
     let done = c.in_ok-program.ensures.programs told begins.quiet u begins.stands in
-    image_kept _ _ u (vehicle_now e) (vehicle_now f) c.record_complete.ensures.later.vehicle (imaged c.args.unit.now c.requires.first c.requires.accepted c.args.tester c.args.unit.now.address u (vehicle_now e) can done)
+    image_kept _ _ _ u (vehicle_now e) (vehicle_now f) c.record_complete.ensures.later.vehicle (imaged c.args.unit.now c.requires.first c.requires.accepted c.args.tester c.args.unit.now.address u (vehicle_now e) can done)

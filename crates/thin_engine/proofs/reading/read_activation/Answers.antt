@@ -1,4 +1,4 @@
-use Rattle.std.proofs.Common.{rules, ◌≡◌, ◌+◌, length, arith}
+use Rattle.std.proofs.Common.{◌≡◌, ◌+◌, length, arith}
 use Rattle.std.specs.Prelude.{slice_index}
 use Rattle.thin_engine.proofs.Frames.{accepting}
 use Rattle.thin_engine.proofs.reading.read_activation.Goals as goal

@@ -1,0 +1,319 @@
+ghost use Rattle.std.specs.Prelude.{◌≤◌, length, IfOk};
+ghost use Rattle.flash_plan.specs.Plan.{IsAcceptedUnit, IsKeyRule};
+ghost use Rattle.unit_session.specs.Session.{IsOf};
+
+use crate::{Ask, UnitSession};
+use flash_base::{Bytes, Items, KeyRule, NoMemory, Text, Width};
+use flash_plan::{Outcome, Segment, UnitPlan};
+use std::alloc::Global;
+use std::process::Abort;
+use std::test::Fail;
+
+/// Unit 1001 with these bytes at 1000, widths of 4 bytes and check routine 0202.
+fn unit_of(alloc: Global, key: KeyRule, body: Bytes) -> Result<UnitPlan, NoMemory>
+    requires rule { IsKeyRule key }
+    requires some { 1 ≤ length body }
+    requires few { length body ≤ 65536 }
+    ensures { IfOk result IsAcceptedUnit }
+{
+    let mut segments = Items::new(alloc);
+    segments.push(Segment { at: 0x1000, body })?;
+    Ok(UnitPlan {
+        name: Text::from_str(alloc, "A")?,
+        address: 0x1001,
+        width: Width { size: 4, at: 4 },
+        check: 0x0202,
+        key,
+        idents: Items::new(alloc),
+        after: Items::new(alloc),
+        segments,
+    })
+}
+
+/// The next request is this one, and its answer that one.
+fn exchange(
+    rt: &impl Abort,
+    alloc: Global,
+    session: &mut UnitSession,
+    unit: &UnitPlan,
+    request: &[u8],
+    answer: &[u8],
+) -> Result<(), NoMemory>
+    requires accepted { IsAcceptedUnit unit.now }
+    requires of { IsOf unit.now session.old }
+    ensures { IsOf unit.now session.new }
+{
+    assert_eq!(rt; session.next(unit), Ask::Send);
+    let bytes = session.request(alloc, unit)?;
+    assert_eq!(rt; bytes.as_slice(), request);
+    session.sent(0);
+    assert_eq!(rt; session.next(unit), Ask::Wait);
+    session.hear(unit, answer, 0);
+    Ok(())
+}
+
+/// One request after another, each with its answer.
+fn exchanges(
+    rt: &impl Abort,
+    alloc: Global,
+    session: &mut UnitSession,
+    unit: &UnitPlan,
+    steps: &[(&[u8], &[u8])],
+) -> Result<(), NoMemory>
+    requires accepted { IsAcceptedUnit unit.now }
+    requires of { IsOf unit.now session.old }
+    ensures { IsOf unit.now session.new }
+{
+    for (request, answer) in steps {
+        exchange(rt, alloc, session, unit, request, answer)?;
+    }
+    Ok(())
+}
+
+const ROOM: &[u8] = b"\x74\x20\x0F\xFF";
+
+const PROGRAM: &[u8] = b"\x10\x02";
+
+const PROGRAMMING: &[u8] = b"\x50\x02\x00\x32\x01\xF4";
+
+const ERASE: &[u8] = b"\x31\x01\xFF\x00\x44\x00\x00\x10\x00\x00\x00\x00\x03";
+
+const ERASED: &[u8] = b"\x71\x01\xFF\x00\x00";
+
+const BLOCK: &[u8] = b"\x36\x01abc";
+
+const DOWNLOAD: &[u8] = b"\x34\x00\x44\x00\x00\x10\x00\x00\x00\x00\x03";
+
+/// The eight requests of a unit without a key rule over the bytes `abc`; the digest is that of `sha256sum`.
+#[test]
+fn smallest_run(rt: HostRuntime) -> Result<(), Fail> {
+    let alloc = rt.alloc();
+    let unit = unit_of(alloc, KeyRule::Free, Bytes::from_slice(alloc, b"abc")?)?;
+    let mut s = UnitSession::new(true);
+    exchanges(
+        &rt,
+        alloc,
+        &mut s,
+        &unit,
+        &[
+            (PROGRAM, PROGRAMMING),
+            (ERASE, ERASED),
+            (DOWNLOAD, ROOM),
+            (b"\x36\x01abc", b"\x76\x01"),
+            (b"\x37", b"\x77"),
+            (
+                b"\x31\x01\x02\x02\x44\x00\x00\x10\x00\x00\x00\x00\x03\xba\x78\x16\xbf\x8f\x01\xcf\xea\x41\x41\x40\xde\x5d\xae\x22\x23\xb0\x03\x61\xa3\x96\x17\x7a\x9c\xb4\x10\xff\x61\xf2\x00\x15\xad",
+                b"\x71\x01\x02\x02\x00",
+            ),
+            (b"\x31\x01\xFF\x01", b"\x71\x01\xFF\x01\x00"),
+            (b"\x11\x01", b"\x51\x01"),
+        ],
+    )?;
+    assert_eq!(rt; s.next(&unit), Ask::Done);
+    assert_eq!(rt; s.number(), 8);
+    Ok(())
+}
+
+/// The key of the mask rule, and a seed of zero bytes, for which no key is sent.
+#[test]
+fn mask_key(rt: HostRuntime) -> Result<(), Fail> {
+    let alloc = rt.alloc();
+    let rule = KeyRule::Xor {
+        level: 1,
+        mask: Bytes::from_slice(alloc, b"\xFF")?,
+    };
+    let unit = unit_of(alloc, rule, Bytes::from_slice(alloc, b"abc")?)?;
+    let mut s = UnitSession::new(true);
+    exchanges(
+        &rt,
+        alloc,
+        &mut s,
+        &unit,
+        &[
+            (PROGRAM, PROGRAMMING),
+            (b"\x27\x01", b"\x67\x01\x12\x34"),
+            (b"\x27\x02\xED\xCB", b"\x67\x02"),
+            (ERASE, ERASED),
+        ],
+    )?;
+    let mut open = UnitSession::new(true);
+    exchanges(
+        &rt,
+        alloc,
+        &mut open,
+        &unit,
+        &[
+            (PROGRAM, PROGRAMMING),
+            (b"\x27\x01", b"\x67\x01\x00\x00"),
+            (ERASE, ERASED),
+        ],
+    )?;
+    Ok(())
+}
+
+/// The key of the digest rule.
+#[test]
+fn digest_key(rt: HostRuntime) -> Result<(), Fail> {
+    let alloc = rt.alloc();
+    let rule = KeyRule::Digest {
+        level: 3,
+        length: 4,
+        secret: Bytes::from_slice(alloc, b"ab")?,
+    };
+    let other = unit_of(alloc, rule, Bytes::from_slice(alloc, b"abc")?)?;
+    let mut digest = UnitSession::new(true);
+    exchanges(
+        &rt,
+        alloc,
+        &mut digest,
+        &other,
+        &[
+            (PROGRAM, PROGRAMMING),
+            (b"\x27\x03", b"\x67\x03c"),
+            (b"\x27\x04\xBA\x78\x16\xBF", b"\x67\x04"),
+        ],
+    )?;
+    Ok(())
+}
+
+/// A session that awaits the answer to its first block of three bytes.
+fn at_block(rt: &impl Abort, alloc: Global, unit: &UnitPlan) -> Result<UnitSession, NoMemory>
+    requires { IsAcceptedUnit unit.now }
+    ensures { IfOk result (IsOf unit.now) }
+{
+    let mut s = UnitSession::new(true);
+    exchanges(
+        rt,
+        alloc,
+        &mut s,
+        unit,
+        &[(PROGRAM, PROGRAMMING), (ERASE, ERASED), (DOWNLOAD, ROOM)],
+    )?;
+    Ok(s)
+}
+
+/// Twenty busy answers repeat the request, one more ends.
+#[test]
+fn twenty_repeats(rt: HostRuntime) -> Result<(), Fail> {
+    let alloc = rt.alloc();
+    let unit = unit_of(alloc, KeyRule::Free, Bytes::from_slice(alloc, b"abc")?)?;
+    let mut s = at_block(&rt, alloc, &unit)?;
+    for _ in 0..20 {
+        exchange(&rt, alloc, &mut s, &unit, BLOCK, b"\x7F\x36\x21")?;
+    }
+    exchange(&rt, alloc, &mut s, &unit, BLOCK, b"\x7F\x36\x21")?;
+    assert_eq!(rt; s.next(&unit), Ask::Ended(Outcome::BusyLimit { sid: 0x36 }));
+    Ok(())
+}
+
+/// Hears a response pending.
+fn wait(rt: &impl Abort, s: &mut UnitSession, unit: &UnitPlan, tick: u64)
+    requires accepted { IsAcceptedUnit unit.now }
+    requires of { IsOf unit.now s.old }
+    ensures { IsOf unit.now s.new }
+{
+    assert_eq!(rt; s.next(unit), Ask::Wait);
+    s.hear(unit, b"\x7F\x36\x78", tick);
+}
+
+/// 200 responses pending are waited through, one more ends.
+#[test]
+fn two_hundred_pending(rt: HostRuntime) -> Result<(), Fail> {
+    let alloc = rt.alloc();
+    let unit = unit_of(alloc, KeyRule::Free, Bytes::from_slice(alloc, b"abc")?)?;
+    let mut s = at_block(&rt, alloc, &unit)?;
+    exchange(&rt, alloc, &mut s, &unit, BLOCK, b"\x7F\x36\x78")?;
+    for i in 0..199 {
+        wait(&rt, &mut s, &unit, i * 10);
+    }
+    wait(&rt, &mut s, &unit, 2000);
+    assert_eq!(rt;
+        s.next(&unit),
+        Ask::Ended(Outcome::PendingLimit { sid: 0x36 })
+    );
+    Ok(())
+}
+
+/// 999 quiet ticks are waited, 1,000 end.
+#[test]
+fn a_thousand_ticks(rt: HostRuntime) -> Result<(), Fail> {
+    let alloc = rt.alloc();
+    let unit = unit_of(alloc, KeyRule::Free, Bytes::from_slice(alloc, b"abc")?)?;
+    let mut s = at_block(&rt, alloc, &unit)?;
+    s.sent(5);
+    s.quiet(1004);
+    assert_eq!(rt; s.next(&unit), Ask::Wait);
+    s.quiet(1005);
+    assert_eq!(rt; s.next(&unit), Ask::Ended(Outcome::NoAnswer { sid: 0x36 }));
+    Ok(())
+}
+
+/// A block length of two bytes leaves no room for a byte.
+#[test]
+fn no_room(rt: HostRuntime) -> Result<(), Fail> {
+    let alloc = rt.alloc();
+    let unit = unit_of(alloc, KeyRule::Free, Bytes::from_slice(alloc, b"abc")?)?;
+    let mut s = UnitSession::new(true);
+    exchanges(
+        &rt,
+        alloc,
+        &mut s,
+        &unit,
+        &[
+            (PROGRAM, PROGRAMMING),
+            (ERASE, ERASED),
+            (DOWNLOAD, b"\x74\x20\x00\x02"),
+        ],
+    )?;
+    assert_eq!(rt; s.next(&unit), Ask::Ended(Outcome::BadAnswer { sid: 0x34 }));
+    Ok(())
+}
+
+/// A loss goes back to the session, and a refusal to deliver ends.
+#[test]
+fn loss_and_refusal(rt: HostRuntime) -> Result<(), Fail> {
+    let alloc = rt.alloc();
+    let unit = unit_of(alloc, KeyRule::Free, Bytes::from_slice(alloc, b"abc")?)?;
+    let mut s = at_block(&rt, alloc, &unit)?;
+    s.lost();
+    assert_eq!(rt; s.number(), 0);
+    exchange(&rt, alloc, &mut s, &unit, PROGRAM, b"\x7F\x10\x78")?;
+    s.nack(3);
+    assert_eq!(rt; s.next(&unit), Ask::Ended(Outcome::Undelivered { code: 3 }));
+    Ok(())
+}
+
+/// 4,800 bytes in 300 blocks of 16: counter FF in block 255, 00 in block 256, 2C in block 300.
+#[test]
+fn counters(rt: HostRuntime) -> Result<(), Fail> {
+    let alloc = rt.alloc();
+    let unit = unit_of(
+        alloc,
+        KeyRule::Free,
+        Bytes::from_slice(alloc, &[0x5A; 4800])?,
+    )?;
+    let mut s = UnitSession::new(true);
+    exchange(&rt, alloc, &mut s, &unit, PROGRAM, PROGRAMMING)?;
+    let range = b"\x31\x01\xFF\x00\x44\x00\x00\x10\x00\x00\x00\x12\xC0";
+    exchange(&rt, alloc, &mut s, &unit, range, ERASED)?;
+    let range = b"\x34\x00\x44\x00\x00\x10\x00\x00\x00\x12\xC0";
+    exchange(&rt, alloc, &mut s, &unit, range, b"\x74\x10\x12")?;
+    let mut block = [0x5A; 18];
+    block[0] = 0x36;
+    let mut counters = [0u8; 300];
+    for i in 0..300 {
+        if i >= 255 {
+            block[1] = (i - 255) as u8;
+        } else {
+            block[1] = (i + 1) as u8;
+        }
+        counters[i] = block[1];
+        exchange(&rt, alloc, &mut s, &unit, &block, &[0x76, block[1]])?;
+    }
+    assert_eq!(rt;
+        (counters[254], counters[255], counters[299]),
+        (0xFF, 0x00, 0x2C)
+    );
+    exchange(&rt, alloc, &mut s, &unit, b"\x37", b"\x77")?;
+    Ok(())
+}
