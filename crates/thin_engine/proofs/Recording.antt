@@ -1,5 +1,5 @@
 -- What the disk records while an entry is recorded, and behind it.
-use Rattle.std.proofs.Common.{◌≡◌, ◌⊎◌, inl, inr, ℕ, ◌<◌, true, false, List, Result, Ok, Err, refl, sym, ◌∙◌, ap, subst}
+use Rattle.std.proofs.Common.{◌≡◌, inl, inr, ℕ, ◌<◌, List, Result, Ok, Err, refl, sym, ◌∙◌, ap, subst}
 use Rattle.std.specs.Prelude.{Bool, ◌==◌, ◌&&◌, ◌||◌, OnOk}
 use Rattle.std.proofs.Math.Bool.{or-false}
 use Rattle.disk_model.specs.Disk.{DiskState, IsCrashImage}
@@ -26,7 +26,7 @@ use Rattle.bay_core.specs.declared.event.Event.TheVariants.{Began, Completed}
 use Rattle.thin_engine.specs.Recorded.{RecordsBoth, IsUnbegun, is_both}
 use Rattle.thin_engine.specs.Shown.{Keeps}
 use Rattle.thin_engine.specs.Standing.{rules_of}
-use Rattle.thin_engine.specs.Talking.{Run, SoundAt, Covers, Fits, IsResting, is_begun}
+use Rattle.thin_engine.specs.Talking.{Run, SoundAt, Covers, IsResting, is_begun}
 use Rattle.thin_engine.proofs.Events.{may_begin_now, begun_rests, may_complete}
 use Rattle.thin_engine.proofs.Parts.{stays_keeps}
 

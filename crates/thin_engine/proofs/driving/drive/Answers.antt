@@ -1,10 +1,10 @@
-use Rattle.std.proofs.Common.{◌≡◌, ℕ, List, [], length, refl, sym, subst, ap, ◌∙◌, arith, ◌≤◌, Result}
+use Rattle.std.proofs.Common.{◌≡◌, [], length, refl, sym, subst, ap, ◌∙◌, arith, ◌≤◌, Result}
 use Rattle.std.specs.Prelude.{OnOk, Some}
 use Rattle.disk_model.specs.Disk.{DiskState}
 use Rattle.flash_plan.specs.Plan.{IsAcceptedUnit}
 use Rattle.flash_plan.specs.declared.unit.UnitPlan.{UnitPlan}
 use Rattle.shop_model.specs.History.{disk_now, vehicle_now}
-use Rattle.journal_model.specs.Records.{Label, label_of}
+use Rattle.journal_model.specs.Records.{Label}
 use Rattle.thin_engine.specs.Recorded.{RecordsBoth}
 use Rattle.thin_engine.specs.Talking.{Run, SoundAt}
 use Rattle.thin_engine.proofs.Parts.{keeps_shown}

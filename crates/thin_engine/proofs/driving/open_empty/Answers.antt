@@ -1,7 +1,7 @@
-use Rattle.std.proofs.Common.{◌≡◌, ◌⊎◌, inl, inr, ℕ, List, [], true, false, IsTrue, refl, sym, ◌∙◌, ap, subst}
+use Rattle.std.proofs.Common.{◌≡◌, refl, sym, ◌∙◌}
 use Rattle.std.proofs.lemmas.Bool.{false≢true}
 use Rattle.shop_model.specs.History.{disk_now}
-use Rattle.journal_model.specs.Records.{Label, label_of}
+use Rattle.journal_model.specs.Records.{label_of}
 use Rattle.flash_plan.specs.declared.outcome.Entry.TheVariants.{Complete}
 use Rattle.flash_journal.specs.Seen.{label}
 use Rattle.thin_engine.proofs.Openings.{opened_empty, opened_begins, opening_nothing, refused_bytes, refused_cause}

@@ -1,5 +1,4 @@
-use Rattle.std.proofs.Common.{Ok, Err, sym, subst, ap, arith, refl, ◌∙◌}
-use Rattle.disk_model.specs.Disk.{DiskState}
+use Rattle.std.proofs.Common.{Ok, Err, sym, ap, arith, refl, ◌∙◌}
 use Rattle.flash_plan.specs.declared.outcome.Entry.TheVariants.{Begun}
 use Rattle.flash_plan.specs.declared.outcome.Outcome.TheVariants.{DiskFault}
 use Rattle.flash_plan.specs.declared.unit.UnitPlan.{UnitPlan}
