@@ -7,10 +7,10 @@ use Rattle.flash_base.specs.Counts.{Rises}
 use Rattle.journal_model.specs.Records.{label_of}
 use Rattle.run_model.specs.Sound.{IsFinalVehicle}
 use Rattle.run_report.specs.Report.{report_text}
+use Rattle.thin_engine.specs.Recorded.{RecordsBoth}
 use Rattle.thin_engine.specs.Undisturbed.{IsDriven}
 use Rattle.thin_engine.specs.declared.driving.Ended.{Ended}
 use Rattle.thin_engine.specs.declared.driving.Ended.TheVariants as ended
-use Rattle.thin_journal.specs.Entries.{RecordsBoth}
 use Rattle.unit_model.specs.Vehicle.{Vehicle}
 use Rattle.flash_top.specs.declared.building.Built.{Built}
 use Rattle.flash_top.specs.declared.building.BuildFault.{BuildFault}

@@ -2,7 +2,7 @@
 use Rattle.std.proofs.Common.{◌≡◌, ℕ, List, subst, arith}
 use Rattle.flash_plan.specs.declared.unit.UnitPlan.{UnitPlan}
 use Rattle.shop_model.specs.History.{History}
-use Rattle.thin_journal.proofs.Laters.{later_same}
+use Rattle.journal_steps.proofs.Laters.{later_same}
 use Rattle.thin_engine.specs.Sounding.{IsSoundState, KeepsSound}
 
 pub sound_still : (P : List UnitPlan) (h : History) → KeepsSound P h h

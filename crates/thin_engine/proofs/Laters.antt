@@ -3,7 +3,7 @@ use Rattle.std.proofs.Common.{◌≤◌, ◌∙◌, refl, arith, Result}
 use Rattle.disk_model.specs.declared.device.DeviceFault.{DeviceFault}
 use Rattle.shop_model.specs.History.{History, Call, LAST, LinkCall}
 use Rattle.shop_model.specs.Through.{IsLater}
-use Rattle.thin_journal.proofs.Laters as laters
+use Rattle.journal_steps.proofs.Laters as laters
 use Rattle.thin_engine.specs.Later.{IsTalkLater, IsLinkLater}
 
 pub talk_same : (a : History) → IsTalkLater a a

@@ -1,56 +1,76 @@
 -- The file before a run and while the journal is made: it records nothing.
-use Rattle.std.proofs.Common.{◌≡◌, inl, inr, ℕ, ◌≤◌, true, false, List, [], ◌∷◌, length, Result, refl, sym, ◌∙◌, ap, subst, arith}
-use Rattle.std.specs.Prelude.{Bool, ◌&&◌, not, slice_index}
-use Rattle.std.proofs.lemmas.Bool.{cases_Bool, and_parts, or_cases, leb-true, eqb-true, false≢true}
+use Rattle.std.proofs.Common.{◌≡◌, ℕ, ◌≤◌, true, false, List, [], ◌∷◌, length, Result, Err, refl, sym, ◌∙◌, ap, subst, arith}
+use Rattle.std.specs.Prelude.{Bool, ◌&&◌}
+use Rattle.std.proofs.lemmas.Bool.{false≢true}
 use Rattle.disk_model.specs.Disk.{DiskState, IsCrashImage}
 use Rattle.disk_model.specs.declared.device.DeviceFault.{DeviceFault}
 use Rattle.flash_plan.specs.declared.outcome.Entry.{Entry}
 use Rattle.flash_plan.specs.declared.outcome.Entry.TheVariants.{Begun, Complete}
 use Rattle.unit_model.specs.Vehicle.{Vehicle}
 use Rattle.shop_model.specs.History.{History, LAST, DiskCall, Len, disk_now, vehicle_now}
-use Rattle.shop_model.specs.Through.{HoldsThrough, HoldsWhileShown}
-use Rattle.journal_model.specs.Records.{Label, records, label_of, has, slots_of, is_fresh, is_headed, is_standing, says_digest}
+use Rattle.shop_model.specs.Through.{HoldsWhileShown}
+use Rattle.journal_model.specs.Records.{Label, records, label_of, has, slots_of}
 use Rattle.run_model.specs.Sound.{IsSound}
-use Rattle.thin_journal.specs.Later.{Stays}
-use Rattle.thin_journal.specs.Make.{no_entry, IsNew, IsStart, Starts}
-use Rattle.thin_journal.proofs.Laters.{disk_later}
-use Rattle.thin_journal.proofs.Made.{fresh_short}
+use Rattle.journal_steps.specs.Later.{HoldsOnDisk}
+use Rattle.journal_steps.specs.Make.{no_entry, AllFollow}
+use Rattle.journal_steps.proofs.Laters.{disk_later}
+use Rattle.journal_steps.proofs.Made.{fresh_short, fresh_no_journal}
+use Rattle.journal_steps.proofs.Moments.{at_end, weakens}
+use Rattle.flash_base.specs.Counts.{Rises}
+use Rattle.flash_journal.specs.Kept.{journal_label, MayAppend, IsKeptOn}
+use Rattle.flash_journal.specs.Look.{HasCause}
+use Rattle.flash_journal.specs.Opened.{IsOpened, IsEmpty, OnRefusal, HasBytes}
+use Rattle.flash_journal.specs.declared.journal.Journal.{Journal}
+use Rattle.flash_journal.specs.declared.looking.OpenFault.{OpenFault}
+use Rattle.flash_journal.specs.declared.looking.OpenFault.TheVariants.{NotJournal, OtherPlan, DiskFault, NoMemory}
+use Rattle.thin_engine.specs.Recorded.{RecordsNothing}
 use Rattle.thin_engine.specs.Shown.{Keeps}
 use Rattle.thin_engine.specs.Sounding.{EmptyLaw}
 use Rattle.thin_engine.specs.Talking.{Run, SoundAt, Fits, taken_up}
 use Rattle.thin_engine.proofs.Parts.{keeps_call, keeps_shown, keeps_then, shown_keeps, stays_keeps}
-use Rattle.thin_engine.proofs.Recording.{recorded, settled_covers}
+use Rattle.thin_engine.proofs.Recording.{kept_covers}
 use Rattle.thin_engine.proofs.Starts.{starts}
 
--- a file that is not made yet has no open header
-fresh_headless : (image : List ℕ) → is_fresh image ≡ true → is_headed image ≡ false
-fresh_headless image fresh = elim (cases_Bool (is_headed image)) [
-  | inr isnt ↦ isnt
-  | inl is ↦
-      let front = (and_parts _ _ (and_parts _ _ is).0).0 in
-      let long : 64 ≤ length image = leb-true 64 (length image) (and_parts _ _ front).0 in
-      let opened : slice_index image 0 ≡ 165 = eqb-true (slice_index image 0) 165 (and_parts _ _ front).1 in
-      elim (or_cases _ _ fresh) [
-        | inl early ↦ elim (or_cases _ _ early) [
-          | inl short ↦ let few : length image ≤ 1 = leb-true (length image) 1 short in absurd (omega (arith, few, long))
-          | inr zeroed ↦ let none : slice_index image 0 ≡ 0 = eqb-true (slice_index image 0) 0 zeroed in absurd (omega (arith, none, opened))
-        ]
-        | inr magical ↦ absurd (false≢true (sym (ap not (and_parts _ _ front).1) ∙ (and_parts _ _ magical).1))
-      ]
-]
-
-fresh_none : (P : Label) (image : List ℕ) → is_fresh image ≡ true → (e : Entry) → records P image e ≡ no_entry e
-fresh_none P image fresh e = λ i. ((fresh_headless image fresh i && says_digest P image) && is_standing P image) && has image (slots_of P) e
-
-start_none : (P : Label) (image : List ℕ) → IsStart P image → (e : Entry) → records P image e ≡ no_entry e
-start_none P image (inl fresh) e = fresh_none P image fresh e
-start_none P image (inr there) e = recorded P no_entry image there e
-
 -- a file of length 0
-pub empty_starts : (P : Label) (d : DiskState) → d.bytes ≡ [] → Starts P d
-empty_starts P d none image left =
+none_recorded : (P : Label) (image : List ℕ) → length image ≤ 1 → (e : Entry) → records P image e ≡ false
+none_recorded P image short e = λ i. fresh_no_journal P image (fresh_short image short) i && has image (slots_of P) e
+
+pub empty_nothing : (P : Label) (d : DiskState) → d.bytes ≡ [] → RecordsNothing P d
+empty_nothing P d none image left e =
     let size : length d.bytes ≡ 0 = ap length none in
-    inl (fresh_short image (omega (arith, left.no_longer, size)))
+    none_recorded P image (omega (arith, left.no_longer, size)) e
+
+-- a journal that was opened over no byte
+pub opened_empty : (L : Label) (bytes : List ℕ) (j : Journal) (d : DiskState) → bytes ≡ [] → IsOpened L bytes j d → IsEmpty j
+opened_empty L bytes j d none opened = record {
+  none = λ e. opened.entries e ∙ none_recorded L bytes (let size : length bytes ≡ 0 = ap length none in omega (arith, size)) e;
+}
+
+pub opened_begins : (L : Label) (j : Journal) → L.units ≡ 1 → journal_label j ≡ L → IsEmpty j → MayAppend j (Begun 0)
+opened_begins L j one named empty = record {
+  named = let units : j.units ≡ L.units = ap (λ (l : Label). l.units) named in omega (arith, units, one);
+  fresh = empty.none (Begun 0);
+  prepared = tt;
+}
+
+-- nothing is written where the file is refused
+pub refused_bytes : (bytes : List ℕ) (old new : History) (fault : OpenFault) → (fault ≡ DiskFault → ⊥) → (let r : Result Journal OpenFault = Err fault in OnRefusal r (HoldsOnDisk old new (HasBytes bytes))) → (disk_now new).bytes ≡ bytes
+refused_bytes bytes old new NotJournal other holds = (at_end (HasBytes bytes) old new holds).disk
+refused_bytes bytes old new (OtherPlan said) other holds = (at_end (HasBytes bytes) old new holds).disk
+refused_bytes bytes old new DiskFault other holds = absurd (other refl)
+refused_bytes bytes old new NoMemory other holds = (at_end (HasBytes bytes) old new holds).disk
+
+pub refused_cause : (old new : History) (fault : OpenFault) → fault ≡ DiskFault → HasCause old new fault → Rises old.disk_faults new.disk_faults
+refused_cause old new fault is cause = subst (λ (f : OpenFault). HasCause old new f) is cause
+
+-- what has the records of such a file
+pub follow_nothing : (L P : Label) (old d : DiskState) → L ≡ P → old.bytes ≡ [] → AllFollow L old d → RecordsNothing P d
+follow_nothing L P old d same none follows image left e =
+    let f = follows image left in
+    (λ i. records (sym same i) image e) ∙ f.entries e ∙ empty_nothing L old none f.before f.left e
+
+pub opening_nothing : (L P : Label) (old new : History) → L ≡ P → (disk_now old).bytes ≡ [] → HoldsOnDisk old new (AllFollow L (disk_now old)) → HoldsOnDisk old new (RecordsNothing P)
+opening_nothing L P old new same none through = weakens (AllFollow L (disk_now old)) (RecordsNothing P) old new (λ d. follow_nothing L P (disk_now old) d same none) through
 
 module _ (run : Run) where
   abbrev label : Label
@@ -58,12 +78,12 @@ module _ (run : Run) where
 
   pub empty_sound : (d : DiskState) (v : Vehicle) → d.bytes ≡ [] → IsCrashImage d d.bytes → SoundAt run d v → IsSound run.plan no_entry v run.v0
   empty_sound d v none readable sound =
-      let same : records label d.bytes ≡ no_entry = λ i e. start_none label d.bytes (empty_starts label d none d.bytes readable) e i in
+      let same : records label d.bytes ≡ no_entry = λ i e. empty_nothing label d none d.bytes readable e i in
       subst (λ (X : Entry → Bool). IsSound run.plan X v run.v0) same (sound d.bytes readable)
 
-  starts_sound : (v : Vehicle) → IsSound run.plan no_entry v run.v0 → (d : DiskState) → Starts label d → SoundAt run d v
-  starts_sound v sound d starts image left =
-      let same : records label image ≡ no_entry = λ i e. start_none label image (starts image left) e i in
+  nothing_sound : (v : Vehicle) → IsSound run.plan no_entry v run.v0 → (d : DiskState) → RecordsNothing label d → SoundAt run d v
+  nothing_sound v sound d nothing image left =
+      let same : records label image ≡ no_entry = λ i e. nothing image left e i in
       subst (λ (X : Entry → Bool). IsSound run.plan X v run.v0) (sym same) sound
 
   -- the length is asked for
@@ -71,19 +91,19 @@ module _ (run : Run) where
   len_keeps old new r bounded call same sound = keeps_call (SoundAt run) Len old new r (Unit {0}) (disk_later Len old new r bounded call).is_later bounded call.passes sound (λ err. tt)
       (λ shown. (subst (λ (x : DiskState × Vehicle). SoundAt run x.0 x.1) (λ i. (sym same i, sym call.vehicle i)) sound, tt))
 
-  -- the journal is made
-  pub make_keeps : (old new : History) → HoldsThrough old new (Stays (vehicle_now old) (Starts label)) → IsSound run.plan no_entry (vehicle_now old) run.v0 → Keeps (SoundAt run) old new (Unit {0})
-  make_keeps old new through sound = stays_keeps (SoundAt run) (Starts label) (vehicle_now old) old new (Unit {0}) through (starts_sound (vehicle_now old) sound) tt
+  -- the journal is opened
+  open_keeps : (old new : History) → HoldsOnDisk old new (RecordsNothing label) → IsSound run.plan no_entry (vehicle_now old) run.v0 → Keeps (SoundAt run) old new (Unit {0})
+  open_keeps old new through sound = stays_keeps (SoundAt run) (RecordsNothing label) (vehicle_now old) old new (Unit {0}) through (nothing_sound (vehicle_now old) sound) tt
 
-  pub opens : {T : Type 0} (h0 h1 h2 : History) (r : Result T DeviceFault) → h0.moment ≤ LAST → DiskCall Len h0 h1 r → disk_now h1 ≡ disk_now h0 → HoldsThrough h1 h2 (Stays (vehicle_now h1) (Starts label)) → IsSound run.plan no_entry (vehicle_now h1) run.v0
+  pub opens : {T : Type 0} (h0 h1 h2 : History) (r : Result T DeviceFault) → h0.moment ≤ LAST → DiskCall Len h0 h1 r → disk_now h1 ≡ disk_now h0 → HoldsOnDisk h1 h2 (RecordsNothing label) → IsSound run.plan no_entry (vehicle_now h1) run.v0
       → SoundAt run (disk_now h0) (vehicle_now h0) → Keeps (SoundAt run) h0 h2 (Unit {0})
-  opens h0 h1 h2 r bounded call same through sound before = keeps_then (SoundAt run) h0 h1 h2 (Unit {0}) (Unit {0}) (len_keeps h0 h1 r bounded call same before) through.is_later (λ x. make_keeps h1 h2 through sound)
+  opens h0 h1 h2 r bounded call same through sound before = keeps_then (SoundAt run) h0 h1 h2 (Unit {0}) (Unit {0}) (len_keeps h0 h1 r bounded call same before) through.is_later (λ x. open_keeps h1 h2 through sound)
 
   pub then_runs : (h0 h2 h3 : History) → Keeps (SoundAt run) h0 h2 (Unit {0}) → HoldsWhileShown h2 h3 (SoundAt run) → HoldsWhileShown h0 h3 (SoundAt run)
   then_runs h0 h2 h3 first second = keeps_shown (SoundAt run) h0 h3 (Unit {0}) (keeps_then (SoundAt run) h0 h2 h3 (Unit {0}) (Unit {0}) first second.is_later (λ x. shown_keeps (SoundAt run) h2 h3 second))
 
-  pub new_fits : (d : DiskState) (v : Vehicle) → IsNew label d → run.t0 ≡ v.gateway.tick → IsSound run.plan no_entry v run.v0 → Fits run no_entry (taken_up run) d v
-  new_fits d v new tick sound = starts run d v tick (settled_covers run no_entry no_entry d new.settled new.records (λ e. refl)) sound
+  pub new_fits : (j : Journal) (d : DiskState) (v : Vehicle) → journal_label j ≡ label → IsEmpty j → IsKeptOn j d → run.t0 ≡ v.gateway.tick → IsSound run.plan no_entry v run.v0 → Fits run no_entry (taken_up run) d v
+  new_fits j d v named empty kept tick sound = starts run d v tick (kept_covers run j no_entry d named empty.none kept) sound
 
   pub same_sound : (v w : Vehicle) → w ≡ v → IsSound run.plan no_entry v run.v0 → IsSound run.plan no_entry w run.v0
   same_sound v w is sound = subst (λ (x : Vehicle). IsSound run.plan no_entry x run.v0) (sym is) sound
@@ -102,4 +122,4 @@ empty_law P disk v none image left n lt = record {
 }
   where
     nothing : (e : Entry) → records (label_of P) image e ≡ true → ⊥
-    nothing e is = false≢true (sym (start_none (label_of P) image (empty_starts (label_of P) disk none image left) e) ∙ is)
+    nothing e is = false≢true (sym (empty_nothing (label_of P) disk none image left e) ∙ is)

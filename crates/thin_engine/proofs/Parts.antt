@@ -6,8 +6,8 @@ use Rattle.disk_model.specs.declared.device.DeviceFault.{DeviceFault}
 use Rattle.unit_model.specs.Vehicle.{Vehicle}
 use Rattle.shop_model.specs.History.{History, Call, LAST, Passes, disk_now, vehicle_now}
 use Rattle.shop_model.specs.Through.{IsLater, IsShownCall, AreShown, HoldsThrough, HoldsWhileShown}
-use Rattle.thin_journal.proofs.Laters.{later_same, later_then}
-use Rattle.thin_journal.specs.Later.{Stays}
+use Rattle.journal_steps.proofs.Laters.{later_same, later_then}
+use Rattle.journal_steps.specs.Later.{Stays}
 use Rattle.thin_engine.specs.Shown.{Keeps}
 
 order : (a b : ℕ) → (a ≤ b) ⊎ (b < a)

@@ -12,7 +12,7 @@ use Rattle.unit_model.specs.Vehicle.{Vehicle}
 use Rattle.shop_model.specs.History.{History, LAST, Send, Redial, Sent, Redialed, disk_now, vehicle_now}
 use Rattle.run_model.specs.Script.{Place, AtBegin, request_at, bytes_at, idents_from}
 use Rattle.run_model.specs.Sound.{IsSound}
-use Rattle.thin_journal.specs.Make.{no_entry}
+use Rattle.journal_steps.specs.Make.{no_entry}
 use Rattle.bay_core.proofs.OneStep.{core_law, step_law}
 use Rattle.bay_core.specs.Core.{Core, core_start, core_after}
 use Rattle.bay_core.specs.Joint.{IsJoint}

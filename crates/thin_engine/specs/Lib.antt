@@ -9,6 +9,7 @@ pub mod Look
 pub mod Programming
 pub mod Reading
 pub mod Reads
+pub mod Recorded
 pub mod Said
 pub mod SameUnits
 pub mod Shown

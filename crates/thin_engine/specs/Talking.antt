@@ -16,7 +16,7 @@ use Rattle.journal_model.specs.Records.{records, label_of}
 use Rattle.run_model.specs.Entries.{with_entry}
 use Rattle.run_model.specs.Script.{Place}
 use Rattle.run_model.specs.Sound.{IsSoundDisk}
-use Rattle.thin_journal.specs.Make.{no_entry}
+use Rattle.journal_steps.specs.Make.{no_entry}
 use Rattle.bay_core.specs.Core.{Core, core_start, core_after}
 use Rattle.bay_core.specs.Joint.{IsJoint}
 use Rattle.bay_core.specs.declared.event.Event.{Event}

@@ -3,7 +3,7 @@ ghost use Rattle.doip_frame.specs.Frame.{message_bytes, activate_bytes};
 ghost use Rattle.flash_plan.specs.declared.outcome.Entry.{Entry as AnEntry};
 ghost use Rattle.run_model.specs.Script.{Place, AtBegin, request_at, bytes_at};
 ghost use Rattle.shop_model.specs.History.{disk_now, vehicle_now, Redial};
-ghost use Rattle.thin_journal.specs.Make.{no_entry};
+ghost use Rattle.journal_steps.specs.Make.{no_entry};
 ghost use Rattle.thin_engine.specs.declared.reading.Awaited.{Awaited as AnAwaited};
 ghost use Rattle.thin_engine.specs.declared.reading.Awaited.TheVariants.{Answer as ItsAnswer};
 ghost use Rattle.thin_engine.specs.Shown.{Keeps};

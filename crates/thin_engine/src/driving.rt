@@ -1,8 +1,8 @@
-ghost use Rattle.std.specs.Prelude.{◌≡◌, ◌⊎◌, ◌<◌, ◌≤◌, [], length, Bool, IsTrue, IsErr, OnOk, IfOk, IfErr, Some};
+ghost use Rattle.std.specs.Prelude.{◌≡◌, ◌≢◌, ◌⊎◌, ◌<◌, ◌≤◌, [], length, Bool, IsTrue, IsErr, OnOk, IfOk, IfErr, Some};
 ghost use Rattle.flash_plan.specs.Plan.{IsAcceptedUnit};
 ghost use Rattle.flash_base.specs.Counts.{Rises};
 ghost use Rattle.shop_model.specs.History.{disk_now, vehicle_now};
-ghost use Rattle.shop_model.specs.Through.{IsLater, HoldsThrough, HoldsWhileShown};
+ghost use Rattle.shop_model.specs.Through.{IsLater, HoldsWhileShown};
 ghost use Rattle.run_model.specs.Matching.{Matches};
 ghost use Rattle.run_model.specs.Troubles.{IsCalm, IsUntroubled};
 ghost use Rattle.unit_model.specs.Unit.{ControlUnit};
@@ -14,12 +14,15 @@ ghost use Rattle.thin_engine.specs.Later.{IsTalkLater, IsUnchanged};
 ghost use Rattle.thin_engine.specs.Causes.{IsMidway, HasCause};
 ghost use Rattle.flash_plan.specs.declared.outcome.Entry.{Entry as AnEntry};
 ghost use Rattle.flash_plan.specs.declared.outcome.Entry.TheVariants.{Begun as ItBegun, Complete as ItComplete};
-ghost use Rattle.journal_model.specs.Records.{Label, label_of};
+ghost use Rattle.journal_model.specs.Records.{label_of};
 ghost use Rattle.run_model.specs.Script.{AtDone, AtProgram};
-ghost use Rattle.thin_journal.specs.Append.{AddsAtMost};
-ghost use Rattle.thin_journal.specs.Entries.{begun_alone, HasBegun, HasBoth, RecordsBoth};
-ghost use Rattle.thin_journal.specs.Later.{IsDiskLater, Stays};
-ghost use Rattle.thin_journal.specs.Make.{IsNew, no_entry};
+ghost use Rattle.flash_journal.specs.Kept.{journal_label, has_entry, is_live, MayAppend, IsKeptOn, HasOneMore};
+ghost use Rattle.flash_journal.specs.Opened.{IsEmpty};
+ghost use Rattle.flash_journal.specs.declared.looking.OpenFault.TheVariants as a_fault;
+ghost use Rattle.journal_steps.specs.Append.{AddsAtMost};
+ghost use Rattle.journal_steps.specs.Later.{IsDiskLater, HoldsOnDisk};
+ghost use Rattle.journal_steps.specs.Make.{no_entry};
+ghost use Rattle.thin_engine.specs.Recorded.{RecordsNothing, RecordsBoth, IsUnbegun};
 ghost use Rattle.thin_engine.specs.Shown.{Keeps};
 ghost use Rattle.thin_engine.specs.Sounding.{KeepsSound};
 ghost use Rattle.thin_engine.specs.Stages.{IsFirst, IsFirstPlan, IsStage, place_at, work_left, segment_of};
@@ -31,10 +34,10 @@ use crate::judging::{next, sid};
 use crate::reading::Route;
 use crate::requests::request;
 use crate::stage::Stage;
-use flash_plan::{Outcome, Plan, UnitPlan};
+use flash_journal::{Journal, OpenFault};
+use flash_plan::{Entry, Outcome, Plan, UnitPlan};
 use shop_model::Shop;
 use std::alloc::Global;
-use thin_journal::{begin, complete, make, new_file};
 
 /// How a run ended.
 #[derive(Clone, Copy, Debug, PartialEq, Eq)]
@@ -43,7 +46,8 @@ pub enum Ended {
     NotEmpty,
     /// The journal could not be opened. No link call was made.
     Disk,
-    /// There was no memory for the journal. Nothing was written, and no link call was made.
+    /// There was no memory for the journal, or its file, which had length 0, was read with bytes in it (no disk
+    /// that is told does so). Nothing was written, and no link call was made.
     NoMemory,
     /// The journal was opened, and the unit has this outcome.
     Ran(Outcome),
@@ -125,51 +129,59 @@ fn program<S: Shop>(
 }
 
 /// Records that the unit is begun.
-fn record_begun<S: Shop>(shop: &mut S) -> Result<(), Outcome>
-    requires { IsTrue S.tells_disk → 98 ≤ length (disk_now (S.history shop.old)).bytes }
+fn record_begun<S: Shop>(shop: &mut S, journal: &mut Journal) -> Result<(), Outcome>
+    requires live { IsTrue (is_live journal.old) }
+    requires entry { MayAppend journal.old (ItBegun 0) }
+    requires kept { IsTrue S.tells_disk → IsKeptOn journal.old (disk_now (S.history shop.old)) }
     ensures later { IsDiskLater (S.history shop.old) (S.history shop.new) }
-    ensures size { OnOk result (IsTrue S.tells_disk → 98 ≤ length (disk_now (S.history shop.new)).bytes) }
     ensures cause { IfErr result (λ o. HasCause o (S.history shop.old) (S.history shop.new)) }
-    ensures begun { OnOk result (IsTrue S.tells_disk → (P : Label) → P.units ≡ 1 → IsNew P (disk_now (S.history shop.old))
-        → HasBegun P (disk_now (S.history shop.new))) }
-    ensures any_moment { IsTrue S.tells_disk → (P : Label) → P.units ≡ 1 → IsNew P (disk_now (S.history shop.old))
-        → HoldsThrough (S.history shop.old) (S.history shop.new) (Stays (vehicle_now (S.history shop.old)) (AddsAtMost P no_entry (ItBegun 0))) }
+    ensures more { OnOk result (HasOneMore journal.old journal.new (ItBegun 0)) }
+    ensures kept { OnOk result (IsTrue S.tells_disk → IsKeptOn journal.new (disk_now (S.history shop.new))) }
+    ensures any_moment { IsTrue S.tells_disk → HoldsOnDisk (S.history shop.old) (S.history shop.new) (AddsAtMost (journal_label journal.old) (has_entry journal.old) (ItBegun 0)) }
     ensures fault { IsErr result → Rises (S.history shop.old).disk_faults (S.history shop.new).disk_faults }
 {
-    match begin(shop) {
+    match journal.append(shop, Entry::Begun(0)) {
         Ok(()) => Ok(()),
         Err(_) => Err(Outcome::DiskFault),
     }
 }
 
 /// Records that it is complete.
-fn record_complete<S: Shop>(shop: &mut S) -> Result<(), Outcome>
-    requires { IsTrue S.tells_disk → 98 ≤ length (disk_now (S.history shop.old)).bytes }
+fn record_complete<S: Shop>(shop: &mut S, journal: &mut Journal) -> Result<(), Outcome>
+    requires live { IsTrue (is_live journal.old) }
+    requires entry { MayAppend journal.old (ItComplete 0) }
+    requires kept { IsTrue S.tells_disk → IsKeptOn journal.old (disk_now (S.history shop.old)) }
     ensures later { IsDiskLater (S.history shop.old) (S.history shop.new) }
     ensures cause { IfErr result (λ o. HasCause o (S.history shop.old) (S.history shop.new)) }
-    ensures complete { OnOk result (IsTrue S.tells_disk → (P : Label) → P.units ≡ 1 → HasBegun P (disk_now (S.history shop.old))
-        → HasBoth P (disk_now (S.history shop.new))) }
-    ensures any_moment { IsTrue S.tells_disk → (P : Label) → P.units ≡ 1 → HasBegun P (disk_now (S.history shop.old))
-        → HoldsThrough (S.history shop.old) (S.history shop.new) (Stays (vehicle_now (S.history shop.old)) (AddsAtMost P begun_alone (ItComplete 0))) }
+    ensures more { OnOk result (HasOneMore journal.old journal.new (ItComplete 0)) }
+    ensures kept { OnOk result (IsTrue S.tells_disk → IsKeptOn journal.new (disk_now (S.history shop.new))) }
+    ensures any_moment { IsTrue S.tells_disk → HoldsOnDisk (S.history shop.old) (S.history shop.new) (AddsAtMost (journal_label journal.old) (has_entry journal.old) (ItComplete 0)) }
     ensures fault { IsErr result → Rises (S.history shop.old).disk_faults (S.history shop.new).disk_faults }
 {
-    match complete(shop) {
+    match journal.append(shop, Entry::Complete(0)) {
         Ok(()) => Ok(()),
         Err(_) => Err(Outcome::DiskFault),
     }
 }
 
 /// Activates the gateway, and programs the unit.
-fn run<S: Shop>(alloc: Global, shop: &mut S, tester: u16, unit: &UnitPlan) -> Result<(), Outcome>
+fn run<S: Shop>(
+    alloc: Global,
+    shop: &mut S,
+    journal: &mut Journal,
+    tester: u16,
+    unit: &UnitPlan,
+) -> Result<(), Outcome>
     requires first { IsFirst unit.now }
     requires accepted { IsAcceptedUnit unit.now }
-    requires size { IsTrue S.tells_disk → 98 ≤ length (disk_now (S.history shop.old)).bytes }
+    requires unbegun { IsUnbegun journal.old }
+    requires empty { IsTrue S.tells_disk → IsEmpty journal.old }
+    requires kept { IsTrue S.tells_disk → IsKeptOn journal.old (disk_now (S.history shop.old)) }
     ensures later { IsLater (S.history shop.old) (S.history shop.new) }
     ensures cause { IfErr result (λ o. HasCause o (S.history shop.old) (S.history shop.new)) }
-    ensures complete { OnOk result (IsTrue S.tells_disk → (P : Label) → P.units ≡ 1 → IsNew P (disk_now (S.history shop.old))
-        → HasBoth P (disk_now (S.history shop.new))) }
+    ensures complete { OnOk result (IsTrue S.tells_disk → RecordsBoth (journal_label journal.old) (disk_now (S.history shop.new))) }
     ensures sound { IsTrue S.tells_disk → IsTrue S.tells_vehicle → (run : Run) → run.tester ≡ tester → task_of run ≡ unit.now
-        → IsNew (label_of run.plan) (disk_now (S.history shop.old))
+        → journal_label journal.old ≡ label_of run.plan
         → Fits run no_entry (taken_up run) (disk_now (S.history shop.old)) (vehicle_now (S.history shop.old))
         → HoldsWhileShown (S.history shop.old) (S.history shop.new) (SoundAt run) }
     ensures grows { IsTrue S.tells_vehicle → VehicleUp (vehicle_now (S.history shop.old)) (vehicle_now (S.history shop.new)) }
@@ -183,10 +195,48 @@ fn run<S: Shop>(alloc: Global, shop: &mut S, tester: u16, unit: &UnitPlan) -> Re
         unit: unit.address,
     };
     activate(alloc, shop, &route)?;
-    record_begun(shop)?;
+    record_begun(shop, journal)?;
     program(alloc, shop, &route, unit)?;
-    record_complete(shop)?;
+    record_complete(shop, journal)?;
     Ok(())
+}
+
+/// How a run ends that could not open its journal so.
+fn refusal(fault: OpenFault) -> Ended
+    ensures two { (result ≡ Ended.Disk) ⊎ (result ≡ Ended.NoMemory) }
+    ensures disk { result ≡ Ended.Disk → fault ≡ a_fault.DiskFault }
+    ensures other { result ≡ Ended.NoMemory → fault ≢ a_fault.DiskFault }
+{
+    match fault {
+        OpenFault::DiskFault => Ended::Disk,
+        _ => Ended::NoMemory,
+    }
+}
+
+/// Opens the journal of a plan of one unit in a file that had length 0: nothing may be recorded there.
+fn open_empty<S: Shop>(alloc: Global, shop: &mut S, plan: &Plan) -> Result<Journal, Ended>
+    requires first { IsFirstPlan plan.now }
+    requires none { IsTrue S.tells_disk → (disk_now (S.history shop.old)).bytes ≡ [] }
+    ensures unbegun { IfOk result IsUnbegun }
+    ensures label { IfOk result (λ j. journal_label j ≡ label_of plan.now) }
+    ensures empty { IfOk result (λ j. IsTrue S.tells_disk → IsEmpty j) }
+    ensures kept { IfOk result (λ j. IsTrue S.tells_disk → IsKeptOn j (disk_now (S.history shop.new))) }
+    ensures any_moment { IsTrue S.tells_disk → HoldsOnDisk (S.history shop.old) (S.history shop.new) (RecordsNothing (label_of plan.now)) }
+    ensures refusal { IfErr result (λ e. (e ≡ Ended.Disk) ⊎ (e ≡ Ended.NoMemory)) }
+    ensures disk { IfErr result (λ e. e ≡ Ended.Disk → Rises (S.history shop.old).disk_faults (S.history shop.new).disk_faults) }
+    ensures starved { IfErr result (λ e. IsTrue S.tells_disk → e ≡ Ended.NoMemory → (disk_now (S.history shop.new)).bytes ≡ []) }
+    ensures later { IsDiskLater (S.history shop.old) (S.history shop.new) }
+{
+    match Journal::open(alloc, shop, &plan.digest(), 1) {
+        Ok(journal) => {
+            if journal.may_append(Entry::Begun(0)) && !journal.has(Entry::Complete(0)) {
+                Ok(journal)
+            } else {
+                Err(Ended::NoMemory)
+            }
+        }
+        Err(fault) => Err(refusal(fault)),
+    }
 }
 
 /// Programs the one unit of a plan, whose journal is a file of length 0.
@@ -198,8 +248,9 @@ pub fn drive<S: Shop>(alloc: Global, shop: &mut S, tester: u16, plan: &Plan) -> 
     ensures not_empty { IsTrue S.tells_disk → (disk_now (S.history shop.old)).bytes ≡ [] → result ≡ Ended.NotEmpty → ⊥ }
     ensures occupied { IsTrue S.tells_disk → 1 ≤ length (disk_now (S.history shop.old)).bytes
         → (result ≡ Ended.NotEmpty) ⊎ (result ≡ Ended.Disk) }
-    ensures unchanged { (result ≡ Ended.NotEmpty) ⊎ (result ≡ Ended.NoMemory) → IsUnchanged (S.history shop.old) (S.history shop.new) }
-    ensures opening { result ≡ Ended.Disk →
+    ensures unchanged { result ≡ Ended.NotEmpty → IsUnchanged (S.history shop.old) (S.history shop.new) }
+    ensures starved { result ≡ Ended.NoMemory → IsTrue S.tells_disk → (disk_now (S.history shop.new)).bytes ≡ (disk_now (S.history shop.old)).bytes }
+    ensures opening { (result ≡ Ended.Disk) ⊎ (result ≡ Ended.NoMemory) →
         (vehicle_now (S.history shop.new) ≡ vehicle_now (S.history shop.old)) × ((S.history shop.new).link_calls ≡ (S.history shop.old).link_calls) }
     ensures disk { (result ≡ Ended.Disk) ⊎ (result ≡ Ended.Ran Outcome.DiskFault) → Rises (S.history shop.old).disk_faults (S.history shop.new).disk_faults }
 
@@ -227,14 +278,12 @@ pub fn drive<S: Shop>(alloc: Global, shop: &mut S, tester: u16, plan: &Plan) -> 
         }
         Err(_) => return Ended::Disk,
     }
-    let Ok(file) = new_file(alloc, &plan.digest()) else {
-        return Ended::NoMemory;
+    let mut journal = match open_empty(alloc, shop, plan) {
+        Ok(journal) => journal,
+        Err(ended) => return ended,
     };
-    match make(shop, &file) {
-        Ok(()) => match run(alloc, shop, tester, plan.unit(0)) {
-            Ok(()) => Ended::Ran(Outcome::Complete),
-            Err(outcome) => Ended::Ran(outcome),
-        },
-        Err(_) => Ended::Disk,
+    match run(alloc, shop, &mut journal, tester, plan.unit(0)) {
+        Ok(()) => Ended::Ran(Outcome::Complete),
+        Err(outcome) => Ended::Ran(outcome),
     }
 }

@@ -2,7 +2,7 @@ use Rattle.std.proofs.Common.{◌∙◌, ap, arith, Err}
 use Rattle.doip_frame.specs.Frame.{activate_bytes}
 use Rattle.run_model.specs.Script.{AtBegin}
 use Rattle.shop_model.specs.History.{disk_now, vehicle_now}
-use Rattle.thin_journal.specs.Make.{no_entry}
+use Rattle.journal_steps.specs.Make.{no_entry}
 use Rattle.thin_engine.specs.Talking.{SoundAt}
 use Rattle.thin_engine.proofs.Parts.{keeps_then, keeps_map}
 use Rattle.thin_engine.proofs.Polling.{accepted}

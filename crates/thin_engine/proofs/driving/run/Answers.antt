@@ -1,17 +1,15 @@
-use Rattle.std.proofs.Common.{Ok, Err, sym, subst, ap, arith, refl, ◌∙◌}
-use Rattle.disk_model.specs.Disk.{DiskState}
+use Rattle.std.proofs.Common.{Ok, Err, sym, ap, arith, refl, ◌∙◌}
+use Rattle.flash_plan.specs.declared.outcome.Entry.TheVariants.{Begun}
 use Rattle.flash_plan.specs.declared.outcome.Outcome.TheVariants.{DiskFault}
 use Rattle.flash_plan.specs.declared.unit.UnitPlan.{UnitPlan}
-use Rattle.journal_model.specs.Records.{label_of}
-use Rattle.thin_journal.specs.Entries.{HasBegun}
-use Rattle.thin_journal.specs.Make.{IsNew}
-use Rattle.thin_journal.proofs.Laters.{later_then}
+use Rattle.journal_steps.proofs.Laters.{later_then}
+use Rattle.flash_journal.specs.Kept.{IsKeptOn, HasOneMore}
 use Rattle.thin_engine.specs.Talking.{SoundAt, IsRoute, is_begun}
 use Rattle.thin_engine.specs.declared.reading.Route.{Route}
 use Rattle.thin_engine.proofs.Parts.{keeps_then, keeps_shown}
-use Rattle.thin_engine.proofs.Recording.{begin_keeps, complete_keeps}
+use Rattle.thin_engine.proofs.Recording.{begin_keeps, complete_keeps, begun_of, kept_both, may_complete_next}
 use Rattle.std.proofs.lemmas.Result.{err_from_is_err_and}
-use Rattle.shop_model.specs.History.{vehicle_now}
+use Rattle.shop_model.specs.History.{disk_now, vehicle_now}
 use Rattle.thin_engine.proofs.IdealCalls.{undisturbed_parts, dialed_later}
 use Rattle.thin_engine.proofs.IdealCalm.{parts, no_fault}
 use Rattle.thin_engine.proofs.IdealCounts.{vehicle_then}
@@ -31,15 +29,16 @@ returns-in_err-record_complete-clause-later g c = later_then _ _ _ (later_then _
 pub returns-clause-later : goal.returns-clause-later
 returns-clause-later g c = later_then _ _ _ (later_then _ _ _ (later_then _ _ _ c.activate.ensures.later.is_later c.record_begun.ensures.later.is_later) c.program.ensures.later.is_later) c.record_complete.ensures.later.is_later
 
+pub record_complete-requires-clause-entry : goal.record_complete-requires-clause-entry
+record_complete-requires-clause-entry g c = may_complete_next c.args.journal.now c.record_begun.new.journal c.requires.unbegun c.in_ok-record_begun.ensures.more
+
 pub returns-clause-complete : goal.returns-clause-complete
-returns-clause-complete g c = λ told P one new.
-    let new1 = subst (λ (d : DiskState). IsNew P d) (sym c.activate.ensures.later.disk) new in
-    let begun = c.in_ok-record_begun.ensures.begun told P one new1 in
-    let begun1 = subst (λ (d : DiskState). HasBegun P d) (sym c.program.ensures.later.disk) begun in
-    c.in_ok-record_complete.ensures.complete told P one begun1
+returns-clause-complete g c = λ told.
+    kept_both c.args.journal.now c.record_begun.new.journal c.record_complete.new.journal (disk_now (g.S.Shop.history c.record_complete.new.shop))
+    (c.requires.empty told) c.in_ok-record_begun.ensures.more c.in_ok-record_complete.ensures.more (c.in_ok-record_complete.ensures.kept told)
 
 pub returns-in_err-activate-clause-sound : goal.returns-in_err-activate-clause-sound
-returns-in_err-activate-clause-sound g c = λ told_disk told run tester task new fits.
+returns-in_err-activate-clause-sound g c = λ told_disk told run tester task named fits.
     let addresses : Route = record { tester = c.args.tester; unit = c.args.unit.now.address } in
     let route : IsRoute run addresses = record { tester = sym tester; unit = sym (ap (λ (u : UnitPlan). u.address) task) } in
     let h0 = g.S.Shop.history c.args.shop.now in
@@ -47,69 +46,65 @@ returns-in_err-activate-clause-sound g c = λ told_disk told run tester task new
     keeps_shown (SoundAt run) h0 h1 _ (c.activate.ensures.sound told run route fits)
 
 pub returns-in_err-record_begun-clause-sound : goal.returns-in_err-record_begun-clause-sound
-returns-in_err-record_begun-clause-sound g c = λ told_disk told run tester task new fits.
+returns-in_err-record_begun-clause-sound g c = λ told_disk told run tester task named fits.
     let addresses : Route = record { tester = c.args.tester; unit = c.args.unit.now.address } in
     let route : IsRoute run addresses = record { tester = sym tester; unit = sym (ap (λ (u : UnitPlan). u.address) task) } in
     let h0 = g.S.Shop.history c.args.shop.now in
     let h1 = g.S.Shop.history c.activate.new.shop in
     let h2 = g.S.Shop.history c.record_begun.new.shop in
-    let new1 = subst (λ (d : DiskState). IsNew (label_of run.plan) d) (sym c.activate.ensures.later.disk) new in
-    let through = c.record_begun.ensures.any_moment told_disk (label_of run.plan) run.is_first.count new1 in
+    let through = c.record_begun.ensures.any_moment told_disk in
     keeps_shown (SoundAt run) h0 h2 _ (keeps_then (SoundAt run) h0 h1 h2 _ _ (c.in_ok-activate.ensures.sound told run route fits) c.record_begun.ensures.later.is_later
-    (λ rests. begin_keeps run h1 h2 (Err DiskFault) through c.record_begun.ensures.later.vehicle tt rests))
+    (λ rests. begin_keeps run c.args.journal.now named c.record_begun.new.journal h1 h2 (Err DiskFault) (c.requires.empty told_disk) through c.record_begun.ensures.later.vehicle tt rests))
 
 pub returns-in_err-program-clause-sound : goal.returns-in_err-program-clause-sound
-returns-in_err-program-clause-sound g c = λ told_disk told run tester task new fits.
+returns-in_err-program-clause-sound g c = λ told_disk told run tester task named fits.
     let addresses : Route = record { tester = c.args.tester; unit = c.args.unit.now.address } in
     let route : IsRoute run addresses = record { tester = sym tester; unit = sym (ap (λ (u : UnitPlan). u.address) task) } in
     let h0 = g.S.Shop.history c.args.shop.now in
     let h1 = g.S.Shop.history c.activate.new.shop in
     let h2 = g.S.Shop.history c.record_begun.new.shop in
-    let new1 = subst (λ (d : DiskState). IsNew (label_of run.plan) d) (sym c.activate.ensures.later.disk) new in
-    let through = c.record_begun.ensures.any_moment told_disk (label_of run.plan) run.is_first.count new1 in
+    let through = c.record_begun.ensures.any_moment told_disk in
     let h3 = g.S.Shop.history c.program.new.shop in
-    let has = c.in_ok-record_begun.ensures.begun told_disk (label_of run.plan) run.is_first.count new1 in
+    let has : HasOneMore c.args.journal.now c.record_begun.new.journal (Begun 0) × IsKeptOn c.record_begun.new.journal (disk_now h2) = (c.in_ok-record_begun.ensures.more, c.in_ok-record_begun.ensures.kept told_disk) in
     let begun = keeps_then (SoundAt run) h0 h1 h2 _ _ (c.in_ok-activate.ensures.sound told run route fits) c.record_begun.ensures.later.is_later
-    (λ rests. begin_keeps run h1 h2 (Ok tt) through c.record_begun.ensures.later.vehicle has rests) in
+    (λ rests. begin_keeps run c.args.journal.now named c.record_begun.new.journal h1 h2 (Ok tt) (c.requires.empty told_disk) through c.record_begun.ensures.later.vehicle has rests) in
     keeps_shown (SoundAt run) h0 h3 _ (keeps_then (SoundAt run) h0 h2 h3 _ _ begun c.program.ensures.later.is_later (λ rests. c.program.ensures.sound told run is_begun route task rests))
 
 pub returns-in_err-record_complete-clause-sound : goal.returns-in_err-record_complete-clause-sound
-returns-in_err-record_complete-clause-sound g c = λ told_disk told run tester task new fits.
+returns-in_err-record_complete-clause-sound g c = λ told_disk told run tester task named fits.
     let addresses : Route = record { tester = c.args.tester; unit = c.args.unit.now.address } in
     let route : IsRoute run addresses = record { tester = sym tester; unit = sym (ap (λ (u : UnitPlan). u.address) task) } in
     let h0 = g.S.Shop.history c.args.shop.now in
     let h1 = g.S.Shop.history c.activate.new.shop in
     let h2 = g.S.Shop.history c.record_begun.new.shop in
-    let new1 = subst (λ (d : DiskState). IsNew (label_of run.plan) d) (sym c.activate.ensures.later.disk) new in
-    let through = c.record_begun.ensures.any_moment told_disk (label_of run.plan) run.is_first.count new1 in
+    let through = c.record_begun.ensures.any_moment told_disk in
     let h3 = g.S.Shop.history c.program.new.shop in
-    let has = c.in_ok-record_begun.ensures.begun told_disk (label_of run.plan) run.is_first.count new1 in
+    let has : HasOneMore c.args.journal.now c.record_begun.new.journal (Begun 0) × IsKeptOn c.record_begun.new.journal (disk_now h2) = (c.in_ok-record_begun.ensures.more, c.in_ok-record_begun.ensures.kept told_disk) in
     let begun = keeps_then (SoundAt run) h0 h1 h2 _ _ (c.in_ok-activate.ensures.sound told run route fits) c.record_begun.ensures.later.is_later
-    (λ rests. begin_keeps run h1 h2 (Ok tt) through c.record_begun.ensures.later.vehicle has rests) in
+    (λ rests. begin_keeps run c.args.journal.now named c.record_begun.new.journal h1 h2 (Ok tt) (c.requires.empty told_disk) through c.record_begun.ensures.later.vehicle has rests) in
     let programmed = keeps_then (SoundAt run) h0 h2 h3 _ _ begun c.program.ensures.later.is_later (λ rests. c.in_ok-program.ensures.sound told run is_begun route task rests) in
     let h4 = g.S.Shop.history c.record_complete.new.shop in
-    let has3 = subst (λ (d : DiskState). HasBegun (label_of run.plan) d) (sym c.program.ensures.later.disk) has in
+    let more = c.in_ok-record_begun.ensures.more in
     keeps_shown (SoundAt run) h0 h4 _ (keeps_then (SoundAt run) h0 h3 h4 _ (Unit {0}) programmed c.record_complete.ensures.later.is_later
-    (λ rests. complete_keeps run h3 h4 (c.record_complete.ensures.any_moment told_disk (label_of run.plan) run.is_first.count has3) rests))
+    (λ rests. complete_keeps run c.record_begun.new.journal h3 h4 (more.label ∙ named) (begun_of c.args.journal.now c.record_begun.new.journal (c.requires.empty told_disk) more) (c.record_complete.ensures.any_moment told_disk) rests))
 
 pub returns-clause-sound : goal.returns-clause-sound
-returns-clause-sound g c = λ told_disk told run tester task new fits.
+returns-clause-sound g c = λ told_disk told run tester task named fits.
     let addresses : Route = record { tester = c.args.tester; unit = c.args.unit.now.address } in
     let route : IsRoute run addresses = record { tester = sym tester; unit = sym (ap (λ (u : UnitPlan). u.address) task) } in
     let h0 = g.S.Shop.history c.args.shop.now in
     let h1 = g.S.Shop.history c.activate.new.shop in
     let h2 = g.S.Shop.history c.record_begun.new.shop in
-    let new1 = subst (λ (d : DiskState). IsNew (label_of run.plan) d) (sym c.activate.ensures.later.disk) new in
-    let through = c.record_begun.ensures.any_moment told_disk (label_of run.plan) run.is_first.count new1 in
+    let through = c.record_begun.ensures.any_moment told_disk in
     let h3 = g.S.Shop.history c.program.new.shop in
-    let has = c.in_ok-record_begun.ensures.begun told_disk (label_of run.plan) run.is_first.count new1 in
+    let has : HasOneMore c.args.journal.now c.record_begun.new.journal (Begun 0) × IsKeptOn c.record_begun.new.journal (disk_now h2) = (c.in_ok-record_begun.ensures.more, c.in_ok-record_begun.ensures.kept told_disk) in
     let begun = keeps_then (SoundAt run) h0 h1 h2 _ _ (c.in_ok-activate.ensures.sound told run route fits) c.record_begun.ensures.later.is_later
-    (λ rests. begin_keeps run h1 h2 (Ok tt) through c.record_begun.ensures.later.vehicle has rests) in
+    (λ rests. begin_keeps run c.args.journal.now named c.record_begun.new.journal h1 h2 (Ok tt) (c.requires.empty told_disk) through c.record_begun.ensures.later.vehicle has rests) in
     let programmed = keeps_then (SoundAt run) h0 h2 h3 _ _ begun c.program.ensures.later.is_later (λ rests. c.in_ok-program.ensures.sound told run is_begun route task rests) in
     let h4 = g.S.Shop.history c.record_complete.new.shop in
-    let has3 = subst (λ (d : DiskState). HasBegun (label_of run.plan) d) (sym c.program.ensures.later.disk) has in
+    let more = c.in_ok-record_begun.ensures.more in
     keeps_shown (SoundAt run) h0 h4 _ (keeps_then (SoundAt run) h0 h3 h4 _ (Unit {0}) programmed c.record_complete.ensures.later.is_later
-    (λ rests. complete_keeps run h3 h4 (c.record_complete.ensures.any_moment told_disk (label_of run.plan) run.is_first.count has3) rests))
+    (λ rests. complete_keeps run c.record_begun.new.journal h3 h4 (more.label ∙ named) (begun_of c.args.journal.now c.record_begun.new.journal (c.requires.empty told_disk) more) (c.record_complete.ensures.any_moment told_disk) rests))
 
 -- ------ counts of the vehicle
 pub returns-in_err-record_begun-clause-grows : goal.returns-in_err-record_begun-clause-grows

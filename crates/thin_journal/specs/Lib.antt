@@ -1,5 +1,0 @@
-pub mod Append
-pub mod Entries
-pub mod File
-pub mod Later
-pub mod Make
