@@ -12,7 +12,7 @@ use Rattle.mem_disk.specs.declared.disk.MemDisk.{MemDisk}
 use Rattle.std.specs.Bool.{OnTrue, OnFalse}
 use Rattle.mem_disk.specs.Made.{call_in}
 use Rattle.mem_disk.specs.Replay.{start, after, replay, spliced}
-use Rattle.mem_disk.specs.Disks.{history_of, moment_of, is_listed, FailsExactly, ListsMiss, Passed, Recorded, Starved, WroteSome, SameRecord, DiskFaulted, LinkFaulted, one_more}
+use Rattle.mem_disk.specs.Disks.{history_of, moment_of, is_listed, FailsExactly, ListsMiss, Passed, Recorded, Starved, WroteSome, SameRecord, DiskFaulted, LinkFaulted, LinkCounted, one_more}
 use Rattle.mem_disk.proofs.Replays.{replay-append, same_past}
 
 -- the disk is what the whole record gives
@@ -54,7 +54,7 @@ passes call old mid new r passed same past = record {
 }
 
 same_itself : (s : MemDisk) → SameRecord s s
-same_itself s = record { first = refl; failing = refl; calls = refl; idle = refl; made = refl; starves = refl; link_calls = refl }
+same_itself s = record { first = refl; failing = refl; calls = refl; idle = refl; made = refl; starves = refl; link_calls = refl; linked = refl }
 
 rises_more : (old new : ℕ) → old < 2 ^ 64 → new ≡ one_more old → Rises old new
 rises_more old new small is = omega (arith, small, is)
@@ -66,7 +66,7 @@ disk_went call done old new x did = record {
   vehicle = refl;
   link_faults = did.passed.link_faults;
   link_calls = did.passed.link_calls;
-  linked = refl;
+  linked = did.passed.linked;
   never_falls = omega (arith, did.passed.disk_faults);
   fault = λ is. absurd (both_ways false refl is);
 }
@@ -78,7 +78,7 @@ disk_failed call old mid new e passed past fault = record {
   vehicle = refl;
   link_faults = fault.link_faults ∙ passed.link_faults;
   link_calls = fault.same.link_calls ∙ passed.link_calls;
-  linked = refl;
+  linked = fault.same.linked ∙ passed.linked;
   never_falls = omega (arith, fault.disk_faults, passed.disk_faults, old.disk_count);
   fault = λ is. rises_more old.disk_faults new.disk_faults old.disk_count (fault.disk_faults ∙ ap one_more passed.disk_faults);
 }
@@ -106,7 +106,7 @@ disk_last call old new e last fault = record {
   vehicle = refl;
   link_faults = fault.link_faults;
   link_calls = fault.same.link_calls;
-  linked = refl;
+  linked = fault.same.linked;
   never_falls = omega (arith, fault.disk_faults, old.disk_count);
   fault = λ is. rises_more old.disk_faults new.disk_faults old.disk_count fault.disk_faults;
 }
@@ -211,16 +211,6 @@ pub wrote_tried : (call : Call) (at n : ℕ) (bytes : List ℕ) (old mid new : M
 wrote_tried call at n bytes old mid new e true size yes' no' fault = wrote_listed call at n bytes old mid new e size yes' fault
 wrote_tried call at n bytes old mid new e false size yes' no' fault = wrote_hungry call at bytes old mid new e no' fault
 
--- a link call, counted
-pub record LinkCounted (mid counted : MemDisk) : Type 0 where
-  pub first : counted.first.items ≡ mid.first.items
-  pub calls : counted.calls.items ≡ mid.calls.items
-  pub idle : counted.idle ≡ mid.idle
-  pub made : counted.made ≡ mid.made
-  pub disk_faults : counted.disk_faults ≡ mid.disk_faults
-  pub link_faults : counted.link_faults ≡ mid.link_faults
-  pub link_calls : counted.link_calls ≡ mid.link_calls + 1
-
 link_passed : {T : Type 0} (call : Call) (old mid counted new : MemDisk) (e : DeviceFault) → Passed call old mid → ((m : ℕ) → m ≤ moment_of old → (history_of mid).disk_at m ≡ (history_of old).disk_at m) → disk_now (history_of mid) ≡ disk_now (history_of old)
     → LinkCounted mid counted → LinkFaulted counted new → LinkCall {T = T} call (history_of old) (history_of new) (Err e)
 link_passed call old mid counted new e passed past disk count fault = record {
@@ -251,3 +241,21 @@ misses_tried call at n bytes old mid new e true size yes' no' fault = λ room sa
     subst (λ (k : ℕ). MissedWrite at k (disk_now (history_of old)) (disk_now (history_of new))) size
     (subst (λ (d : DiskState). MissedWrite at n (disk_now (history_of old)) d) (sym (disk_same mid new fault.same ∙ disk_recorded call (Missed at n) old mid yes')) (missed (disk_now (history_of old)) at n))
 misses_tried call at n bytes old mid new e false size yes' no' fault = λ room same. absurd (omega (arith, same, no'.starves, fault.same.starves))
+
+-- a link call that succeeded
+pub link_went : {T : Type 0} (call : Call) (old mid counted : MemDisk) (x : T) → Recorded call Kept old mid → LinkCounted mid counted → LinkCall call (history_of old) (history_of counted) (Ok x)
+link_went call old mid counted x did count = record {
+  passes = record {
+    moment = omega (arith, did.passed.moment, did.passed.room, count.idle, ap length count.calls);
+    last = λ is. absurd (omega (arith, is, did.passed.room));
+    disk_past = λ m le. (λ i. replay (start (count.first i)) (take m (count.calls i))) ∙ recorded_past call Kept old mid did m le;
+    vehicle_past = λ m le. refl;
+    calls_past = λ m lt. (λ i. call_in (count.made i) m) ∙ did.passed.calls_past m lt;
+    call_is = λ lt. (λ i. call_in (count.made i) (moment_of old)) ∙ did.passed.call_is;
+  };
+  disk = disk_is counted ∙ (λ i. replay (start (count.first i)) (count.calls i)) ∙ sym (disk_is mid) ∙ disk_recorded call Kept old mid did;
+  disk_faults = count.disk_faults ∙ did.passed.disk_faults;
+  link_calls = omega (arith, count.link_calls, did.passed.link_calls, did.passed.moment, count.idle, ap length count.calls);
+  never_falls = omega (arith, count.link_faults, did.passed.link_faults);
+  fault = λ is. absurd (both_ways false refl is);
+}

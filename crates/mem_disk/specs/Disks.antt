@@ -45,7 +45,7 @@ history_of s = record {
   disk_faults = s.disk_faults;
   link_faults = s.link_faults;
   link_calls = s.link_calls;
-  linked = false;
+  linked = s.linked;
 }
 
 -- a disk to which nothing was done
@@ -56,6 +56,7 @@ pub record IsNew (image failing : List ℕ) (s : MemDisk) : Type 0 where
   pub none_starved : s.starved ≡ 0
   pub disk_faults : s.disk_faults ≡ 0
   pub link_faults : s.link_faults ≡ 0
+  pub linked_not : s.linked ≡ false
 
 -- the number of the next call, from 0, is listed to fail
 abbrev pub is_listed : MemDisk → Bool
@@ -76,6 +77,7 @@ pub record Passed (call : Call) (old new : MemDisk) : Type 0 where
   pub disk_faults : new.disk_faults ≡ old.disk_faults
   pub link_faults : new.link_faults ≡ old.link_faults
   pub link_calls : new.link_calls ≡ old.link_calls
+  pub linked : new.linked ≡ old.linked
 
 -- what it did is the last of the record
 pub record Recorded (call : Call) (done : Done) (old new : MemDisk) : Type 0 where
@@ -106,6 +108,7 @@ pub record SameRecord (old new : MemDisk) : Type 0 where
   pub made : new.made ≡ old.made
   pub starves : new.starved ≡ old.starved
   pub link_calls : new.link_calls ≡ old.link_calls
+  pub linked : new.linked ≡ old.linked
 
 pub record DiskFaulted (old new : MemDisk) : Type 0 where
   pub same : SameRecord old new
@@ -120,3 +123,13 @@ pub record LinkFaulted (old new : MemDisk) : Type 0 where
 -- before the last moment a write that failed, and not for want of memory, has its range listed
 abbrev pub ListsMiss : ℕ → ℕ → MemDisk → MemDisk → Result Unit DeviceFault → Type 0
 ListsMiss at n old new result = moment_of old < LAST → new.starved ≡ old.starved → OnErr result (MissedWrite at n (disk_now (history_of old)) (disk_now (history_of new)))
+
+-- a link call, counted
+pub record LinkCounted (mid counted : MemDisk) : Type 0 where
+  pub first : counted.first.items ≡ mid.first.items
+  pub calls : counted.calls.items ≡ mid.calls.items
+  pub idle : counted.idle ≡ mid.idle
+  pub made : counted.made ≡ mid.made
+  pub disk_faults : counted.disk_faults ≡ mid.disk_faults
+  pub link_faults : counted.link_faults ≡ mid.link_faults
+  pub link_calls : counted.link_calls ≡ mid.link_calls + 1

@@ -33,6 +33,7 @@ pub struct MemDisk {
     disk_faults: u64,
     link_faults: u64,
     link_calls: u64,
+    linked: bool,
     ghost bytes_now: { bytes.items ≡ (replay (start first.items) calls.items).bytes },
     ghost within: { are_within (start first.items) calls.items ≡ true },
     ghost moments: { length calls.items + idle ≡ depth made },
@@ -44,10 +45,10 @@ pub struct MemDisk {
 }
 
 impl MemDisk {
-    ghost use Rattle.std.specs.Prelude.{◌≡◌, ◌+◌, ◌≤◌, ◌<◌, ◌⊎◌, IsErr, OnOk, OnErr, IfOk, length};
+    ghost use Rattle.std.specs.Prelude.{◌≡◌, ◌+◌, ◌≤◌, ◌<◌, ◌⊎◌, ◌↔◌, IsTrue, IsOk, IsErr, OnOk, OnErr, IfOk, length};
     ghost use Rattle.std.specs.Bool.{OnTrue, OnFalse};
-    ghost use Rattle.shop_model.specs.History.{LAST, DiskCall, LinkCall, WroteOrMissed, disk_now};
-    ghost use Rattle.mem_disk.specs.Disks.{history_of, moment_of, is_listed, IsNew, FailsExactly, ListsMiss, Recorded, Starved, WroteSome, DiskFaulted, LinkFaulted};
+    ghost use Rattle.shop_model.specs.History.{LAST, DiskCall, LinkCall, Redial, WroteOrMissed, disk_now};
+    ghost use Rattle.mem_disk.specs.Disks.{history_of, moment_of, is_listed, IsNew, FailsExactly, ListsMiss, Recorded, Starved, WroteSome, DiskFaulted, LinkFaulted, LinkCounted};
     ghost use Rattle.mem_disk.specs.Made.{call_of};
     ghost use Rattle.mem_disk.specs.Replay.{IsNoWrite, after};
 
@@ -68,6 +69,7 @@ impl MemDisk {
             disk_faults: 0,
             link_faults: 0,
             link_calls: 0,
+            linked: false,
         })
     }
 
@@ -226,10 +228,11 @@ impl MemDisk {
         }
     }
 
-    // A link call: it fails.
+    // A send or a receive: nobody is there, so it fails.
     fn link_call(&mut self, made: Made) -> Result<(), DeviceFault>
         ensures fails { IsErr result }
         ensures call { LinkCall (call_of made) (history_of self.old) (history_of self.new) result }
+        ensures linked { self.new.linked ≡ self.old.linked }
     {
         if self.calls() >= LAST {
             self.miss_link();
@@ -239,6 +242,36 @@ impl MemDisk {
         self.link_calls += 1;
         self.miss_link();
         Err(DeviceFault)
+    }
+
+    // Counts a dial, which succeeded or not.
+    fn connect(&mut self, linked: bool)
+        requires { self.old.link_calls < moment_of self.old }
+        ensures counted { LinkCounted self.old self.new }
+        ensures linked { self.new.linked ≡ linked }
+    {
+        self.link_calls += 1;
+        self.linked = linked;
+    }
+
+    // A connection to nobody.
+    fn redial_call(&mut self) -> Result<(), DeviceFault>
+        ensures call { LinkCall Redial (history_of self.old) (history_of self.new) result }
+        ensures linked { moment_of self.old < LAST → IsTrue self.new.linked ↔ IsOk result }
+        ensures last { moment_of self.old ≡ LAST → self.new.linked ≡ self.old.linked }
+    {
+        if self.calls() >= LAST {
+            self.miss_link();
+            return Err(DeviceFault);
+        }
+        let went = self.record(Made::Redial, Done::Kept);
+        self.connect(went);
+        if went {
+            Ok(())
+        } else {
+            self.miss_link();
+            Err(DeviceFault)
+        }
     }
 }
 
@@ -338,6 +371,6 @@ impl Shop for MemDisk {
     }
 
     fn redial(&mut self) -> Result<(), DeviceFault> {
-        self.link_call(Made::Redial)
+        self.redial_call()
     }
 }

@@ -1,7 +1,7 @@
 //! A disk in memory with a record of its calls, and the images that a crash may leave behind each of them.
 //!
 //! [`MemDisk`] keeps the disk half of the promises of [`shop_model::Shop`]: which calls fail is listed when it
-//! is made. No vehicle is behind it, so that each link call fails.
+//! is made. A dial succeeds, but nobody is behind the link: each send and each receive fails.
 #![tactic(auto)]
 
 mod crash;
