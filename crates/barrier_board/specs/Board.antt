@@ -1,5 +1,7 @@
 -- The board: what is kept of each unit, and which unit is taken up next.
-use Rattle.std.specs.Prelude.{◌≡◌, ℕ, zero, suc, ◌<◌, Bool, true, false, ◌&&◌, ◌||◌, not, List, [], ◌∷◌, length, slice_index_or, set, Option, Some, None, is_none, if◌then◌else◌}
+use Rattle.std.specs.Prelude.{◌≡◌, ℕ, ◌<◌, Bool, true, false, ◌&&◌, ◌||◌, not, List, [], ◌∷◌, length, slice_index_or, set, Option, Some, None, is_none, if◌then◌else◌}
+use Rattle.flash_base.specs.Lists.{all_of}
+use Rattle.flash_base.specs.Numbers.{each_below}
 use Rattle.flash_plan.specs.declared.outcome.Entry.{Entry}
 use Rattle.flash_plan.specs.declared.outcome.Entry.TheVariants as entry
 use Rattle.flash_plan.specs.declared.outcome.Outcome.{Outcome}
@@ -10,15 +12,6 @@ use Rattle.flash_plan.specs.Plan.{plan_of, count_of}
 use Rattle.barrier_board.specs.declared.post.Post.{Post}
 use Rattle.barrier_board.specs.declared.board.Claimed.{Claimed}
 use Rattle.barrier_board.specs.declared.board.Claimed.TheVariants as claimed
-
--- of each number below n
-abbrev pub each_below : ℕ → (ℕ → Bool) → Bool
-each_below zero p = true
-each_below (suc n) p = each_below n p && p n
-
-abbrev pub all_of : List ℕ → (ℕ → Bool) → Bool
-all_of [] p = true
-all_of (x ∷ xs) p = p x && all_of xs p
 
 -- the entry is among those of a list
 abbrev pub has_entry : List Entry → Entry → Bool

@@ -1,5 +1,6 @@
 ghost use Rattle.std.specs.Prelude.{◌≡◌, ◌<◌, ◌≢◌, true, not, None, length, IfOk, MatchOption};
-ghost use Rattle.barrier_board.specs.Board.{is_free_at, each_below, post_of, at_unit, give, HasClaimed, IsFirstFree, IsStart, NamesWithin, has_entry, new_post};
+ghost use Rattle.flash_base.specs.Numbers.{each_below};
+ghost use Rattle.barrier_board.specs.Board.{is_free_at, post_of, at_unit, give, HasClaimed, IsFirstFree, IsStart, NamesWithin, has_entry, new_post};
 
 use crate::post::{Post, free};
 use flash_base::{Items, NoMemory};

@@ -1,5 +1,6 @@
 ghost use Rattle.std.specs.Prelude.{◌≡◌};
-ghost use Rattle.barrier_board.specs.Board.{is_complete, is_free, all_of};
+ghost use Rattle.flash_base.specs.Lists.{all_of};
+ghost use Rattle.barrier_board.specs.Board.{is_complete, is_free};
 
 use flash_base::Items;
 use flash_plan::Outcome;

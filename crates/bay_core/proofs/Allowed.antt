@@ -11,7 +11,8 @@ use Rattle.bay_core.specs.declared.event.Event.TheVariants.{Sent, Collected}
 use Rattle.run_model.specs.Link.{is_up}
 use Rattle.run_model.specs.Script.{Place, AtIdent, AtBegin, AtProgram, AtSeed, AtKey, AtErase, AtDownload, AtBlock, AtExit, AtCheck, AtFinish, AtReset, AtDone, AtEnd, request_at}
 use Rattle.bay_core.specs.Core.{Core}
-use Rattle.bay_core.specs.Legal.{is_allowed, is_open_unit, is_clear, is_running, is_begin, is_done, may_begin, may_finish, is_ready, all_of, has_word, fits_inbox}
+use Rattle.flash_base.specs.Lists.{all_of}
+use Rattle.bay_core.specs.Legal.{is_allowed, is_open_unit, is_clear, is_running, is_begin, is_done, may_begin, may_finish, is_ready, has_word, fits_inbox}
 use Rattle.run_model.specs.Places.{needs_request}
 
 pub not_true : (b : Bool) → not b ≡ true → b ≡ false

@@ -7,7 +7,8 @@ use Rattle.bay_core.proofs.Links.{Steps, heard_steps, taken_steps, tend_steps}
 use Rattle.bay_core.proofs.Talks.{start_talk, start_going, lost_talk, lost_idle, lost_going, sent_talk, takes_talk, quiet_talk, more_talk}
 use Rattle.bay_core.specs.Core.{Slot, Core, with_slot, with_talk, core_start, collects, slots_own, recorded_after, doubt_after, stop_after, is_disk_failure, core_after, heard_link, link_after}
 use Rattle.bay_core.specs.Joint.{IsTalk, IsSlot, IsSane, is_open_slot}
-use Rattle.bay_core.specs.Legal.{is_allowed, all_of, may_tend, is_done}
+use Rattle.flash_base.specs.Lists.{all_of}
+use Rattle.bay_core.specs.Legal.{is_allowed, may_tend, is_done}
 use Rattle.bay_core.specs.declared.event.Event.TheVariants.{Claimed, Began, Sent, Collected, Tended, Completed, DiskFailed, Ended}
 use Rattle.bay_core.specs.declared.event.Event.{Event}
 use Rattle.bay_core.specs.declared.event.Heard.TheVariants.{Kept, Quiet, Piece, Lost}

@@ -1,5 +1,7 @@
 -- Which events are allowed.
-use Rattle.std.specs.Prelude.{ℕ, zero, suc, Bool, true, false, ◌&&◌, ◌||◌, ◌==◌, not, nat_lt, List, [], ◌∷◌, Option, Some, None, is_some, is_none, if◌then◌else◌}
+use Rattle.std.specs.Prelude.{ℕ, Bool, true, false, ◌&&◌, ◌||◌, ◌==◌, not, nat_lt, List, [], ◌∷◌, Option, Some, None, is_some, is_none, if◌then◌else◌}
+use Rattle.flash_base.specs.Lists.{all_of}
+use Rattle.flash_base.specs.Numbers.{each_below}
 use Rattle.flash_plan.specs.declared.outcome.Outcome.TheVariants.{DiskFault, NoMemory, Blocked}
 use Rattle.flash_plan.specs.declared.unit.UnitPlan.{UnitPlan}
 use Rattle.flash_plan.specs.declared.unit.LinkRules.{LinkRules}
@@ -17,14 +19,6 @@ use Rattle.bay_core.specs.declared.event.Event.TheVariants.{Claimed, Began, Sent
 use Rattle.run_model.specs.Link.{is_down, is_fresh, is_waiting, is_up, first_word}
 use Rattle.run_model.specs.Script.{Place, AtBegin, AtDone, AtEnd, request_at}
 use Rattle.bay_core.specs.Core.{Core, core_after}
-
-abbrev pub each_below : ℕ → (ℕ → Bool) → Bool
-each_below zero p = true
-each_below (suc n) p = each_below n p && p n
-
-abbrev pub all_of : List ℕ → (ℕ → Bool) → Bool
-all_of [] p = true
-all_of (x ∷ xs) p = p x && all_of xs p
 
 abbrev pub is_running : Core → Bool
 is_running c = is_none c.stop

@@ -170,6 +170,7 @@ fn show_other<R: Print + Alloc<A = Global>>(rt: &R) -> io::Result<()> {
     )
 }
 
+/// Prints a frame of each kind, one to a line.
 pub fn show_all<R: Print + Alloc<A = Global>>(rt: &R) -> io::Result<()> {
     show_connection(rt)?;
     show_messages(rt)?;

@@ -105,6 +105,7 @@ fn show_bodies<R: Print + Alloc<A = Global>>(rt: &R) -> io::Result<()> {
     Ok(())
 }
 
+/// Prints each request with its bytes, one to a line.
 pub fn show_all<R: Print + Alloc<A = Global>>(rt: &R) -> io::Result<()> {
     for kind in 1..4u8 {
         show(rt, &Request::Session { kind })?;

@@ -6,6 +6,10 @@ abbrev pub Each : {T : Type 0} → (T → Type 0) → List T → Type 0
 Each P [] = Unit {0}
 Each P (x ∷ xs) = P x × Each P xs
 
+abbrev pub all_of : {T : Type 0} → List T → (T → Bool) → Bool
+all_of [] p = true
+all_of (x ∷ xs) p = p x && all_of xs p
+
 -- the first list begins the second
 abbrev pub BeginsWith : {T : Type 0} → List T → List T → Type 0
 BeginsWith {T} xs ys = (more : List T) × (ys ≡ xs ++ more)

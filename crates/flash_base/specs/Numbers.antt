@@ -1,5 +1,5 @@
 -- Numbers as bytes, the first byte the greatest: the byte order of UDS, DoIP, the journal and the plan bytes.
-use Rattle.std.specs.Prelude.{ℕ, zero, suc, ◌+◌, ◌*◌, ◌/◌, ◌%◌, List, [], ◌∷◌, ◌++◌}
+use Rattle.std.specs.Prelude.{ℕ, zero, suc, ◌+◌, ◌*◌, ◌/◌, ◌%◌, Bool, true, false, ◌&&◌, ◌||◌, List, [], ◌∷◌, ◌++◌}
 
 -- the number that two bytes are
 abbrev pub number2 : ℕ → ℕ → ℕ
@@ -26,3 +26,12 @@ number_after n (x ∷ xs) = number_after (n * 256 + x) xs
 -- the number that a list of bytes is
 abbrev pub number_of : List ℕ → ℕ
 number_of xs = number_after 0 xs
+
+-- of each number below n, of some number below n
+abbrev pub each_below : ℕ → (ℕ → Bool) → Bool
+each_below zero p = true
+each_below (suc n) p = each_below n p && p n
+
+abbrev pub some_below : ℕ → (ℕ → Bool) → Bool
+some_below zero p = false
+some_below (suc n) p = some_below n p || p n

@@ -8,7 +8,7 @@ nth_plan-get [] n u h = cc
 nth_plan-get (x ∷ xs) zero u h = cc
 nth_plan-get (x ∷ xs) (suc n) u h = nth_plan-get xs n u h
 
-nth_plan-read : (us : List UnitPlan) (n : ℕ) (u : UnitPlan) → n < length us → u ≡ get_or us n u → nth_plan us n ≡ u
+pub nth_plan-read : (us : List UnitPlan) (n : ℕ) (u : UnitPlan) → n < length us → u ≡ get_or us n u → nth_plan us n ≡ u
 nth_plan-read [] n u lt h = absurd (omega (arith, lt))
 nth_plan-read (x ∷ xs) zero u lt h = sym h
 nth_plan-read (x ∷ xs) (suc n) u lt h = nth_plan-read xs n u (omega (arith, lt)) h

@@ -1,5 +1,5 @@
 -- Drafts in the first form, and the units that they are.
-use Rattle.std.specs.Prelude.{◌≡◌, ◌+◌, ◌<◌, ◌≤◌, List, [], ◌∷◌, length}
+use Rattle.std.specs.Prelude.{◌≡◌, ◌+◌, ◌<◌, ◌≤◌, [], length}
 use Rattle.flash_base.specs.Lists.{Each}
 use Rattle.flash_base.specs.declared.unit.KeyRule.TheVariants.{Free}
 use Rattle.flash_plan.specs.declared.unit.Draft.{Draft}
@@ -30,9 +30,3 @@ pub record IsPlain (d : Draft) : Type 0 where
   pub after : d.after ≡ []
   pub one : length d.segments ≡ 1
   pub short : Each IsShort d.segments
-
--- one draft, in the first form
-abbrev pub IsFirstForm : List Draft → Type 0
-IsFirstForm [] = ⊥
-IsFirstForm (d ∷ []) = IsPlain d
-IsFirstForm (d ∷ e ∷ ds) = ⊥

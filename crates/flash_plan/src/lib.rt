@@ -2,15 +2,21 @@
 //! the entries that a journal keeps of it, and the outcomes that a unit may have.
 #![tactic(auto)]
 
+mod accepting;
+mod cycle;
 mod fault;
+mod limits;
+mod naming;
+mod numbering;
 mod outcome;
 mod plan;
 mod unit;
 mod writing;
 
+pub use accepting::accept;
 pub use fault::{PlanFault, What};
 pub use outcome::{Entries, Entry, Outcome};
-pub use plan::{Plan, accept};
+pub use plan::Plan;
 pub use unit::{Draft, LinkRules, Segment, UnitPlan, Wanted};
 
 #[cfg(test)]

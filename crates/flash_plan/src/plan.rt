@@ -1,10 +1,8 @@
-ghost use Rattle.std.specs.Prelude.{◌≡◌, ◌⊎◌, ◌<◌, Ok, Err, IfOk, length, map};
+ghost use Rattle.std.specs.Prelude.{◌≡◌, ◌<◌, IfOk};
 ghost use Rattle.flash_plan.specs.Canonical.{canonical, plan_digest};
-ghost use Rattle.flash_plan.specs.Drafts.{IsFirstForm, numbered};
 ghost use Rattle.flash_plan.specs.Plan.{plan_of, count_of, IsAccepted};
 
-use crate::fault::PlanFault;
-use crate::unit::{Draft, UnitPlan};
+use crate::unit::UnitPlan;
 use crate::writing::{digest_of, plan_bytes};
 use flash_base::{Bytes, Items, NoMemory};
 use std::alloc::Global;
@@ -58,69 +56,23 @@ impl Plan {
         plan_bytes(self.alloc, &self.units)
     }
 
+    /// The plan of units that are accepted, with its digest.
+    pub(crate) fn of_units(alloc: Global, units: Items<UnitPlan>) -> Result<Plan, NoMemory>
+        requires { IsAccepted units }
+        ensures { IfOk result (λ plan. plan ≡ units) }
+    {
+        let digest = digest_of(alloc, &units)?;
+        Ok(Plan {
+            units,
+            digest,
+            alloc,
+        })
+    }
+
     /// The SHA-256 of the canonical bytes, kept since acceptance.
     pub fn digest(&self) -> [u8; 32]
         ensures { result ≡ plan_digest self.now }
     {
         self.digest
-    }
-}
-
-/// The plan of one draft. It needs a draft in the first form: width 44, no key rule, no expected
-/// identifiers, nothing in `after`, and one segment of 1 to 256 bytes that ends at most at 2^32.
-/// So it refuses only for want of memory.
-pub fn accept(alloc: Global, drafts: Items<Draft>) -> Result<Plan, PlanFault>
-    requires { IsFirstForm drafts }
-    ensures made { (result ≡ Err PlanFault.NoMemory) ⊎ (result ≡ Ok (map numbered drafts)) }
-    ensures accepted { IfOk result (λ units. IsAccepted units) }
-{
-    let units = units_of(alloc, drafts)?;
-    let digest = digest_of(alloc, &units)?;
-    Ok(Plan {
-        units,
-        digest,
-        alloc,
-    })
-}
-
-/// The unit of the one draft.
-fn units_of(alloc: Global, drafts: Items<Draft>) -> Result<Items<UnitPlan>, NoMemory>
-    requires { IsFirstForm drafts }
-    ensures { IfOk result (λ units. units ≡ map numbered drafts) }
-{
-    let mut drafts = drafts.into_vec();
-    let mut units = Items::new(alloc);
-    match drafts.pop() {
-        Some(draft) => {
-            units.push(unit_of(alloc, draft))?;
-            Ok(units)
-        }
-        None => Ok(units),
-    }
-}
-
-/// The unit of a draft that waits for no other.
-fn unit_of(alloc: Global, draft: Draft) -> UnitPlan
-    ensures { result ≡ numbered draft }
-{
-    let Draft {
-        name,
-        address,
-        width,
-        check,
-        key,
-        idents,
-        after: _,
-        segments,
-    } = draft;
-    UnitPlan {
-        name,
-        address,
-        width,
-        check,
-        key,
-        idents,
-        after: Items::new(alloc),
-        segments,
     }
 }

@@ -1,4 +1,5 @@
-use crate::plan::{Plan, accept};
+use crate::accepting::accept;
+use crate::plan::Plan;
 use crate::unit::{Draft, Segment};
 use flash_base::{Bytes, Items, KeyRule, Names, Text, Width};
 use std::alloc::Global;

@@ -20,6 +20,7 @@ impl<W> Model for StreamSink<W> {
 }
 
 impl<W> StreamSink<W> {
+    /// A sink over any writer; nothing has failed so far.
     pub fn new(inner: W) -> StreamSink<W>
         ensures { result ≡ 0 }
     {

@@ -1,19 +1,10 @@
 -- What an image of the journal records.
-use Rattle.std.specs.Prelude.{◌≡◌, ℕ, zero, suc, ◌+◌, ◌*◌, ◌-◌, ◌/◌, ◌%◌, ◌<◌, ◌≤◌, Bool, true, false, not, ◌&&◌, ◌||◌, ◌==◌, nat_lt, nat_le, List, [], ◌∷◌, ◌++◌, length, replicate, slice_index}
-use Rattle.flash_base.specs.Numbers.{big_endian}
+use Rattle.std.specs.Prelude.{◌≡◌, ℕ, ◌+◌, ◌*◌, ◌-◌, ◌/◌, ◌%◌, ◌<◌, ◌≤◌, Bool, true, false, not, ◌&&◌, ◌||◌, ◌==◌, nat_lt, nat_le, List, [], ◌∷◌, ◌++◌, length, replicate, slice_index}
+use Rattle.flash_base.specs.Numbers.{big_endian, each_below, some_below}
 use Rattle.flash_plan.specs.declared.outcome.Entry.{Entry}
 use Rattle.flash_plan.specs.declared.outcome.Entry.TheVariants.{Begun, Complete}
 use Rattle.flash_plan.specs.declared.unit.UnitPlan.{UnitPlan}
 use Rattle.flash_plan.specs.Canonical.{plan_digest}
-
--- of each number below n, of some number below n
-abbrev pub each_below : ℕ → (ℕ → Bool) → Bool
-each_below zero p = true
-each_below (suc n) p = each_below n p && p n
-
-abbrev pub some_below : ℕ → (ℕ → Bool) → Bool
-some_below zero p = false
-some_below (suc n) p = some_below n p || p n
 
 -- what a journal is of: the digest of a plan, and its number of units
 pub record Label : Type 0 where

@@ -5,7 +5,8 @@ use Rattle.std.proofs.lemmas.Bool.{cases_Bool, cases_eq, leb-true, both_ways, ne
 use Rattle.std.proofs.lemmas.List.{get_or-set_same, get_or-set_other}
 use Rattle.flash_plan.specs.declared.outcome.Entry.{Entry}
 use Rattle.flash_plan.specs.declared.outcome.Entry.TheVariants.{Begun, Complete}
-use Rattle.journal_model.specs.Records.{Label, slots_of, unit_of, some_below, is_open, body_of}
+use Rattle.flash_base.specs.Numbers.{some_below}
+use Rattle.journal_model.specs.Records.{Label, slots_of, unit_of, is_open, body_of}
 use Rattle.journal_steps.specs.Append.{Records, and_entry, is_entry, IsPrepared}
 use Rattle.journal_steps.proofs.Slots.{none_below}
 use Rattle.journal_steps.proofs.Same.{Agrees, journal_same, has_same, some_same}

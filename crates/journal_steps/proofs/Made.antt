@@ -4,7 +4,8 @@ use Rattle.std.specs.Prelude.{◌==◌, Bool, not, ◌&&◌, ◌||◌, nat_le, s
 use Rattle.std.proofs.lemmas.Bool.{cases_Bool, cases_eq, and_parts, and_from, and_left, or_cases, both_ways, eq-eqb, eqb-true, ne_eqb, le-leb, leb-true}
 use Rattle.flash_plan.specs.declared.outcome.Entry.{Entry}
 use Rattle.flash_plan.specs.declared.outcome.Entry.TheVariants.{Begun, Complete}
-use Rattle.journal_model.specs.Records.{Label, slots_of, magic, magic_and_version, number4, stands_at, each_below, some_below, is_fresh, is_headed, is_journal, is_open, has, spells}
+use Rattle.flash_base.specs.Numbers.{each_below, some_below}
+use Rattle.journal_model.specs.Records.{Label, slots_of, magic, magic_and_version, number4, stands_at, is_fresh, is_headed, is_journal, is_open, has, spells}
 use Rattle.journal_steps.specs.Append.{Records}
 use Rattle.journal_steps.specs.Make.{IsStart, IsMade, no_entry}
 use Rattle.journal_steps.proofs.Slots.{below_at, below_from, none_below}

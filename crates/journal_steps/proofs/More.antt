@@ -4,7 +4,8 @@ use Rattle.std.specs.Prelude.{◌==◌, Bool, not, ◌&&◌, ◌||◌, nat_le}
 use Rattle.std.proofs.lemmas.Bool.{cases_Bool, cases_eq, and_parts, and_from, and_left, both_ways, eq-eqb, eqb-true}
 use Rattle.flash_plan.specs.declared.outcome.Entry.{Entry}
 use Rattle.flash_plan.specs.declared.outcome.Entry.TheVariants.{Begun, Complete}
-use Rattle.journal_model.specs.Records.{Label, each_below, some_below, slots_of, is_open, spells, has, is_formed, is_distinct, is_ordered, body_of, unit_of, stands_at, number4, is_headed, says_digest, is_standing}
+use Rattle.flash_base.specs.Numbers.{each_below, some_below}
+use Rattle.journal_model.specs.Records.{Label, slots_of, is_open, spells, has, is_formed, is_distinct, is_ordered, body_of, unit_of, stands_at, number4, is_headed, says_digest, is_standing}
 use Rattle.journal_steps.proofs.Slots.{below_at, below_from, below_same}
 use Rattle.journal_steps.specs.Append.{Records, and_entry, IsPrepared, is_entry}
 use Rattle.journal_steps.proofs.Same.{Agrees, some_same, some_at, spells_same, slot_same, formed_same, apart_same, headed_same, digest_same, count_same}

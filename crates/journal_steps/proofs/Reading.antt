@@ -5,7 +5,8 @@ use Rattle.std.proofs.lemmas.Bool.{cases_Bool, cases_eq, cases_lt, or_cases, and
 use Rattle.std.proofs.lemmas.List.{get_or-replicate, get_or_past, get_or-set_same, get_or-set_other, length-replicate}
 use Rattle.flash_plan.specs.declared.outcome.Entry.{Entry}
 use Rattle.flash_plan.specs.declared.outcome.Entry.TheVariants.{Begun, Complete}
-use Rattle.journal_model.specs.Records.{each_below, some_below, is_open, spells, has, unit_of, body_of, is_formed, is_distinct, is_ordered}
+use Rattle.flash_base.specs.Numbers.{each_below, some_below}
+use Rattle.journal_model.specs.Records.{is_open, spells, has, unit_of, body_of, is_formed, is_distinct, is_ordered}
 use Rattle.journal_steps.specs.Append.{is_entry}
 use Rattle.journal_steps.specs.Tables.{count_true, place_of}
 use Rattle.journal_steps.specs.Read.{IsRead, IsReadUpTo, has_upto, table_ordered}

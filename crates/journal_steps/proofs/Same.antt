@@ -4,7 +4,8 @@ use Rattle.std.specs.Prelude.{◌==◌, Bool, not, ◌&&◌, ◌||◌, nat_le, r
 use Rattle.std.proofs.lemmas.Bool.{cases_Bool, cases_eq, and_left}
 use Rattle.flash_plan.specs.declared.outcome.Entry.{Entry}
 use Rattle.flash_plan.specs.declared.outcome.Entry.TheVariants.{Begun, Complete}
-use Rattle.journal_model.specs.Records.{Label, some_below, slots_of, is_open, spells, has, is_formed, is_distinct, is_ordered, is_journal, body_of, magic, magic_and_version, number4, stands_at, is_fresh, is_headed, says_digest, is_standing}
+use Rattle.flash_base.specs.Numbers.{some_below}
+use Rattle.journal_model.specs.Records.{Label, slots_of, is_open, spells, has, is_formed, is_distinct, is_ordered, is_journal, body_of, magic, magic_and_version, number4, stands_at, is_fresh, is_headed, says_digest, is_standing}
 use Rattle.journal_steps.specs.Read.{one_formed, one_apart, one_distinct}
 use Rattle.journal_steps.proofs.Slots.{below_same}
 

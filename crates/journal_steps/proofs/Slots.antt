@@ -2,7 +2,7 @@
 use Rattle.std.proofs.Common.{◌≡◌, inl, inr, ℕ, zero, suc, ◌<◌, true, false, refl, sym, subst, arith}
 use Rattle.std.specs.Prelude.{Bool, ◌&&◌, ◌||◌}
 use Rattle.std.proofs.lemmas.Bool.{cases_eq, and_parts, and_from}
-use Rattle.journal_model.specs.Records.{each_below, some_below}
+use Rattle.flash_base.specs.Numbers.{each_below, some_below}
 
 pub below_at : (n : ℕ) (p : ℕ → Bool) → each_below n p ≡ true → (k : ℕ) → k < n → p k ≡ true
 below_at zero p all k lt = absurd (omega (arith, lt))

@@ -4,7 +4,8 @@ use Rattle.disk_model.specs.Disk.{DiskState, IsCrashImage, IsSettled}
 use Rattle.flash_plan.specs.declared.outcome.Entry.{Entry}
 use Rattle.flash_plan.specs.declared.outcome.Entry.TheVariants.{Begun, Complete}
 use Rattle.flash_plan.specs.Outcomes.{same_entry}
-use Rattle.journal_model.specs.Records.{Label, each_below, some_below, slots_of, unit_of, body_of, has, is_journal, is_open}
+use Rattle.flash_base.specs.Numbers.{each_below, some_below}
+use Rattle.journal_model.specs.Records.{Label, slots_of, unit_of, body_of, has, is_journal, is_open}
 
 -- the two entries have one spelling
 abbrev pub is_entry : Entry → Entry → Bool

@@ -3,7 +3,8 @@ use Rattle.std.specs.Prelude.{◌≡◌, ℕ, ◌+◌, ◌*◌, ◌<◌, ◌≤�
 use Rattle.flash_plan.specs.declared.outcome.Entry.{Entry}
 use Rattle.flash_plan.specs.declared.outcome.Entry.TheVariants.{Begun, Complete}
 use Rattle.flash_plan.specs.Outcomes.{same_entry}
-use Rattle.journal_model.specs.Records.{each_below, some_below, is_open, spells, has}
+use Rattle.flash_base.specs.Numbers.{each_below, some_below}
+use Rattle.journal_model.specs.Records.{is_open, spells, has}
 use Rattle.journal_steps.specs.Tables.{count_true, place_of}
 
 -- the tables have the gates and the entries of the bytes

@@ -31,6 +31,7 @@ impl Model for Inbox {
 }
 
 impl Inbox {
+    /// An inbox with no message; it takes no memory.
     pub fn new(alloc: Global) -> Inbox
         ensures { result ≡ [] }
     {

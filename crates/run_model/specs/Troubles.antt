@@ -1,12 +1,12 @@
 -- The troubles of a run: how often something failed or departed, by each count.
-use Rattle.std.specs.Prelude.{◌≡◌, ℕ, ◌-◌, ◌==◌, Option, Some, None, if◌then◌else◌}
+use Rattle.std.specs.Prelude.{◌≡◌, ℕ, ◌-◌, nat_le, Option, Some, None, if◌then◌else◌}
 use Rattle.shop_model.specs.History.{History, vehicle_now}
 use Rattle.unit_model.specs.Unit.{ControlUnit, Counts, LAST_COUNT}
 use Rattle.unit_model.specs.Vehicle.{Vehicle, unit_at}
 
--- how much a count rose; one that stands at its last value rose
+-- How much a count rose; one that stands at its last value rose. A count never falls and has no value above the last.
 abbrev pub trouble : ℕ → ℕ → ℕ
-trouble old new = if new == old then (if old == LAST_COUNT then 1 else 0) else new - old
+trouble old new = if nat_le new old then (if nat_le LAST_COUNT old then 1 else 0) else new - old
 
 abbrev pub IsCalm : ℕ → ℕ → Type 0
 IsCalm old new = trouble old new ≡ 0

@@ -7,7 +7,7 @@ use Rattle.unit_model.specs.declared.reply.Got.{Got}
 use Rattle.unit_model.specs.declared.reply.Got.TheVariants.{Quiet, Bytes}
 use Rattle.unit_model.specs.Vehicle.{Vehicle, redialed}
 use Rattle.unit_model.specs.Feed.{Feeds, FeedsPart}
-use Rattle.unit_model.specs.Poll.{Ticks, Carries, IsShown, Misses}
+use Rattle.unit_model.specs.Poll.{Ticks, Carries, IsPlain, Misses}
 
 -- a call, with what it was given
 pub data Call : Type 0 where
@@ -91,8 +91,8 @@ abbrev pub IsPiece : ℕ → Got → Type 0
 IsPiece room Quiet = Unit {0}
 IsPiece room (Bytes n) = (1 ≤ n) × (n ≤ room)
 
--- A receive into `out`; Clean says that it was not garbled.
+-- A receive into `out`; Clean says that it was not garbled, so that the piece is the next due bytes.
 abbrev pub Received : List ℕ → Type 0 → Vehicle → Vehicle → Result Got DeviceFault → Type 0
 Received out Clean old new (Ok Quiet) = Ticks old new
-Received out Clean old new (Ok (Bytes n)) = Carries (take n out) old new × (Clean → IsShown (take n out) old new)
+Received out Clean old new (Ok (Bytes n)) = Carries (take n out) old new × (Clean → IsPlain (take n out) old new)
 Received out Clean old new (Err e) = Misses old new

@@ -16,7 +16,8 @@ use Rattle.journal_steps.specs.Make.{no_entry}
 use Rattle.bay_core.proofs.OneStep.{core_law, step_law}
 use Rattle.bay_core.specs.Core.{Core, core_start, core_after}
 use Rattle.bay_core.specs.Joint.{IsJoint}
-use Rattle.bay_core.specs.Legal.{is_allowed, all_of}
+use Rattle.flash_base.specs.Lists.{all_of}
+use Rattle.bay_core.specs.Legal.{is_allowed}
 use Rattle.bay_core.specs.declared.event.Event.TheVariants.{Claimed, Sent as Was_sent, Tended}
 use Rattle.bay_core.specs.declared.event.Tend.TheVariants.{Dialed, Asked}
 use Rattle.thin_engine.specs.Shown.{Keeps}

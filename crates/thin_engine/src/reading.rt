@@ -140,6 +140,7 @@ fn read_message(route: &Route, rest: &[u8]) -> Behind
     }
 }
 
+/// The bytes from a place on.
 pub fn from_on(got: &[u8], from: usize) -> &[u8]
     requires { from ≤ length got.now }
     ensures { result.now ≡ drop from got.now }
@@ -212,6 +213,7 @@ pub enum Awaited {
     Answer,
 }
 
+/// What the bytes that came so far are, read as what is awaited.
 pub fn read_awaited(awaited: Awaited, route: &Route, got: &[u8]) -> Reading
     ensures within { IsWithin (length got.now) result }
     ensures read { IsRead awaited route.now.tester route.now.unit got.now result }

@@ -1,6 +1,7 @@
 use Rattle.std.proofs.Common.{◌≡◌, true}
 use Rattle.std.specs.Prelude.{not}
-use Rattle.barrier_board.specs.Board.{each_below, is_free_at}
+use Rattle.flash_base.specs.Numbers.{each_below}
+use Rattle.barrier_board.specs.Board.{is_free_at}
 use Rattle.barrier_board.proofs.board.first_free.Given as goal
 
 abbrev pub invariant-loop-i : goal.invariant-loop-i

@@ -1,5 +1,6 @@
 use Rattle.std.proofs.Common.{◌≡◌, drop}
-use Rattle.barrier_board.specs.Board.{is_complete, all_of}
+use Rattle.flash_base.specs.Lists.{all_of}
+use Rattle.barrier_board.specs.Board.{is_complete}
 use Rattle.barrier_board.proofs.post.all_complete.Given as goal
 
 abbrev pub invariant-loop-unit : goal.invariant-loop-unit
