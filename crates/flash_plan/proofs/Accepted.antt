@@ -13,7 +13,7 @@ use Rattle.flash_plan.specs.declared.unit.Draft.{Draft}
 use Rattle.flash_plan.specs.declared.unit.Segment.{Segment}
 use Rattle.flash_plan.specs.declared.unit.UnitPlan.{UnitPlan}
 use Rattle.flash_plan.specs.declared.unit.Wanted.{Wanted}
-use Rattle.flash_plan.specs.Accepting.{draft_of, no_draft, first_from, first_task, is_some_from, is_some_below, has_same_name, has_same_address, has_wide, is_wide, is_split, is_large, is_long_value, has_long_value, has_many_idents, total_of_drafts, too_many, numbers_from, after_of, unit_of, units_of, IsAsked, IsDraft, IsNamed, IsAddressed, IsKnown, IsOrdered}
+use Rattle.flash_plan.specs.Accepting.{draft_of, first_from, first_task, is_some_from, has_same_name, has_same_address, has_wide, is_wide, is_split, is_large, is_long_value, has_long_value, has_many_idents, total_of_drafts, too_many, numbers_from, after_of, unit_of, units_of, IsAsked, IsDraft, IsOrdered}
 use Rattle.flash_plan.specs.Plan.{plan_of, count_of, total_of, size_of, Ascend, IsAccepted, IsAcceptedUnit, IsFit, IsWanted}
 
 -- ------ tests that fail

@@ -1,4 +1,5 @@
 pub mod Accepted
+pub mod Fixtures
 pub mod Marks
 pub mod Numbers
 pub mod Tasks

@@ -1,5 +1,5 @@
 -- What the tests on drafts say of the answer.
-use Rattle.std.proofs.Common.{◌≡◌, ◌⊎◌, inl, inr, ℕ, zero, suc, ◌+◌, ◌<◌, ◌≤◌, Bool, true, false, List, [], ◌∷◌, length, map, Option, Some, None, Err, if◌then◌else◌, refl, sym, ◌∙◌, ap, subst, arith}
+use Rattle.std.proofs.Common.{◌≡◌, ℕ, zero, suc, ◌+◌, ◌<◌, ◌≤◌, Bool, true, false, List, [], ◌∷◌, length, Some, None, Err, if◌then◌else◌, sym, ap, subst, arith}
 use Rattle.std.proofs.lemmas.List.{length-map}
 use Rattle.flash_base.specs.Lists.{Each}
 use Rattle.flash_plan.specs.declared.fault.PlanFault.TheVariants.{SameUnit}
@@ -7,7 +7,7 @@ use Rattle.flash_plan.specs.declared.unit.Draft.{Draft}
 use Rattle.flash_plan.specs.declared.unit.UnitPlan.{UnitPlan}
 use Rattle.flash_plan.specs.Accepting.{draft_of, first_from, first_task, has_same_name, has_same_address, has_unknown, too_many, unit_of, units_of, IsAnswer, IsDraft, IsNamed, IsAddressed, IsKnown, IsOrdered, IsFirstCycle}
 use Rattle.flash_plan.specs.Cycles.{AreWithin, IsFirstCycleTest}
-use Rattle.flash_plan.specs.Plan.{count_of, IsWidth, StandsBefore}
+use Rattle.flash_plan.specs.Plan.{IsWidth}
 use Rattle.flash_plan.proofs.Accepted.{few_is, IsFew, after_within}
 
 pub few_drafts : (ds : List Draft) → too_many ds ≡ None → length ds ≤ 64

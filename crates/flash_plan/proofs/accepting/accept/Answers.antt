@@ -1,5 +1,5 @@
 use Rattle.std.proofs.Common.{rules, ◌≡◌, None, sym, ◌∙◌, subst}
-use Rattle.flash_plan.specs.Accepting.{first_task, has_wide, units_of, IsKnown, IsOrdered}
+use Rattle.flash_plan.specs.Accepting.{first_task, has_wide, IsKnown, IsOrdered}
 use Rattle.flash_plan.specs.Cycles.{IsFirstCycleTest}
 use Rattle.flash_plan.specs.Plan.{IsAccepted}
 use Rattle.flash_plan.specs.Refusals.{IsRefusal}

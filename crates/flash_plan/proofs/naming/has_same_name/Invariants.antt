@@ -1,4 +1,4 @@
-use Rattle.std.proofs.Common.{◌≡◌, ◌==◌, ◌-◌, bytes_eq}
+use Rattle.std.proofs.Common.{◌≡◌, ◌-◌, bytes_eq}
 use Rattle.flash_plan.specs.Accepting.{draft_of, has_same_name, is_some_from}
 use Rattle.flash_plan.proofs.naming.has_same_name.Given as goal
 
