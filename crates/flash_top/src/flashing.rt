@@ -30,6 +30,10 @@ use thin_engine::drive;
 /// Runs the command that the words are: so far `run ORDER 1`, which builds the plan of an order
 /// file, programs its unit, records it in the journal and prints a report. The shop is handed back
 /// with what became of it. Nothing is written to disk or vehicle before a plan was accepted.
+///
+/// The clauses on a run that nothing disturbs have one premise beside the counts that did not rise
+/// (`IsPlainRun`): on a connection that is dialed in the run the vehicle sends no response pending
+/// and no alive check request, since the engine for one unit serves neither and ends the run there.
 pub fn flash<R: Threads + Wait + Sync, F: Shelf, S: Shop + Send, K: Sink>(
     _rt: &R,
     alloc: Global,
@@ -78,8 +82,9 @@ pub fn flash<R: Threads + Wait + Sync, F: Shelf, S: Shop + Send, K: Sink>(
         → (IsTrue S.tells_disk → RecordsBoth (label_of b.plan) (disk_now (S.history result.0)))
         × (K.written out.new ≡ K.written out.old ++ report_text b.plan (outcome.Complete ∷ [])) }
 
-    // Where no call and no shelf or sink fails, the vehicle departs from nothing and its unit fits, the unit of an accepted
-    // order is programmed, recorded in the empty journal and reported, but for want of memory.
+    // Where no call and no shelf or sink fails, the vehicle departs from nothing, sends no response pending and no alive check
+    // request, and its unit fits, the unit of an accepted order is programmed, recorded in the empty journal and reported, but
+    // for want of memory.
     ensures complete { IsTrue F.tells → IsTrue S.tells_disk → IsTrue S.tells_vehicle → IsTrue K.tells
         → (order : List ℕ) (b : Built) → words_of (map string_bytes words.now) ≡ Some order → built (F.contents shelf.old) order ≡ Ok b
         → (disk_now (S.history shop)).bytes ≡ [] → Matches b.plan none_recorded (vehicle_now (S.history shop))

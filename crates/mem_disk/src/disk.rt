@@ -275,6 +275,7 @@ impl MemDisk {
     }
 }
 
+/// The bytes with `bytes` put at place `at`, over what is there and past the end.
 pub(crate) fn spliced(
     alloc: Global,
     old: &[u8],
@@ -292,6 +293,7 @@ pub(crate) fn spliced(
     Ok(next)
 }
 
+/// The same bytes.
 pub(crate) fn copied(alloc: Global, bytes: &[u8]) -> Result<Vec<u8>, NoMemory>
     ensures { IfOk result (λ v. v.items ≡ bytes.now) }
 {

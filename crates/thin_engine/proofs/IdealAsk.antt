@@ -17,7 +17,7 @@ use Rattle.thin_engine.specs.Collecting.{FromAwaits, Collected, HasAsked}
 use Rattle.thin_engine.specs.Coming.{Rests, awaited_bytes, body_at}
 use Rattle.thin_engine.specs.Growing.{VehicleUp}
 use Rattle.thin_engine.specs.SameUnits.{IsSame, AreSame}
-use Rattle.thin_engine.specs.Undisturbed.{IsCounted, IsQuietPart, IsUndisturbed, IsDialed}
+use Rattle.thin_engine.specs.Undisturbed.{IsQuietPart, IsUndisturbed, IsDialed}
 use Rattle.thin_engine.specs.declared.asking.Trouble.{Trouble}
 use Rattle.thin_engine.specs.declared.asking.Trouble.TheVariants.{NoMemory, NoAnswer, LinkLost, Denied}
 use Rattle.thin_engine.specs.declared.reading.Awaited.TheVariants.{Activation, Answer}
@@ -36,7 +36,7 @@ module _ (tester unit : ℕ) where
   ask_ends body frame sent a b c r ab bc up up2 is can sends collects q u there rests =
       let p = quiet_parts a b c ab bc up up2 q in
       let feeds : Feeds (message_bytes tester unit body) (vehicle_now a) (vehicle_now b) = subst (λ (xs : List ℕ). Feeds xs (vehicle_now a) (vehicle_now b)) is (sends p.first).1 in
-      let s = asked tester unit body u (vehicle_now a) (vehicle_now b) rests there can feeds p.first.counts p.first.vehicle (served_now a b ab p.first) in
+      let s = asked tester unit body u (vehicle_now a) (vehicle_now b) rests there can feeds p.first.vehicle (served_now a b ab p.first) in
       go r s (collects p.second s.after 0 (obedient u body).1 s.can s.at s.awaits)
     where
       go : (r : Result (Vec ℕ Global) Trouble) → (s : Asked tester unit body u (vehicle_now a) (vehicle_now b)) → Collected r tester (obedient u body).1 (vehicle_now b) (vehicle_now c) → HasAsked r tester unit (obedient u body) (vehicle_now a) (vehicle_now c)
@@ -62,9 +62,8 @@ module _ (tester unit : ℕ) where
       let quiet = quiet_after a b d ab bd up up23 dialed q in
       let p = quiet_parts b c d bc cd up2 up3 quiet in
       let feeds : Feeds (activate_bytes tester) (redialed (vehicle_now a)) (vehicle_now c) = subst (λ (x : Vehicle × List ℕ). Feeds x.1 x.0 (vehicle_now c)) (λ i. (fresh i, is i)) (sends p.first).1 in
-      let counted : IsCounted (redialed (vehicle_now a)) = subst (λ (x : Vehicle). IsCounted x) fresh p.first.counts in
       let calm : IsVehicleCalm (redialed (vehicle_now a)) (vehicle_now c) = subst (λ (x : Vehicle). IsVehicleCalm x (vehicle_now c)) fresh p.first.vehicle in
-      let s = activating tester unit (vehicle_now a) (vehicle_now c) feeds counted calm in
+      let s = activating tester unit (vehicle_now a) (vehicle_now c) feeds calm in
       let there2 : unit_at (vehicle_now c).units unit ≡ Some u = ap (λ (us : List ControlUnit). unit_at us unit) s.units ∙ there in
       let said : List ℕ = 0 ∷ [] in
       (drop (body_at Activation) (awaited_bytes Activation tester unit (vehicle_now a).gateway.entity said), go _ r s.units (collects p.second u (vehicle_now a).gateway.entity said (record { some = omega arith; few = omega arith }) there2 s.awaits))

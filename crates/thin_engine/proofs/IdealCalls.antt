@@ -14,7 +14,6 @@ use Rattle.unit_model.specs.declared.reply.Got.{Got}
 use Rattle.unit_model.specs.declared.reply.Got.TheVariants.{Quiet, Bytes}
 use Rattle.thin_engine.proofs.IdealCalm.{no_fault, parts, vehicle_parts}
 use Rattle.thin_engine.proofs.IdealCounts.{feeds_up, part_up, redialed_up, ticks_up, carries_up, misses_up, vehicle_same}
-use Rattle.thin_engine.proofs.IdealPoll.{shown_plain}
 use Rattle.thin_engine.specs.Collecting.{Took}
 use Rattle.thin_engine.specs.Growing.{VehicleUp}
 use Rattle.thin_engine.specs.SameUnits.{IsSame, AreSame}
@@ -41,19 +40,19 @@ dialed_up v w (Err e) did = go did.err
 
 -- ------ no call fails
 pub not_rising : {T : Type 0} (call : Call) (a b : History) (r : Result T DeviceFault) → LinkCall call a b r → IsQuietPart a b → Rises a.link_faults b.link_faults → ⊥
-not_rising call a b r did quiet rises = no_fault a.link_faults b.link_faults quiet.link_count did.never_falls quiet.link rises
+not_rising call a b r did quiet rises = no_fault a.link_faults b.link_faults quiet.link rises
 
 -- ------ what a receive took
 pub took_quiet : (got out : List ℕ) (Clean : Type 0) (v w : Vehicle) (r : Result Got DeviceFault) → r ≡ Ok Quiet → Received out Clean v w r → Took polled.Quiet got got v w
 took_quiet got out Clean v w r is did = (refl, subst (λ (x : Result Got DeviceFault). Received out Clean v w x) is did)
 
-pub took_piece : (got now out : List ℕ) (n room : ℕ) (Clean : Type 0) (v w : Vehicle) (r : Result Got DeviceFault) → r ≡ Ok (Bytes n) → Received out Clean v w r → IfOk r (IsPiece room) → room ≡ length out → Clean → IsServed w.gateway → now ≡ got ++ take n out
+pub took_piece : (got now out : List ℕ) (n room : ℕ) (Clean : Type 0) (v w : Vehicle) (r : Result Got DeviceFault) → r ≡ Ok (Bytes n) → Received out Clean v w r → IfOk r (IsPiece room) → room ≡ length out → Clean → now ≡ got ++ take n out
     → Took polled.Piece got now v w
-took_piece got now out n room Clean v w r is did piece same clean served gives =
+took_piece got now out n room Clean v w r is did piece same clean gives =
     let d = subst (λ (x : Result Got DeviceFault). Received out Clean v w x) is did in
     let p = subst (λ (x : Result Got DeviceFault). IfOk x (IsPiece room)) is piece in
     let some : 1 ≤ length (take n out) = omega (arith, length-take n out, p.0, p.1, same) in
-    (take n out, gives, some, d.0, shown_plain (take n out) v w (d.1 clean) served)
+    (take n out, gives, some, d.0, d.1 clean)
 
 -- ------ units
 same_in : (a b : Option ControlUnit) → SameIn a b → IsSame a b
@@ -103,20 +102,16 @@ pub record Undisturbed (a b c : History) : Type 0 where
 
 pub undisturbed_parts : (a b c : History) → IsLater a b → IsLater b c → VehicleUp (vehicle_now a) (vehicle_now b) → VehicleUp (vehicle_now b) (vehicle_now c) → IsUndisturbed a c → Undisturbed a b c
 undisturbed_parts a b c l m f g q =
-    let link = parts a.link_faults b.link_faults c.link_faults l.link_faults m.link_faults q.link_count q.link in
-    let vehicle = vehicle_parts (vehicle_now a) (vehicle_now b) (vehicle_now c) f g q.counts q.vehicle in
+    let link = parts a.link_faults b.link_faults c.link_faults l.link_faults m.link_faults q.link in
+    let vehicle = vehicle_parts (vehicle_now a) (vehicle_now b) (vehicle_now c) f g q.vehicle in
     record {
       first = record {
-        link_count = q.link_count;
         link = link.first;
-        counts = q.counts;
         vehicle = vehicle.first;
         served = λ k n ge lt le call. subst (λ (v : Vehicle). IsServed v.gateway) (m.vehicle_past n le) (q.served k n ge lt (omega (arith, le, m.later)) (m.calls_past k (omega (arith, lt, le)) ∙ call));
       };
       second = record {
-        link_count = link.count;
         link = link.second;
-        counts = vehicle.counts;
         vehicle = vehicle.second;
         served = λ k n ge lt le call. q.served k n (omega (arith, ge, l.later)) lt le call;
       };
@@ -130,9 +125,7 @@ pub quiet_after : (a b c : History) → IsLater a b → IsLater b c → VehicleU
 quiet_after a b c l m f g d q =
     let s = (undisturbed_parts a b c l m f g q).second in
     record {
-      link_count = s.link_count;
       link = s.link;
-      counts = s.counts;
       vehicle = s.vehicle;
       served = λ n ge le. q.served d.moment n d.from (omega (arith, d.to, ge)) le (m.calls_past d.moment d.to ∙ d.call);
     }

@@ -17,7 +17,7 @@ use Rattle.thin_engine.specs.Coming.{Rests, Awaits, awaited_bytes, body_at, read
 use Rattle.thin_engine.specs.Growing.{VehicleUp}
 use Rattle.thin_engine.specs.Reads.{read_of}
 use Rattle.thin_engine.specs.SameUnits.{AreSame}
-use Rattle.thin_engine.specs.Undisturbed.{HasCounts, IsQuietPart}
+use Rattle.thin_engine.specs.Undisturbed.{IsQuietPart}
 use Rattle.thin_engine.specs.declared.asking.Polled.TheVariants as polled
 use Rattle.thin_engine.specs.declared.asking.Trouble.{Trouble}
 use Rattle.thin_engine.specs.declared.asking.Trouble.TheVariants.{NoMemory}
@@ -68,8 +68,7 @@ module _ (awaited : Awaited) (tester unit : ℕ) (a b : History) where
         let (part, more) = goes p.first u entity said can there awaits in
         let (same, ticks) = took p.second in
         let there2 = same_unit u _ _ there (part.same unit) in
-        let counts = subst (λ (o : Option ControlUnit). HasCounts o) there2.at (p.second.counts.units unit) in
-        let on = quiet_on tester unit (all_of entity said) got quiet (vehicle_now b) (vehicle_now c) there2.now there2.at counts part.awaits more ticks p.second.vehicle (served_now b c bc p.second) in
+        let on = quiet_on tester unit (all_of entity said) got quiet (vehicle_now b) (vehicle_now c) there2.now there2.at part.awaits more ticks p.second.vehicle (served_now b c bc p.second) in
         subst (λ (xs : List ℕ). IsPart tester unit (all_of entity said) xs (quiet + 1) (steps + 1) (vehicle_now a) (vehicle_now c) × (length xs < length (all_of entity said))) (sym same) (
           record {
             awaits = on;

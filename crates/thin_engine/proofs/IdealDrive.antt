@@ -26,7 +26,7 @@ use Rattle.thin_engine.specs.Growing.{VehicleUp}
 use Rattle.thin_engine.specs.Programming.{CanTake, AtStage, Programmed, HasImage, HasRun}
 use Rattle.thin_engine.specs.SameUnits.{AreSame}
 use Rattle.thin_engine.specs.Stages.{IsFirst, IsFirstPlan, segment_of}
-use Rattle.thin_engine.specs.Undisturbed.{IsCount, IsCounted, IsQuietPart, IsUndisturbed, IsDialed, IsPlainRun, IsDriven, none_recorded}
+use Rattle.thin_engine.specs.Undisturbed.{IsQuietPart, IsUndisturbed, IsDialed, IsPlainRun, IsDriven, none_recorded}
 use Rattle.thin_engine.specs.declared.driving.Ended.{Ended}
 use Rattle.thin_engine.specs.declared.driving.Ended.TheVariants.{Ran}
 use Rattle.thin_engine.specs.declared.stage.Stage.TheVariants.{Program}
@@ -73,9 +73,7 @@ stage_moved tester unit plan u0 v w is s = subst (λ (x : Vehicle). AtStage test
 -- ------ disk calls
 pub whole_run : (a b c : History) → vehicle_now b ≡ vehicle_now a → b.link_faults ≡ a.link_faults → a.moment ≤ b.moment → IsUntroubled a c → IsPlainRun a c → IsUndisturbed b c
 whole_run a b c same link later untroubled plain = record {
-  link_count = subst IsCount (sym link) plain.link_count;
   link = subst (λ (n : ℕ). IsCalm n c.link_faults) (sym link) untroubled.link;
-  counts = subst IsCounted (sym same) plain.vehicle_counts;
   vehicle = subst (λ (v : Vehicle). IsVehicleCalm v (vehicle_now c)) (sym same) untroubled.vehicle;
   served = λ k m ge lt le call. plain.served k m (omega (arith, ge, later)) lt le call;
 }
@@ -115,10 +113,10 @@ pub kept_up : (v w : Vehicle) → w ≡ v → VehicleUp v w
 kept_up v w is = subst (λ (x : Vehicle). VehicleUp v x) (sym is) (vehicle_same v)
 
 -- a disk call that failed raised the count
-pub disk_fails : (a b c d : ℕ) → b ≡ a → b ≤ c → c ≤ d → IsCount a → IsCalm a d → Rises b c → ⊥
-disk_fails a b c d same le le2 count calm rises =
-    let p = parts a c d (omega (arith, same, le)) le2 count calm in
-    no_fault a c count (omega (arith, same, le)) p.first (subst (λ (n : ℕ). Rises n c) same rises)
+pub disk_fails : (a b c d : ℕ) → b ≡ a → b ≤ c → c ≤ d → IsCalm a d → Rises b c → ⊥
+disk_fails a b c d same le le2 calm rises =
+    let p = parts a c d (omega (arith, same, le)) le2 calm in
+    no_fault a c p.first (subst (λ (n : ℕ). Rises n c) same rises)
 
 pub image_kept : (tester unit : ℕ) (plan : UnitPlan) (u0 : ControlUnit) (v w : Vehicle) → w ≡ v → HasImage tester unit plan u0 v → HasImage tester unit plan u0 w
 image_kept tester unit plan u0 v w is image = subst (λ (x : Vehicle). HasImage tester unit plan u0 x) (sym is) image
@@ -135,14 +133,14 @@ module _ (P : List UnitPlan) (first : IsFirstPlan P) (a b c : History) (same : v
     pub active : OnOk r ((vehicle_now c).gateway.active ≡ Some tester)
 
   pub run_ends : (tester : ℕ) (r : Result Unit Outcome) (p : UnitPlan) → p ≡ plan_of P 0 → b.disk_faults ≤ c.disk_faults
-      → (IsUndisturbed b c → IsCount b.disk_faults → IsCalm b.disk_faults c.disk_faults → (u : ControlUnit) → unit_at (vehicle_now b).units p.address ≡ Some u → CanTake p u → HasRun r tester p.address p u (vehicle_now c))
+      → (IsUndisturbed b c → IsCalm b.disk_faults c.disk_faults → (u : ControlUnit) → unit_at (vehicle_now b).units p.address ≡ Some u → CanTake p u → HasRun r tester p.address p u (vehicle_now c))
       → Matches P none_recorded (vehicle_now a) → IsUntroubled a c → IsPlainRun a c → Ends tester r
   run_ends tester r p is disk2 runs matches untroubled plain =
       let ready = is_ready P (vehicle_now a) first matches in
-      let disks = parts a.disk_faults b.disk_faults c.disk_faults disk disk2 plain.disk_count untroubled.disk in
+      let disks = parts a.disk_faults b.disk_faults c.disk_faults disk disk2 untroubled.disk in
       let there : unit_at (vehicle_now b).units p.address ≡ Some ready.unit = (λ i. unit_at (same i).units (is i).address) ∙ ready.at in
       let can : CanTake p ready.unit = subst (λ (x : UnitPlan). CanTake x ready.unit) (sym is) ready.can in
-      go r ready (subst (λ (x : UnitPlan). HasRun r tester x.address x ready.unit (vehicle_now c)) is (runs (whole_run a b c same link later untroubled plain) disks.count disks.second ready.unit there can))
+      go r ready (subst (λ (x : UnitPlan). HasRun r tester x.address x ready.unit (vehicle_now c)) is (runs (whole_run a b c same link later untroubled plain) disks.second ready.unit there can))
     where
       go : (r : Result Unit Outcome) (ready : IsReady P (vehicle_now a)) → HasRun r tester (plan_of P 0).address (plan_of P 0) ready.unit (vehicle_now c) → Ends tester r
       go (Ok done) ready image = record {

@@ -5,10 +5,9 @@ use Rattle.std.proofs.Math.Nat.{mod_self}
 use Rattle.std.proofs.lemmas.Bool.{cases_Bool, cases_lt, cases_eq, and_from, both_ways, eq-eqb, le-leb, lt-leb, false≢true}
 use Rattle.std.proofs.lemmas.List.{append-nil}
 use Rattle.doip_frame.specs.Frame.{stream_of, message_bytes, alive_ask_bytes}
-use Rattle.doip_frame.specs.declared.frame.Bad.{Bad}
 use Rattle.unit_model.proofs.Units.{hit, miss, SameUnits, raised_same}
 use Rattle.unit_model.specs.Feed.{tester_of}
-use Rattle.unit_model.specs.Poll.{bytes_due, not_due, has_tick, alive_bytes, is_turn, pending_of, held_on, raises, raised_by, ticked_gateway, Ticks, Carries, IsPlain, IsSeen, IsShown}
+use Rattle.unit_model.specs.Poll.{bytes_due, not_due, has_tick, alive_bytes, is_turn, pending_of, held_on, raises, raised_by, ticked_gateway, Ticks, Carries, IsPlain}
 use Rattle.unit_model.specs.Step.{pending_bytes}
 use Rattle.unit_model.specs.Unit.{ControlUnit, one_more}
 use Rattle.unit_model.specs.Vehicle.{HeldAnswer, Gateway, Vehicle, unit_at}
@@ -19,7 +18,7 @@ use Rattle.run_model.specs.Ways.{IsWhole}
 use Rattle.thin_engine.proofs.IdealCalm.{not_risen}
 use Rattle.thin_engine.proofs.IdealSend.{served_parts, pending_can, pending_unserved}
 use Rattle.thin_engine.specs.Coming.{IsUp, Rests, IsLate, IsHeldBack, IsOut, Awaits}
-use Rattle.thin_engine.specs.Undisturbed.{AreCounts, IsServed, all_served}
+use Rattle.thin_engine.specs.Undisturbed.{IsServed, all_served}
 
 -- no alive check is sent
 no_alive : (tick : ℕ) (g : Gateway) (front back : List ℕ) → IsWhole g.carried → IsWhole front → all_served (stream_of (g.carried ++ (front ++ (alive_bytes tick g ++ back)))).frames ≡ true → alive_bytes tick g ≡ []
@@ -61,7 +60,7 @@ raises_at tick h u = elim (cases_Bool (u.address == h.unit)) [ inl e ↦ rw e re
 
 module _ (tester unit : ℕ) (all got : List ℕ) (quiet : ℕ) where
   -- a quiet receive
-  module _ (v w : Vehicle) (u : ControlUnit) (there : unit_at v.units unit ≡ Some u) (counts : AreCounts u.counts) (a : Awaits tester unit all got quiet v.gateway) (more : length got < length all) (ticks : Ticks v w) (calm : IsVehicleCalm v w) (served : IsServed w.gateway) where
+  module _ (v w : Vehicle) (u : ControlUnit) (there : unit_at v.units unit ≡ Some u) (a : Awaits tester unit all got quiet v.gateway) (more : length got < length all) (ticks : Ticks v w) (calm : IsVehicleCalm v w) (served : IsServed w.gateway) where
     abbrev g : Gateway
     g = v.gateway
 
@@ -176,7 +175,7 @@ module _ (tester unit : ℕ) (all got : List ℕ) (quiet : ℕ) where
               ap (λ (us : List ControlUnit). unit_at us unit) (ap (λ (x : Vehicle). x.units) ticks.becomes ∙ ap (λ (hs : List HeldAnswer). raised_by tick hs v.units) k.held)
               ∙ mapped_at (raises tick h) (raises_at tick h) v.units unit u there in
               let c : AreCalm u.counts (raises tick h u).counts = subst (λ (x : Option ControlUnit × Option ControlUnit). IsUnitCalm x.0 x.1) (λ i. (there i, now i)) (calm.units unit) in
-              absurd (not_risen u.counts.late counts.late (subst (λ (n : ℕ). IsCalm u.counts.late n) late_is c.late))
+              absurd (not_risen u.counts.late (subst (λ (n : ℕ). IsCalm u.counts.late n) late_is c.late))
         ]
 
     still_awaits : Awaits tester unit all got (quiet + 1) next
@@ -239,14 +238,6 @@ all_come tester unit all quiet g a =
     go ready whole few (inl (none, later, held)) = record { up = a.up; ready = ready; later = later; held = held; whole = whole }
     go ready whole few (inr (inl l)) = absurd (omega (arith, few, l.some))
     go ready whole few (inr (inr k)) = absurd (omega (arith, few, k.some))
-
--- a receive that is shown and seen as DoIP brought the next bytes
-pub shown_plain : (piece : List ℕ) (v w : Vehicle) → IsShown piece v w → IsServed w.gateway → IsPlain piece v w
-shown_plain piece v w shown served = go shown.how
-  where
-    go : IsPlain piece v w ⊎ IsSeen piece v w → IsPlain piece v w
-    go (inl plain) = plain
-    go (inr seen) = absurd (false≢true (ap (is_some {T = Bad}) (sym served.good) ∙ seen.is_bad))
 
 -- receives leave the units but for counts
 pub ticks_same : (v w : Vehicle) → Ticks v w → SameUnits v.units w.units

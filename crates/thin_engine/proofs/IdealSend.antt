@@ -27,7 +27,7 @@ use Rattle.run_model.specs.Ways.{IsWhole}
 use Rattle.thin_engine.proofs.IdealCalm.{not_risen}
 use Rattle.thin_engine.proofs.IdealCounts.{obedient_counts}
 use Rattle.thin_engine.specs.Coming.{Rests, Awaits}
-use Rattle.thin_engine.specs.Undisturbed.{AreCounts, HasCounts, IsCounted, IsServed, all_served, later_served, is_served}
+use Rattle.thin_engine.specs.Undisturbed.{IsServed, all_served, later_served, is_served}
 
 -- ------ frames that are served
 pub all_parts : (xs ys : List Frame) → all_served (xs ++ ys) ≡ true → (all_served xs ≡ true) × (all_served ys ≡ true)
@@ -151,24 +151,24 @@ module _ (tester unit : ℕ) (g : Gateway) (whole : IsWhole g.carried) where
 
 -- ------ the step
 -- a departure raises a count
-no_departure : (kind : Departure) (c : Counts) (mid : Counts) → mid ≡ c → AreCounts c → (late stalled : Bool)
+no_departure : (kind : Departure) (c : Counts) (mid : Counts) → mid ≡ c → (late stalled : Bool)
     → AreCalm c (record (raised kind mid) { late = raise_if late (raised kind mid).late; stalled = raise_if stalled (raised kind mid).stalled }) → ⊥
-no_departure (Refuses nrc) c mid is counts late stalled calm =
-    not_risen (c.refused nrc) (counts.refused nrc) (subst (λ (n : ℕ). IsCalm (c.refused nrc) n)
+no_departure (Refuses nrc) c mid is late stalled calm =
+    not_risen (c.refused nrc) (subst (λ (n : ℕ). IsCalm (c.refused nrc) n)
     (ap (λ (b : Bool). if b then one_more (mid.refused nrc) else mid.refused nrc) (eq-eqb nrc nrc refl) ∙ (λ i. one_more ((is i).refused nrc))) (calm.refused nrc))
-no_departure (Odd body) c mid is counts late stalled calm = not_risen c.odd counts.odd (subst (λ (n : ℕ). IsCalm c.odd n) (λ i. one_more (is i).odd) calm.odd)
-no_departure (Fails body) c mid is counts late stalled calm = not_risen c.failed counts.failed (subst (λ (n : ℕ). IsCalm c.failed n) (λ i. one_more (is i).failed) calm.failed)
-no_departure Mutes c mid is counts late stalled calm = not_risen c.muted counts.muted (subst (λ (n : ℕ). IsCalm c.muted n) (λ i. one_more (is i).muted) calm.muted)
-no_departure Busies c mid is counts late stalled calm = not_risen c.busy counts.busy (subst (λ (n : ℕ). IsCalm c.busy n) (λ i. one_more (is i).busy) calm.busy)
+no_departure (Odd body) c mid is late stalled calm = not_risen c.odd (subst (λ (n : ℕ). IsCalm c.odd n) (λ i. one_more (is i).odd) calm.odd)
+no_departure (Fails body) c mid is late stalled calm = not_risen c.failed (subst (λ (n : ℕ). IsCalm c.failed n) (λ i. one_more (is i).failed) calm.failed)
+no_departure Mutes c mid is late stalled calm = not_risen c.muted (subst (λ (n : ℕ). IsCalm c.muted n) (λ i. one_more (is i).muted) calm.muted)
+no_departure Busies c mid is late stalled calm = not_risen c.busy (subst (λ (n : ℕ). IsCalm c.busy n) (λ i. one_more (is i).busy) calm.busy)
 
 leaves_counts : (u mid : ControlUnit) (bytes : List ℕ) → Leaves u bytes mid → mid.counts ≡ u.counts
 leaves_counts u mid bytes (inl is) = λ i. (is i).counts
 leaves_counts u mid bytes (inr (s, range, spoiled)) = λ i. (spoiled.rest i).counts
 
-not_late : (tick due n : ℕ) → n ≤ 18446744073709551615 → IsCalm n (raise_if (is_late tick (due ∷ [])) n) → due < tick + 1000
-not_late tick due n count calm = elim (cases_lt due (tick + 1000)) [
+not_late : (tick due n : ℕ) → IsCalm n (raise_if (is_late tick (due ∷ [])) n) → due < tick + 1000
+not_late tick due n calm = elim (cases_lt due (tick + 1000)) [
   | inl lt ↦ lt
-  | inr ge ↦ let e : nat_le (tick + 1000) due ≡ true = le-leb (tick + 1000) due ge in absurd (not_risen n count (rw e at calm))
+  | inr ge ↦ let e : nat_le (tick + 1000) due ≡ true = le-leb (tick + 1000) due ge in absurd (not_risen n (rw e at calm))
 ]
 
 counts_too : (o new : ControlUnit) (h : ℕ) (cs : Counts) → new ≡ record o { heard = h; counts = cs } → SameButCounts o new
@@ -183,7 +183,7 @@ pub record Asked (tester unit : ℕ) (body : List ℕ) (u : ControlUnit) (old ne
   pub state : SameButCounts (obedient u body).0 after
   pub others : (a : ℕ) → (a ≡ unit → ⊥) → unit_at new.units a ≡ unit_at old.units a
 
-module _ (tester unit : ℕ) (body : List ℕ) (u : ControlUnit) (g : Gateway) (us : List ControlUnit) (there : unit_at us unit ≡ Some u) (whole : IsWhole g.carried) (counts : AreCounts u.counts) where
+module _ (tester unit : ℕ) (body : List ℕ) (u : ControlUnit) (g : Gateway) (us : List ControlUnit) (there : unit_at us unit ≡ Some u) (whole : IsWhole g.carried) where
   abbrev v : Vehicle
   v = record { gateway = idle tester g; units = us }
 
@@ -206,7 +206,7 @@ module _ (tester unit : ℕ) (body : List ℕ) (u : ControlUnit) (g : Gateway) (
           let sizes = subst (λ (rs : List UnitReply). Each (λ r. CanSend r.body) rs) gives step.sizes in
           let late_is : w.counts.late ≡ raise_if (is_late g.tick (o.due ∷ [])) u.counts.late =
           (λ i. (o.becomes i).counts.late) ∙ (λ i. raise_if (is_late g.tick (is i ++ (o.due ∷ []))) (obedient_counts u body i).late) in
-          let soon = not_late g.tick o.due u.counts.late counts.late (subst (λ (n : ℕ). IsCalm u.counts.late n) late_is calm.late) in
+          let soon = not_late g.tick o.due u.counts.late (subst (λ (n : ℕ). IsCalm u.counts.late n) late_is calm.late) in
           record {
             awaits = subst (λ (rs : List UnitReply). Awaits tester unit (all_of tester unit g whole (obedient u body).1) [] 0 (queue_words (acked tester unit g whole) (words_of unit (sid_of body) rs))) (sym gives)
                 (answered tester unit g whole (sid_of body) o.due (obedient u body).1 sizes.0 soon);
@@ -230,7 +230,7 @@ module _ (tester unit : ℕ) (body : List ℕ) (u : ControlUnit) (g : Gateway) (
             state = counts_too (obedient u body).0 w _ _ h.becomes;
             others = others;
           }
-      go (inr (inr d)) = absurd (no_departure d.kind u.counts d.mid.counts (leaves_counts u d.mid body d.leaves) counts _ _ (subst (λ (x : ControlUnit). AreCalm u.counts x.counts) d.becomes calm))
+      go (inr (inr d)) = absurd (no_departure d.kind u.counts d.mid.counts (leaves_counts u d.mid body d.leaves) _ _ (subst (λ (x : ControlUnit). AreCalm u.counts x.counts) d.becomes calm))
 
   unit_calm : (new : Vehicle) (w : ControlUnit) → IsVehicleCalm v new → new.units ≡ with_unit us unit w → w.address ≡ unit → AreCalm u.counts w.counts
   unit_calm new w calm is at =
@@ -245,7 +245,7 @@ module _ (tester unit : ℕ) (body : List ℕ) (u : ControlUnit) (g : Gateway) (
           let w : ControlUnit = record u { counts = record u.counts { nacked = raise_code n.code u.counts.nacked } } in
           let c = unit_calm new w calm ((λ i. (h.becomes i).units) ∙ (λ i. (n.becomes i).units)) (found_address us unit u there) in
           let risen : raise_code n.code u.counts.nacked n.code ≡ one_more (u.counts.nacked n.code) = ap (λ (b : Bool). if b then one_more (u.counts.nacked n.code) else u.counts.nacked n.code) (eq-eqb n.code n.code refl) in
-          absurd (not_risen (u.counts.nacked n.code) (counts.nacked n.code) (subst (λ (k : ℕ). IsCalm (u.counts.nacked n.code) k) risen (c.nacked n.code)))
+          absurd (not_risen (u.counts.nacked n.code) (subst (λ (k : ℕ). IsCalm (u.counts.nacked n.code) k) risen (c.nacked n.code)))
       go (inr y) =
           let at : y.after.address ≡ unit = (step_frames u y.after body g.tick y.replies y.step).address ∙ found_address us unit u there in
           let is : new ≡ after_of y.replies y.after =
@@ -256,23 +256,22 @@ module _ (tester unit : ℕ) (body : List ℕ) (u : ControlUnit) (g : Gateway) (
 
 -- one request
 pub asked : (tester unit : ℕ) (body : List ℕ) (u : ControlUnit) (old new : Vehicle) → Rests tester old.gateway → unit_at old.units unit ≡ Some u → CanSend body → Feeds (message_bytes tester unit body) old new
-    → IsCounted old → IsVehicleCalm old new → IsServed new.gateway → Asked tester unit body u old new
-asked tester unit body u old new rests there can feeds counted calm served =
+    → IsVehicleCalm old new → IsServed new.gateway → Asked tester unit body u old new
+asked tester unit body u old new rests there can feeds calm served =
     let is : old ≡ record { gateway = idle tester old.gateway; units = old.units } = (λ i. record { gateway = idle_is tester old.gateway rests i; units = old.units }) in
-    let counts = subst (λ (o : Option ControlUnit). HasCounts o) there (counted.units unit) in
     let v0 : Vehicle = record { gateway = idle tester old.gateway; units = old.units } in
     let h = fed_whole 32769 (addressed tester unit body) (omega (arith, can.few)) (message_length body can) old new rests.up.hears rests.up.unfinished feeds in
     let h2 : Handled (Message tester unit body) old new = subst (λ (f : Frame). Handled f old new) (λ i. Message (number2_of tester i) (number2_of unit i) body) h in
     subst (λ (x : Vehicle). Asked tester unit body u x new) (sym is)
-    (handled tester unit body u old.gateway old.units there rests.whole counts new (subst (λ (x : Vehicle). Handled (Message tester unit body) x new) is h2) (subst (λ (x : Vehicle). IsVehicleCalm x new) is calm) served)
+    (handled tester unit body u old.gateway old.units there rests.whole new (subst (λ (x : Vehicle). Handled (Message tester unit body) x new) is h2) (subst (λ (x : Vehicle). IsVehicleCalm x new) is calm) served)
 
 -- ------ the activation
 pub record Activating (tester unit : ℕ) (old new : Vehicle) : Type 0 where
   pub awaits : Awaits tester unit (activated_bytes tester old.gateway.entity 16) [] 0 new.gateway
   pub units : new.units ≡ old.units
 
-pub activating : (tester unit : ℕ) (v new : Vehicle) → Feeds (activate_bytes tester) (redialed v) new → IsCounted (redialed v) → IsVehicleCalm (redialed v) new → Activating tester unit (redialed v) new
-activating tester unit v new feeds counted calm =
+pub activating : (tester unit : ℕ) (v new : Vehicle) → Feeds (activate_bytes tester) (redialed v) new → IsVehicleCalm (redialed v) new → Activating tester unit (redialed v) new
+activating tester unit v new feeds calm =
     let h = fed_whole 5 (payload_of (Activate tester 0 None)) (omega arith) refl (redialed v) new refl refl feeds in
     go (subst (λ (f : Frame). Handled f (redialed v) new) (λ i. Activate (number2_of tester i) 0 None) h)
   where
@@ -300,9 +299,9 @@ activating tester unit v new feeds counted calm =
         }
         by (Denies code) is =
             let risen : raise_code code v.gateway.denied code ≡ one_more (v.gateway.denied code) = ap (λ (b : Bool). if b then one_more (v.gateway.denied code) else v.gateway.denied code) (eq-eqb code code refl) in
-            absurd (not_risen (v.gateway.denied code) (counted.denied code) (subst (λ (k : ℕ). IsCalm (v.gateway.denied code) k) ((λ i. (is i).gateway.denied code) ∙ risen) (calm.denied code)))
-        by (Delays ticks) is = absurd (not_risen v.gateway.silent counted.silent (subst (λ (k : ℕ). IsCalm v.gateway.silent k) (λ i. (is i).gateway.silent) calm.silent))
-        by Ignores is = absurd (not_risen v.gateway.silent counted.silent (subst (λ (k : ℕ). IsCalm v.gateway.silent k) (λ i. (is i).gateway.silent) calm.silent))
+            absurd (not_risen (v.gateway.denied code) (subst (λ (k : ℕ). IsCalm (v.gateway.denied code) k) ((λ i. (is i).gateway.denied code) ∙ risen) (calm.denied code)))
+        by (Delays ticks) is = absurd (not_risen v.gateway.silent (subst (λ (k : ℕ). IsCalm v.gateway.silent k) (λ i. (is i).gateway.silent) calm.silent))
+        by Ignores is = absurd (not_risen v.gateway.silent (subst (λ (k : ℕ). IsCalm v.gateway.silent k) (λ i. (is i).gateway.silent) calm.silent))
 
     go : Handled (Activate tester 0 None) (redialed v) new → Activating tester unit (redialed v) new
     go h = how_is h h.handles.how h.handles.becomes h.handles.none

@@ -9,8 +9,7 @@ use Rattle.flash_plan.specs.declared.unit.UnitPlan.{UnitPlan}
 use Rattle.run_model.specs.Sound.{IsFinalVehicle}
 use Rattle.run_model.specs.Troubles.{IsCalm, IsVehicleCalm}
 use Rattle.shop_model.specs.History.{History, Redial, vehicle_now}
-use Rattle.unit_model.specs.Unit.{ControlUnit, Counts, LAST_COUNT}
-use Rattle.unit_model.specs.Vehicle.{Gateway, Vehicle, unit_at}
+use Rattle.unit_model.specs.Vehicle.{Gateway, Vehicle}
 use Rattle.thin_engine.specs.declared.driving.Ended.{Ended}
 use Rattle.thin_engine.specs.declared.driving.Ended.TheVariants.{NoMemory, Ran}
 
@@ -40,49 +39,20 @@ abbrev pub later_served : List (ℕ × List ℕ) → Bool
 later_served [] = true
 later_served (q ∷ qs) = all_served (stream_of q.1).frames && later_served qs
 
--- what the connection has carried, has due and has queued is served, and what it has carried is DoIP
+-- what the connection has carried, has due and has queued is served
 pub record IsServed (g : Gateway) : Type 0 where
   pub now : all_served (stream_of (g.carried ++ g.ready)).frames ≡ true
   pub later : later_served g.later ≡ true
-  pub good : (stream_of g.carried).bad ≡ None
 
--- ------ counts of 64 bits
-abbrev pub IsCount : ℕ → Type 0
-IsCount n = n ≤ LAST_COUNT
-
-pub record AreCounts (c : Counts) : Type 0 where
-  pub refused : (code : ℕ) → IsCount (c.refused code)
-  pub odd : IsCount c.odd
-  pub failed : IsCount c.failed
-  pub muted : IsCount c.muted
-  pub late : IsCount c.late
-  pub stalled : IsCount c.stalled
-  pub busy : IsCount c.busy
-  pub nacked : (code : ℕ) → IsCount (c.nacked code)
-
-abbrev pub HasCounts : Option ControlUnit → Type 0
-HasCounts None = Unit {0}
-HasCounts (Some u) = AreCounts u.counts
-
-pub record IsCounted (v : Vehicle) : Type 0 where
-  pub denied : (code : ℕ) → IsCount (v.gateway.denied code)
-  pub silent : IsCount v.gateway.silent
-  pub units : (address : ℕ) → HasCounts (unit_at v.units address)
-
--- The counts at the beginning are of their type, and on a connection that is dialed in the run the vehicle sends nothing
--- that the engine does not serve yet.
+-- On each connection that is dialed in the run the vehicle sends no response pending and no alive check request, which
+-- the engine does not serve yet.
 pub record IsPlainRun (old new : History) : Type 0 where
-  pub disk_count : IsCount old.disk_faults
-  pub link_count : IsCount old.link_faults
-  pub vehicle_counts : IsCounted (vehicle_now old)
   pub served : (k m : ℕ) → old.moment ≤ k → k < m → m ≤ new.moment → new.call_at k ≡ Redial → IsServed (new.vehicle_at m).gateway
 
 -- ------ a part of it
 -- nothing failed or departed on the link, and on a connection that is dialed in it all is served
 pub record IsUndisturbed (old new : History) : Type 0 where
-  pub link_count : IsCount old.link_faults
   pub link : IsCalm old.link_faults new.link_faults
-  pub counts : IsCounted (vehicle_now old)
   pub vehicle : IsVehicleCalm (vehicle_now old) (vehicle_now new)
   pub served : (k m : ℕ) → old.moment ≤ k → k < m → m ≤ new.moment → new.call_at k ≡ Redial → IsServed (new.vehicle_at m).gateway
 
@@ -95,9 +65,7 @@ pub record IsDialed (old new : History) : Type 0 where
 
 -- over one connection, nothing failed or departed
 pub record IsQuietPart (old new : History) : Type 0 where
-  pub link_count : IsCount old.link_faults
   pub link : IsCalm old.link_faults new.link_faults
-  pub counts : IsCounted (vehicle_now old)
   pub vehicle : IsVehicleCalm (vehicle_now old) (vehicle_now new)
   pub served : (m : ℕ) → old.moment ≤ m → m ≤ new.moment → IsServed (new.vehicle_at m).gateway
 

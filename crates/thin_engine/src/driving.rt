@@ -9,7 +9,7 @@ ghost use Rattle.unit_model.specs.Unit.{ControlUnit};
 ghost use Rattle.unit_model.specs.Vehicle.{unit_at};
 ghost use Rattle.thin_engine.specs.Growing.{VehicleUp};
 ghost use Rattle.thin_engine.specs.Programming.{CanTake, AtStage, Turned, Programmed, HasRun};
-ghost use Rattle.thin_engine.specs.Undisturbed.{IsCount, IsQuietPart, IsUndisturbed, IsPlainRun, IsDriven, none_recorded};
+ghost use Rattle.thin_engine.specs.Undisturbed.{IsQuietPart, IsUndisturbed, IsPlainRun, IsDriven, none_recorded};
 ghost use Rattle.thin_engine.specs.Later.{IsTalkLater, IsUnchanged};
 ghost use Rattle.thin_engine.specs.Causes.{IsMidway, HasCause};
 ghost use Rattle.flash_plan.specs.declared.outcome.Entry.{Entry as AnEntry};
@@ -186,7 +186,7 @@ fn run<S: Shop>(
         → HoldsWhileShown (S.history shop.old) (S.history shop.new) (SoundAt run) }
     ensures grows { IsTrue S.tells_vehicle → VehicleUp (vehicle_now (S.history shop.old)) (vehicle_now (S.history shop.new)) }
     ensures runs { IsTrue S.tells_vehicle → IsUndisturbed (S.history shop.old) (S.history shop.new)
-        → IsCount (S.history shop.old).disk_faults → IsCalm (S.history shop.old).disk_faults (S.history shop.new).disk_faults
+        → IsCalm (S.history shop.old).disk_faults (S.history shop.new).disk_faults
         → (u : ControlUnit) → unit_at (vehicle_now (S.history shop.old)).units unit.now.address ≡ Some u → CanTake unit.now u
         → HasRun result tester unit.now.address unit.now u (vehicle_now (S.history shop.new)) }
 {
@@ -240,6 +240,11 @@ fn open_empty<S: Shop>(alloc: Global, shop: &mut S, plan: &Plan) -> Result<Journ
 }
 
 /// Programs the one unit of a plan, whose journal is a file of length 0.
+///
+/// Where no count of failures or departures rises and the unit fits, the run ends `Complete`, but for want of memory. One
+/// premise more is left (`IsPlainRun`): on a connection that is dialed in the run the vehicle sends no response pending
+/// (ISO 14229-1, code 78) and no alive check request (ISO 13400-2:2019, payload type 0x0007). Neither is a departure,
+/// but this engine does not wait on behind the first and does not answer the second: either ends the run.
 pub fn drive<S: Shop>(alloc: Global, shop: &mut S, tester: u16, plan: &Plan) -> Ended
     requires { IsFirstPlan plan.now }
 
@@ -261,7 +266,8 @@ pub fn drive<S: Shop>(alloc: Global, shop: &mut S, tester: u16, plan: &Plan) -> 
     // as each receive was shown; for a journal of length 0, v0 is the vehicle at entry. So it is at each exit, whatever the outcome.
     ensures sound { IsTrue S.tells_disk → IsTrue S.tells_vehicle → KeepsSound plan.now (S.history shop.old) (S.history shop.new) }
 
-    // Where nothing fails or departs, units that fit are programmed: but for want of memory the run ends Complete.
+    // Where nothing fails or departs, and no response pending and no alive check request comes on a connection that is dialed in
+    // the run, units that fit are programmed: but for want of memory the run ends Complete.
     ensures complete { IsTrue S.tells_disk → IsTrue S.tells_vehicle → (disk_now (S.history shop.old)).bytes ≡ []
         → Matches plan.now none_recorded (vehicle_now (S.history shop.old))
         → IsUntroubled (S.history shop.old) (S.history shop.new) → IsPlainRun (S.history shop.old) (S.history shop.new)

@@ -1,10 +1,10 @@
 -- What a receive carries.
-use Rattle.std.proofs.Common.{◌≡◌, inl, ℕ, ◌+◌, ◌-◌, List, ◌++◌, take, drop, sym, ◌∙◌, ap, arith}
+use Rattle.std.proofs.Common.{◌≡◌, ℕ, ◌+◌, ◌-◌, List, ◌++◌, take, drop, sym, ◌∙◌, ap, arith}
 use Rattle.std.specs.Prelude.{slice_range, ⊤}
 use Rattle.std.proofs.lemmas.List.{take-append-drop, drop-drop}
 use Rattle.unit_model.specs.Unit.{ControlUnit}
 use Rattle.unit_model.specs.Vehicle.{Gateway}
-use Rattle.unit_model.specs.Poll.{Carries, IsShown}
+use Rattle.unit_model.specs.Poll.{Carries, IsPlain}
 
 pub front_and_rest : (s n : ℕ) (xs front : List ℕ) → front ≡ slice_range xs s (s + n) → drop s xs ≡ front ++ drop (s + n) xs
 front_and_rest s n xs front is =
@@ -14,5 +14,6 @@ front_and_rest s n xs front is =
 pub carries : (g : Gateway) (us : List ControlUnit) (piece ready carried : List ℕ) → carried ≡ g.carried ++ piece → Carries piece (record { gateway = g; units = us }) (record { gateway = record g { ready = ready; carried = carried }; units = us })
 carries g us piece ready carried is = record { becomes = λ i. record { gateway = record g { ready = ready; carried = is i }; units = us } }
 
-pub carries_shown : (g : Gateway) (us : List ControlUnit) (piece ready carried : List ℕ) → carried ≡ g.carried ++ piece → g.ready ≡ piece ++ ready → Carries piece (record { gateway = g; units = us }) (record { gateway = record g { ready = ready; carried = carried }; units = us }) × (⊤ → IsShown piece (record { gateway = g; units = us }) (record { gateway = record g { ready = ready; carried = carried }; units = us }))
-carries_shown g us piece ready carried is there = (carries g us piece ready carried is, λ t. record { carries = carries g us piece ready carried is; how = inl (record { ready = there }) })
+-- the next due bytes were carried
+pub carries_plain : (g : Gateway) (us : List ControlUnit) (piece ready carried : List ℕ) → carried ≡ g.carried ++ piece → g.ready ≡ piece ++ ready → Carries piece (record { gateway = g; units = us }) (record { gateway = record g { ready = ready; carried = carried }; units = us }) × (⊤ → IsPlain piece (record { gateway = g; units = us }) (record { gateway = record g { ready = ready; carried = carried }; units = us }))
+carries_plain g us piece ready carried is there = (carries g us piece ready carried is, λ t. record { ready = there })

@@ -7,6 +7,7 @@ use flash_base::{Bytes, Items, KeyRule, NoMemory};
 use std::alloc::Global;
 use unit_model::{RegionSpec, UnitSpec};
 
+/// The unit that is built in: 4 KiB from address 0x1000 on, erased.
 pub(crate) fn plain(alloc: Global) -> Result<UnitSpec, NoMemory>
     ensures { IfOk result (λ spec. spec ≡ plain_spec) }
 {

@@ -18,6 +18,7 @@ impl Disk {
     ghost use Rattle.disk_model.specs.Disk.{Wrote, Synced, DiskState};
     ghost use Rattle.thin_shop.specs.Disks.{disk_of};
 
+    /// A file of length 0.
     pub(crate) fn new(alloc: Global) -> Disk
         ensures { disk_of result ≡ record { bytes = []; ranges = []; synced = 0 } }
     {
@@ -35,6 +36,7 @@ impl Disk {
         self.bytes.as_slice()
     }
 
+    /// Puts the bytes at place `at`, over what is there and past the end. Where there is no memory nothing is changed.
     pub(crate) fn write(&mut self, at: usize, bytes: &[u8]) -> Result<(), NoMemory>
         requires { at ≤ length (disk_of self.old).bytes }
         ensures ok { OnOk result (Wrote at bytes.now (disk_of self.old) (disk_of self.new)) }
@@ -50,6 +52,7 @@ impl Disk {
         }
     }
 
+    /// Makes what a read gives what a crash leaves.
     pub(crate) fn sync(&mut self)
         ensures { Synced (disk_of self.old) (disk_of self.new) }
     {
@@ -78,6 +81,7 @@ fn put_at(file: &mut [u8], at: usize, bytes: &[u8])
     file[at..at + bytes.len()].copy_from_slice(bytes);
 }
 
+/// Fills `out` with the bytes from place `at` on.
 pub(crate) fn copy_part(from: &[u8], at: usize, out: &mut [u8])
     requires { at + length out.old ≤ length from.now }
     ensures { out.new ≡ slice_range from.now at (at + length out.old) }

@@ -24,6 +24,7 @@ fn enter(unit: &mut Unit, kind: u8)
     unit.transfer = None;
 }
 
+/// A session request (ISO 14229-1, service 0x10).
 pub(crate) fn session(alloc: Global, unit: &mut Unit, kind: u8) -> Result<Vec<u8>, NoMemory>
     ensures ok { IfOk result (λ r. (control_unit unit.new, r.items) ≡ obey (control_unit unit.old) (Request.Session kind)) }
     ensures err { OnErr result (control_unit unit.new ≡ control_unit unit.old) }
@@ -33,6 +34,7 @@ pub(crate) fn session(alloc: Global, unit: &mut Unit, kind: u8) -> Result<Vec<u8
     Ok(reply)
 }
 
+/// A reset (service 0x11): the unit is in its default session again.
 pub(crate) fn reset(alloc: Global, unit: &mut Unit) -> Result<Vec<u8>, NoMemory>
     ensures ok { IfOk result (λ r. (control_unit unit.new, r.items) ≡ obey (control_unit unit.old) Request.Reset) }
     ensures err { OnErr result (control_unit unit.new ≡ control_unit unit.old) }
@@ -53,6 +55,7 @@ fn ident<'a>(idents: &'a [(u16, Bytes)], did: u16) -> Option<&'a Bytes>
     None
 }
 
+/// A read of an identifier (service 0x22).
 pub(crate) fn read_id(alloc: Global, unit: &Unit, did: u16) -> Result<Vec<u8>, NoMemory>
     ensures { IfOk result (λ r. (control_unit unit.now, r.items) ≡ obey (control_unit unit.now) (Request.ReadId did)) }
 {
@@ -69,6 +72,7 @@ pub(crate) fn read_id(alloc: Global, unit: &Unit, did: u16) -> Result<Vec<u8>, N
     }
 }
 
+/// The end of a transfer (service 0x37), of which no byte may be left.
 pub(crate) fn exit(alloc: Global, unit: &mut Unit) -> Result<Vec<u8>, NoMemory>
     ensures ok { IfOk result (λ r. (control_unit unit.new, r.items) ≡ obey (control_unit unit.old) Request.Exit) }
     ensures err { OnErr result (control_unit unit.new ≡ control_unit unit.old) }
@@ -109,6 +113,7 @@ fn block(alloc: Global, n: u32) -> Result<Vec<u8>, NoMemory>
     Ok(reply)
 }
 
+/// Whether a key is asked for and none was taken.
 pub(crate) fn is_locked(unit: &Unit) -> bool
     ensures { result ≡ is_locked (control_unit unit.now) }
 {
@@ -145,6 +150,7 @@ fn keep_apart(checked: &mut Vec<(u64, u64)>, at: u64, size: u64)
     checked.retain(|r| is_apart(at, size, r));
 }
 
+/// A seed of this level (service 0x27); an unlocked unit gives zeros.
 pub(crate) fn seed(alloc: Global, unit: &mut Unit, level: u8) -> Result<Vec<u8>, NoMemory>
     ensures ok { IfOk result (λ r. (control_unit unit.new, r.items) ≡ obey (control_unit unit.old) (Request.Seed level)) }
     ensures err { OnErr result (control_unit unit.new ≡ control_unit unit.old) }
@@ -173,6 +179,7 @@ fn given(alloc: Global, unit: &Unit) -> Result<Bytes, NoMemory>
     Ok(Bytes::from_vec(zeros))
 }
 
+/// A download of `size` bytes from address `at` on (service 0x34).
 pub(crate) fn download(
     alloc: Global,
     unit: &mut Unit,
@@ -218,6 +225,7 @@ fn after(counter: u8) -> u8
     if counter == 0xff { 0 } else { counter + 1 }
 }
 
+/// Fills `size` bytes from address `at` on with 0xFF.
 pub(crate) fn erase(unit: &mut Unit, at: u64, size: u64)
     requires { at + size < 2 ^ 64 }
     ensures { control_unit unit.new ≡ erased (control_unit unit.old) at size }
@@ -244,6 +252,7 @@ fn accept(unit: &mut Unit, body: &[u8])
     }
 }
 
+/// One block of a transfer (service 0x36); the block before it once more is answered again.
 pub(crate) fn transfer(
     alloc: Global,
     unit: &mut Unit,

@@ -125,6 +125,7 @@ fn check_range(alloc: Global, unit: &mut Unit, id: u16, option: &[u8]) -> Result
     Ok(reply)
 }
 
+/// A routine (service 0x31): the erasing, the check of a range, or the final check.
 pub(crate) fn routine(
     alloc: Global,
     unit: &mut Unit,

@@ -7,8 +7,7 @@ use Rattle.shop_model.specs.History.{IsPiece, disk_now, vehicle_now, Receive}
 use Rattle.thin_engine.specs.Talking.{SoundAt, Polls}
 use Rattle.thin_engine.proofs.Parts.{keeps_map}
 use Rattle.thin_engine.proofs.Polling.{receives}
-use Rattle.thin_engine.proofs.IdealCalls.{received_up, took_quiet, took_piece, never_fails, not_rising, call_later}
-use Rattle.thin_engine.proofs.IdealCalm.{served_now}
+use Rattle.thin_engine.proofs.IdealCalls.{received_up, took_quiet, took_piece, never_fails, not_rising}
 use Rattle.thin_engine.proofs.asking.poll.Goals as goal
 
 pub returns-in-Ok-Quiet-clause-sound : goal.returns-in-Ok-Quiet-clause-sound
@@ -68,8 +67,7 @@ returns-in-Ok-clause-takes g c = λ told quiet.
     let room = subst (λ (n : ℕ). IfOk c.receive.result (IsPiece n)) (sym c.receive.auto.out) c.receive.ensures.piece in
     let h = g.S.Shop.history c.args.shop.now in
     let h2 = g.S.Shop.history c.receive.new.self in
-    let later = call_later Receive h h2 c.receive.result (g.met.S.Shop.bounded c.args.shop.now) c.receive.ensures.call in
-    took_piece _ _ _ c.in-Ok-Bytes.n _ _ _ _ c.receive.result e (c.receive.ensures.vehicle told) room refl (not_rising Receive h h2 c.receive.result c.receive.ensures.call quiet) (served_now h h2 later quiet) c.in-Ok.ensures.items
+    took_piece _ _ _ c.in-Ok-Bytes.n _ _ _ _ c.receive.result e (c.receive.ensures.vehicle told) room refl (not_rising Receive h h2 c.receive.result c.receive.ensures.call quiet) c.in-Ok.ensures.items
 
 pub returns-in-Err-clause-takes : goal.returns-in-Err-clause-takes
 returns-in-Err-clause-takes g c = λ told quiet. absurd (never_fails _ _ _ c.receive.result _ c.in-Err.is c.receive.ensures.call quiet)

@@ -123,20 +123,20 @@ returns-clause-grows g c = λ told.
 
 -- ------ the undisturbed run
 pub returns-in_err-record_begun-clause-runs : goal.returns-in_err-record_begun-clause-runs
-returns-in_err-record_begun-clause-runs g c = λ told q count calm u there can.
-    absurd (disk_fails _ _ _ _ c.activate.ensures.later.disk_faults c.record_begun.ensures.later.is_later.disk_faults (omega arith) count calm (c.in_err-record_begun.ensures.fault refl))
+returns-in_err-record_begun-clause-runs g c = λ told q calm u there can.
+    absurd (disk_fails _ _ _ _ c.activate.ensures.later.disk_faults c.record_begun.ensures.later.is_later.disk_faults (omega arith) calm (c.in_err-record_begun.ensures.fault refl))
 
 pub returns-in_err-record_complete-clause-runs : goal.returns-in_err-record_complete-clause-runs
-returns-in_err-record_complete-clause-runs g c = λ told q count calm u there can.
+returns-in_err-record_complete-clause-runs g c = λ told q calm u there can.
     let a = g.S.Shop.history c.args.shop.now in
     let e = g.S.Shop.history c.program.new.shop in
     let f = g.S.Shop.history c.record_complete.new.shop in
     let ae = later_then _ _ _ (later_then _ _ _ c.activate.ensures.later.is_later c.record_begun.ensures.later.is_later) c.program.ensures.later.is_later in
-    let p = parts a.disk_faults e.disk_faults f.disk_faults ae.disk_faults c.record_complete.ensures.later.is_later.disk_faults count calm in
-    absurd (no_fault e.disk_faults f.disk_faults p.count c.record_complete.ensures.later.is_later.disk_faults p.second (c.in_err-record_complete.ensures.fault refl))
+    let p = parts a.disk_faults e.disk_faults f.disk_faults ae.disk_faults c.record_complete.ensures.later.is_later.disk_faults calm in
+    absurd (no_fault e.disk_faults f.disk_faults p.second (c.in_err-record_complete.ensures.fault refl))
 
 pub returns-in_err-program-clause-runs : goal.returns-in_err-program-clause-runs
-returns-in_err-program-clause-runs g c = λ told q count calm u there can.
+returns-in_err-program-clause-runs g c = λ told q calm u there can.
     let a = g.S.Shop.history c.args.shop.now in
     let b = g.S.Shop.history c.activate.new.shop in
     let d = g.S.Shop.history c.record_begun.new.shop in
@@ -156,7 +156,7 @@ returns-in_err-program-clause-runs g c = λ told q count calm u there can.
     starved_run _ _ _ u _ c.from_residual-in_err-program.result p.0 p.1 (p.2 ∙ c.in_err-program.ensures.programs told begins.quiet u begins.stands)
 
 pub returns-clause-runs : goal.returns-clause-runs
-returns-clause-runs g c = λ told q0 count calm u there can.
+returns-clause-runs g c = λ told q0 calm u there can.
     let a = g.S.Shop.history c.args.shop.now in
     let b = g.S.Shop.history c.activate.new.shop in
     let d = g.S.Shop.history c.record_begun.new.shop in
