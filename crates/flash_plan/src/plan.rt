@@ -38,6 +38,13 @@ impl Plan {
         self.units.len() as u16
     }
 
+    /// A law without code: every plan keeps the limits and forms of an accepted one.
+    pub fn is_accepted(&self)
+        ensures { IsAccepted self.now }
+    {
+        let _ = &self.units;
+    }
+
     /// Unit `n`, from 0.
     pub fn unit(&self, n: u16) -> &UnitPlan
         requires { n < count_of self.now }
