@@ -1,0 +1,12 @@
+pub mod Among
+pub mod Apart
+pub mod Dropped
+pub mod Filled
+pub mod Joins
+pub mod Laid
+pub mod Readings
+pub mod Refusals
+pub mod Replies
+pub mod Shared
+pub mod Sizes
+pub mod Values

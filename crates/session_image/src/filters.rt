@@ -1,0 +1,69 @@
+//! The part of a byte map that filters keep.
+ghost use Rattle.std.specs.Prelude.{◌≡◌, IfOk};
+ghost use Rattle.std.specs.FinMap.{retain_keys};
+ghost use Rattle.session_image.specs.Content.{is_in_one, is_kept};
+
+use flash_base::NoMemory;
+use span_store::Spans;
+use std::alloc::Global;
+
+/// The ranges by their starts.
+fn sorted(alloc: Global, ranges: &[(u64, u64)]) -> Result<Vec<(u64, u64)>, NoMemory> {
+    let mut sorted = Vec::from_slice(alloc, ranges)?;
+    sorted.sort_by_key(|range| range.0)?;
+    Ok(sorted)
+}
+
+/// At most the first `n` bytes.
+fn first_of_bytes(bytes: &[u8], n: u64) -> &[u8] {
+    if bytes.len() as u64 <= n {
+        bytes
+    } else {
+        &bytes[..n as usize]
+    }
+}
+
+/// Adds what a map has from one address to another.
+fn add_part(kept: &mut Spans, spans: &Spans, from: u64, stop: u64) -> Result<(), NoMemory> {
+    let mut here = from;
+    while here < stop {
+        let Some((start, bytes)) = spans.piece(here) else {
+            return Ok(());
+        };
+        if stop <= start {
+            return Ok(());
+        }
+        let known = first_of_bytes(bytes, stop - start);
+        match kept.put(start, known) {
+            Ok(()) => {}
+            Err(_) => return Err(NoMemory),
+        }
+        here = start + known.len() as u64;
+    }
+    Ok(())
+}
+
+/// The part of a map in some of the ranges. Each byte is copied once, however many ranges have it.
+fn in_one(alloc: Global, spans: &Spans, ranges: &[(u64, u64)]) -> Result<Spans, NoMemory>
+    ensures { IfOk result (λ kept. kept ≡ retain_keys spans.now (is_in_one ranges.now)) }
+{
+    let sorted = sorted(alloc, ranges)?;
+    let mut kept = Spans::new(alloc);
+    let mut reached = 0;
+    for range in sorted.iter() {
+        let stop = range.0 + range.1;
+        add_part(&mut kept, spans, range.0.max(reached), stop)?;
+        reached = stop.max(reached);
+    }
+    Ok(kept)
+}
+
+/// The part of a map that filters keep; without filters it is the whole.
+pub(crate) fn kept(alloc: Global, spans: Spans, filters: &[(u64, u64)]) -> Result<Spans, NoMemory>
+    ensures { IfOk result (λ kept. kept ≡ retain_keys spans (is_kept filters.now)) }
+{
+    if filters.is_empty() {
+        return Ok(spans);
+    }
+    in_one(alloc, &spans, filters)
+}

@@ -1,0 +1,64 @@
+//! Which source addresses a datablock's segments have.
+ghost use Rattle.std.specs.Prelude.{◌≡◌, ◌<◌, ℕ, nat_lt, IfOk, None, Some, if◌then◌else◌};
+ghost use Rattle.span_store.specs.Runs.{runs};
+ghost use Rattle.session_image.specs.Kept.{kept_ranges};
+ghost use Rattle.session_image.specs.Pieces.{total};
+
+use crate::content::Content;
+use ecu_mem::Block;
+use flash_base::NoMemory;
+use span_store::Spans;
+use std::alloc::Global;
+
+/// The maximal runs of a map, ascending.
+fn runs(alloc: Global, spans: &Spans) -> Result<Vec<(u64, u64)>, NoMemory>
+    ensures { IfOk result (λ v. v.items ≡ runs spans.now) }
+{
+    let mut runs = Vec::new(alloc);
+    let Some((first, bytes)) = spans.piece(0) else {
+        return Ok(runs);
+    };
+    let mut at = first;
+    let mut end = first + bytes.len() as u64;
+    while let Some((start, bytes)) = spans.piece(end) {
+        if start != end {
+            runs.push((at, end - at))?;
+            at = start;
+        }
+        end = start + bytes.len() as u64;
+    }
+    runs.push((at, end - at))?;
+    Ok(runs)
+}
+
+/// The listed segments; without any, the maximal runs of what the filters kept, of which plain
+/// bytes have none.
+pub(crate) fn ranges(
+    alloc: Global,
+    content: &Content,
+    block: &Block,
+) -> Result<Vec<(u64, u64)>, NoMemory>
+    ensures { IfOk result (λ v. v.items ≡ kept_ranges content.now block.now) }
+{
+    if block.segments.len() != 0 {
+        return Ok(Vec::from_slice(alloc, block.segments.as_slice())?);
+    }
+    match content {
+        Content::Mapped(spans) => runs(alloc, spans),
+        Content::Plain(_) => Ok(Vec::new(alloc)),
+    }
+}
+
+/// How many addresses the ranges have together, if there is room for them.
+pub(crate) fn total(ranges: &[(u64, u64)], room: u64) -> Option<u64>
+    ensures { result ≡ (if nat_lt room (total ranges.now) then None else Some (total ranges.now)) }
+{
+    let mut total = 0;
+    for range in ranges {
+        if room - total < range.1 {
+            return None;
+        }
+        total += range.1;
+    }
+    Some(total)
+}
