@@ -6,6 +6,7 @@ pub mod Filled
 pub mod Joins
 pub mod Laid
 pub mod Ordered
+pub mod Outcomes
 pub mod Readings
 pub mod Refusals
 pub mod Replies
