@@ -3,25 +3,7 @@ use Rattle.std.proofs.Common.{◌≡◌, ◌∙◌, sym, refl, ap, suc, zero, �
 use Rattle.std.proofs.lemmas.Bool.{cases_lt, lt-ltb, le-ltb}
 use Rattle.std.proofs.lemmas.Bool.Decides.{nat_tests}
 use Rattle.span_store.specs.Lowest.{IsLowest}
-
--- 1 where an address lies in a range, given by its start and its end
-abbrev pub hit : ℕ → ℕ × ℕ → ℕ
-hit a t = cond (nat_le t.0 a && nat_lt a t.1) 1 0
-
--- how many ranges have an address
-abbrev pub hits : ℕ → List (ℕ × ℕ) → ℕ
-hits a [] = 0
-hits a (t ∷ ts) = hit a t + hits a ts
-
--- the starts ascend from a number on
-abbrev pub Ascend : ℕ → List (ℕ × ℕ) → Type 0
-Ascend low [] = Unit {0}
-Ascend low (t ∷ ts) = (low ≤ t.0) × (t.0 < t.1) × Ascend t.0 ts
-
--- the first start below the end before it
-abbrev pub first_met : ℕ → List (ℕ × ℕ) → Option ℕ
-first_met reached [] = None
-first_met reached (t ∷ ts) = cond (nat_lt t.0 reached) (Some t.0) (first_met t.1 ts)
+use Rattle.session_image.specs.Targets.{hit, hits, Ascend, first_met}
 
 pub hit_below : (a : ℕ) (t : ℕ × ℕ) → a < t.0 → hit a t ≡ 0
 hit_below a t lt = grind (arith, nat_tests, lt)

@@ -1,12 +1,15 @@
 pub mod Among
 pub mod Apart
+pub mod Begins
 pub mod Dropped
 pub mod Filled
 pub mod Joins
 pub mod Laid
+pub mod Ordered
 pub mod Readings
 pub mod Refusals
 pub mod Replies
 pub mod Shared
 pub mod Sizes
+pub mod Usable
 pub mod Values

@@ -5,14 +5,8 @@ use Rattle.std.specs.Prelude.{slice_get}
 use Rattle.span_store.specs.Lowest.{IsLowest}
 use Rattle.session_image.specs.Pieces.{has_target, IsShared}
 use Rattle.session_image.specs.declared.pieces.Piece.{Piece}
-use Rattle.session_image.proofs.Apart.{hit, hits, hit_most, hit_within, hit_below, hit_behind}
-
-abbrev pub range_of : Piece → ℕ × ℕ
-range_of p = (p.target, p.target + length p.body)
-
-abbrev pub ranges_of : List Piece → List (ℕ × ℕ)
-ranges_of [] = []
-ranges_of (p ∷ ps) = range_of p ∷ ranges_of ps
+use Rattle.session_image.specs.Targets.{hit, hits, range_of, ranges_of}
+use Rattle.session_image.proofs.Apart.{hit_most, hit_within, hit_below, hit_behind}
 
 -- a segment at a place counts
 one_hits : (ps : List Piece) (i : ℕ) (p : Piece) (a : ℕ) → slice_get ps i ≡ Some p → has_target p a → 1 ≤ hits a (ranges_of ps)

@@ -5,3 +5,4 @@ pub mod Files
 pub mod Images
 pub mod Kept
 pub mod Pieces
+pub mod Targets

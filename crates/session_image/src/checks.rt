@@ -8,6 +8,7 @@ ghost use Rattle.session_image.specs.Checks.{compared, check_bytes, checked, all
 ghost use Rattle.session_image.specs.Kept.{IsPlaced, byte_in, laid};
 ghost use Rattle.session_image.specs.Pieces.{size_limit};
 
+use crate::filling::copied;
 use crate::pieces::{Piece, SIZE_LIMIT};
 use crate::types::{Checked, ImageFault};
 use ecu_mem::Check;
@@ -22,14 +23,11 @@ fn lay_over(out: &mut [u8], from: u64, at: u64, bytes: &[u8])
     ensures { out.new ≡ laid (byte_in at bytes.now) from out.old }
 {
     let first = at.max(from);
-    let stop = (at + bytes.len() as u64).min(from + out.len() as u64);
-    if stop <= first {
+    if at + bytes.len() as u64 <= first || from + out.len() as u64 <= first {
         return;
     }
-    let size = (stop - first) as usize;
-    let here = (first - from) as usize;
-    let there = (first - at) as usize;
-    out[here..here + size].copy_from_slice(&bytes[there..there + size]);
+    let there = &bytes[(first - at) as usize..];
+    copied(out, (first - from) as usize, there);
 }
 
 /// The bytes of a range of source addresses. Where several segments have an address, the first one

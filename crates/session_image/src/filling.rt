@@ -16,7 +16,7 @@ use span_store::Spans;
 use std::alloc::Global;
 
 /// Copies bytes to a place, as many as go there, and answers the place behind them.
-fn copied(out: &mut [u8], at: usize, bytes: &[u8]) -> usize
+pub(crate) fn copied(out: &mut [u8], at: usize, bytes: &[u8]) -> usize
     requires { at ≤ length out.old }
     ensures place { result ≡ at + min (length bytes.now) (length out.old - at) }
     ensures copied { out.new ≡ take at out.old ++ (take (result - at) bytes.now ++ drop result out.old) }

@@ -3,7 +3,7 @@ ghost use Rattle.std.specs.Prelude.{◌≡◌, ◌<◌, ◌++◌, length, IfOk, 
 ghost use Rattle.flash_base.specs.Lists.{Each};
 ghost use Rattle.ecu_mem.specs.Bounds.{IsWhole};
 ghost use Rattle.session_image.specs.Files.{blocks_at};
-ghost use Rattle.session_image.specs.Images.{own_of, HasFiles, IsAnswer};
+ghost use Rattle.session_image.specs.Images.{own_of, HasFiles, IsAnswer, IsUsable};
 
 use crate::checks::all_checked;
 use crate::files::block_of;
@@ -64,6 +64,7 @@ pub fn image(
     requires session { session < length mem.now.sessions }
     requires files { HasFiles mem.now session files.now }
     ensures answer { IsAnswer mem.now session files.now fill result }
+    ensures usable { IfOk result IsUsable }
 {
     let wanted = mem.sessions.at(session as usize);
     let blocks = wanted.blocks.as_slice();

@@ -166,6 +166,7 @@ fn kept_pieces(
     requires limit { number ≤ size }
     requires size { size ≤ size_limit }
     ensures placed { IfOk result (λ pieces. Each IsPlaced pieces) }
+    ensures some { IfOk result (λ pieces. 1 ≤ size_of pieces) }
     ensures limit { IfOk result (λ pieces. size + size_of pieces ≤ size_limit) }
     ensures pieces { (result ≡ Err ImageFault.NoMemory) ⊎ (result ≡ kept_pieces fill number size block.now content) }
 {
@@ -196,6 +197,7 @@ fn block_pieces(
     requires limit { number ≤ size }
     requires size { size ≤ size_limit }
     ensures placed { IfOk result (λ pieces. Each IsPlaced pieces) }
+    ensures some { IfOk result (λ pieces. 1 ≤ size_of pieces) }
     ensures limit { IfOk result (λ pieces. size + size_of pieces ≤ size_limit) }
     ensures pieces { (result ≡ Err ImageFault.NoMemory) ⊎ (result ≡ block_pieces mem.now files.now fill number size block.now) }
 {
@@ -230,6 +232,7 @@ pub(crate) fn session_pieces(
     requires whole { IsWhole mem.now }
     requires blocks { Each (λ i. i < length mem.now.blocks) blocks.now }
     ensures placed { IfOk result (λ pieces. Each IsPlaced pieces) }
+    ensures some { IfOk result (λ pieces. 1 ≤ size_of pieces) }
     ensures pieces { (result ≡ Err ImageFault.NoMemory) ⊎ (result ≡ session_pieces mem.now files.now fill (blocks_at mem.now blocks.now)) }
 {
     if blocks.is_empty() {

@@ -1,6 +1,8 @@
 //! Which source addresses a datablock's segments have.
 ghost use Rattle.std.specs.Prelude.{◌≡◌, ◌<◌, ℕ, nat_lt, IfOk, None, Some, if◌then◌else◌};
+ghost use Rattle.flash_base.specs.Lists.{Each};
 ghost use Rattle.span_store.specs.Runs.{runs};
+ghost use Rattle.ecu_mem.specs.Bounds.{IsRange};
 ghost use Rattle.session_image.specs.Kept.{kept_ranges};
 ghost use Rattle.session_image.specs.Pieces.{total};
 
@@ -12,7 +14,8 @@ use std::alloc::Global;
 
 /// The maximal runs of a map, ascending.
 fn runs(alloc: Global, spans: &Spans) -> Result<Vec<(u64, u64)>, NoMemory>
-    ensures { IfOk result (λ v. v.items ≡ runs spans.now) }
+    ensures runs { IfOk result (λ v. v.items ≡ runs spans.now) }
+    ensures within { IfOk result (λ v. Each IsRange v.items) }
 {
     let mut runs = Vec::new(alloc);
     let Some((first, bytes)) = spans.piece(0) else {
@@ -38,7 +41,9 @@ pub(crate) fn ranges(
     content: &Content,
     block: &Block,
 ) -> Result<Vec<(u64, u64)>, NoMemory>
-    ensures { IfOk result (λ v. v.items ≡ kept_ranges content.now block.now) }
+    requires { Each IsRange block.now.segments }
+    ensures ranges { IfOk result (λ v. v.items ≡ kept_ranges content.now block.now) }
+    ensures within { IfOk result (λ v. Each IsRange v.items) }
 {
     if block.segments.len() != 0 {
         return Ok(Vec::from_slice(alloc, block.segments.as_slice())?);

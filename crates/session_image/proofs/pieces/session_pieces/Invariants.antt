@@ -12,5 +12,6 @@ invariant-loop-at l = record {
   size : l.size ≡ size_of l.pieces;
   limit : l.size ≤ size_limit;
   placed : Each IsPlaced l.pieces;
+  some : 0 < l.at-index → 1 ≤ l.size;
   within : Each (λ i. i < length l.mem.blocks) (drop l.at-index l.blocks);
 }
