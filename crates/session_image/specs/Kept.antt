@@ -1,5 +1,5 @@
 -- The data of a datablock once its filters have been applied, as the body keeps them.
-use Rattle.std.specs.Prelude.{◌≡◌, ℕ, ◌+◌, ◌-◌, ◌<◌, ◌≤◌, nat_lt, List, [], ◌∷◌, length, slice_get, Option, Some, None, Result, Ok, Err, if◌then◌else◌}
+use Rattle.std.specs.Prelude.{◌≡◌, ℕ, ◌+◌, ◌-◌, ◌<◌, ◌≤◌, ◌||◌, ◌&&◌, nat_le, nat_lt, Bool, List, [], ◌∷◌, length, slice_get, Option, Some, None, Result, Ok, Err, if◌then◌else◌}
 use Rattle.std.specs.FinMap.{get, retain_keys}
 use Rattle.flash_base.specs.ByteMaps.{is_in}
 use Rattle.ecu_mem.specs.Values.{address_limit}
@@ -66,3 +66,7 @@ pub record IsPlaced (p : Piece) : Type 0 where
   pub some : 1 ≤ length p.body
   pub source : p.source + length p.body ≤ address_limit
   pub target : p.target + length p.body ≤ address_limit
+
+-- a test of addresses, made true from one address to another
+abbrev pub or_within : (ℕ → Bool) → ℕ → ℕ → ℕ → Bool
+or_within had from stop a = had a || (nat_le from a && nat_lt a stop)

@@ -2,6 +2,8 @@
 ghost use Rattle.std.specs.Prelude.{◌≡◌, ◌⊎◌, ℕ, ◌+◌, ◌-◌, ◌<◌, ◌≤◌, length, min, slice_get, take, drop, replicate, ◌++◌, Err, Ok, Some, None, IfOk, if◌then◌else◌};
 ghost use Rattle.std.specs.FinMap.{get};
 ghost use Rattle.std.specs.FinMap as map;
+ghost use Rattle.flash_base.specs.Lists.{Each};
+ghost use Rattle.ecu_mem.specs.Bounds.{IsRange};
 ghost use Rattle.span_store.specs.ByteMap.{over, top};
 ghost use Rattle.session_image.specs.Kept.{HasRoom, kept_byte, laid};
 ghost use Rattle.session_image.specs.Content.{is_kept};
@@ -121,6 +123,7 @@ fn of_bytes(
     number: u32,
 ) -> Result<Bytes, ImageFault>
     requires within { range.0 + range.1 ≤ top }
+    requires filters { Each IsRange filters.now }
     requires size { length bytes.now ≡ range.1 }
     ensures length { IfOk result (λ out. length out ≡ range.1) }
     ensures bytes { (result ≡ Err ImageFault.NoMemory) ⊎ (result ≡ filled number (λ a. if is_kept filters.now a then slice_get bytes.now (a - range.0) else None) fill range.0 range.1) }
@@ -143,6 +146,7 @@ pub(crate) fn body(
     number: u32,
 ) -> Result<Bytes, ImageFault>
     requires within { range.0 + range.1 ≤ top }
+    requires filters { Each IsRange block.now.filters }
     requires bytes { HasRoom content.now (before + range.1) }
     ensures length { IfOk result (λ out. length out ≡ range.1) }
     ensures bytes { (result ≡ Err ImageFault.NoMemory) ⊎ (result ≡ filled number (kept_byte content.now block.now range.0 before) fill range.0 range.1) }

@@ -31,6 +31,7 @@ pub struct Piece {
 
 /// The data without the addresses that filters drop. Plain bytes have no addresses yet.
 fn filtered(alloc: Global, content: Content, block: &Block) -> Result<Content, NoMemory>
+    requires { Each IsRange block.now.filters }
     ensures { IfOk result (λ c. c ≡ dropped content block.now) }
 {
     match content {
@@ -75,6 +76,7 @@ fn bodies(
     ranges: &[(u64, u64)],
 ) -> Result<Items<(u64, Bytes)>, ImageFault>
     requires ranges { Each IsRange ranges.now }
+    requires filters { Each IsRange block.now.filters }
     requires bytes { HasRoom content.now (total ranges.now) }
     requires limit { first + total ranges.now ≤ size_limit }
     ensures bodies { (result ≡ Err ImageFault.NoMemory) ⊎ (result ≡ kept_bodies content.now block.now fill first 0 ranges.now) }
@@ -162,6 +164,7 @@ fn kept_pieces(
     content: Content,
 ) -> Result<Items<Piece>, ImageFault>
     requires segments { Each IsRange block.now.segments }
+    requires filters { Each IsRange block.now.filters }
     requires offset { block.now.offset < address_limit }
     requires limit { number ≤ size }
     requires size { size ≤ size_limit }

@@ -1,7 +1,6 @@
 //! Which source addresses a datablock's segments have.
 ghost use Rattle.std.specs.Prelude.{◌≡◌, ◌<◌, ℕ, nat_lt, IfOk, None, Some, if◌then◌else◌};
 ghost use Rattle.flash_base.specs.Lists.{Each};
-ghost use Rattle.span_store.specs.Runs.{runs};
 ghost use Rattle.ecu_mem.specs.Bounds.{IsRange};
 ghost use Rattle.session_image.specs.Kept.{kept_ranges};
 ghost use Rattle.session_image.specs.Pieces.{total};
@@ -9,30 +8,7 @@ ghost use Rattle.session_image.specs.Pieces.{total};
 use crate::content::Content;
 use ecu_mem::Block;
 use flash_base::NoMemory;
-use span_store::Spans;
 use std::alloc::Global;
-
-/// The maximal runs of a map, ascending.
-fn runs(alloc: Global, spans: &Spans) -> Result<Vec<(u64, u64)>, NoMemory>
-    ensures runs { IfOk result (λ v. v.items ≡ runs spans.now) }
-    ensures within { IfOk result (λ v. Each IsRange v.items) }
-{
-    let mut runs = Vec::new(alloc);
-    let Some((first, bytes)) = spans.piece(0) else {
-        return Ok(runs);
-    };
-    let mut at = first;
-    let mut end = first + bytes.len() as u64;
-    while let Some((start, bytes)) = spans.piece(end) {
-        if start != end {
-            runs.push((at, end - at))?;
-            at = start;
-        }
-        end = start + bytes.len() as u64;
-    }
-    runs.push((at, end - at))?;
-    Ok(runs)
-}
 
 /// The listed segments; without any, the maximal runs of what the filters kept, of which plain
 /// bytes have none.
@@ -49,7 +25,7 @@ pub(crate) fn ranges(
         return Ok(Vec::from_slice(alloc, block.segments.as_slice())?);
     }
     match content {
-        Content::Mapped(spans) => runs(alloc, spans),
+        Content::Mapped(spans) => spans.runs(alloc),
         Content::Plain(_) => Ok(Vec::new(alloc)),
     }
 }

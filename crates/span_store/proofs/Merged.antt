@@ -10,7 +10,8 @@ use Rattle.std.specs.FinMap.Entries.{by_order}
 use Rattle.std.specs.List.{slice_get}
 use Rattle.span_store.specs.ByteMap.{ByteMap, over, top}
 use Rattle.span_store.specs.Extents.{Extent, map_of, end_of, StartFrom, AreExtents, low, high}
-use Rattle.span_store.specs.Runs.{before_runs, runs_of, runs}
+use Rattle.flash_base.specs.Lists.{Each}
+use Rattle.span_store.specs.Runs.{before_runs, runs_of, runs, IsRun}
 use Rattle.span_store.proofs.Order.{split, ascending, back, front, front_ends, high_cut, EndBy-append, EndBy_more, high_all, high_are, high_from}
 
 abbrev pairs : ℕ → List ℕ → List (ℕ × ℕ)
@@ -195,6 +196,26 @@ run_next es at end e rest s le h ne =
 pub run_last : (es : List Extent) (at end : ℕ) → high end es ≡ [] → runs_from at end es ≡ (at, end - at) ∷ []
 run_last es at end h = ap (λ r. before_runs (at, end - at) (merged r)) h
 
+-- ------ each is within the addresses
+before_runs_within : (r : ℕ × ℕ) (rs : List (ℕ × ℕ)) → IsRun r → Each IsRun rs → Each IsRun (before_runs r rs)
+before_runs_within r [] w each = (w, tt)
+before_runs_within r (s ∷ ss) w each =
+    elim (cases_Bool (eqb s.0 (r.0 + r.1))) [
+      | inl is_so ↦
+          let e : s.0 ≡ r.0 + r.1 = eqb-true s.0 (r.0 + r.1) is_so in
+          let one : 1 ≤ r.1 = w.0 in
+          let end : s.0 + s.1 ≤ top = each.0.1 in
+          rw is_so ((omega arith, omega arith), each.1)
+      | inr is_not ↦ rw is_not (w, each)
+    ]
+
+merged_within : (es : List Extent) → AreExtents es → Each IsRun (merged es)
+merged_within [] s = tt
+merged_within (e ∷ es) s = before_runs_within (e.0, length e.1) (merged es) (s.0, s.1) (merged_within es s.3)
+
+pub runs_within : (es : List Extent) → AreExtents es → Each IsRun (runs (map_of es))
+runs_within es s = subst (Each IsRun) (sym (runs-merged es s)) (merged_within es s)
+
 -- ------ what the next extent is like
 pub next_is : (es : List Extent) (here : ℕ) (e : Extent) (rest : List Extent) → AreExtents es → high here es ≡ e ∷ rest → (here ≤ e.0) × (0 < length e.1) × (end_of e ≤ top)
 next_is es here e rest s h =
@@ -202,8 +223,11 @@ next_is es here e rest s h =
     let f : StartFrom here (e ∷ rest) = subst (StartFrom here) h (high_from here es) in
     (f.0, t.0, t.1)
 
+pub runs_none : (es : List Extent) → AreExtents es → high 0 es ≡ [] → runs (map_of es) ≡ []
+runs_none es s h = runs-merged es s ∙ ap merged (sym (high_zero es) ∙ h)
+
 pub no_runs : (es : List Extent) → AreExtents es → high 0 es ≡ [] → length (runs (map_of es)) ≡ 0
-no_runs es s h = ap length (runs-merged es s) ∙ ap (λ l. length (merged l)) (sym (high_zero es) ∙ h)
+no_runs es s h = ap length (runs_none es s h)
 
 there_is : (xs : List (ℕ × ℕ)) (i : ℕ) → i < length xs → (y : ℕ × ℕ) × (slice_get xs i ≡ Some y)
 there_is [] i l = absurd (omega arith)

@@ -1,10 +1,12 @@
-//! Maximal runs, counted where they are asked for.
-ghost use Rattle.std.specs.Prelude.{◌≡◌, ◌<◌, length, slice_get, Some};
+//! Maximal runs, counted or listed where they are asked for.
+ghost use Rattle.std.specs.Prelude.{◌≡◌, ◌<◌, length, slice_get, IfOk, Some};
+ghost use Rattle.flash_base.specs.Lists.{Each};
 ghost use Rattle.span_store.specs.Extents.{map_of, AreExtents};
-ghost use Rattle.span_store.specs.Runs.{runs};
+ghost use Rattle.span_store.specs.Runs.{runs, IsRun};
 
 use crate::store::after;
-use flash_base::Bytes;
+use flash_base::{Bytes, NoMemory};
+use std::alloc::Global;
 use std::collections::BTreeMap;
 
 /// How many maximal runs there are.
@@ -49,4 +51,30 @@ pub(crate) fn run_at(store: &BTreeMap<u64, Bytes>, i: u64) -> (u64, u64)
         end = start + bytes.len() as u64;
     }
     (at, end - at)
+}
+
+/// The maximal runs, ascending, each as address and size.
+pub(crate) fn all_runs(
+    alloc: Global,
+    store: &BTreeMap<u64, Bytes>,
+) -> Result<Vec<(u64, u64)>, NoMemory>
+    requires { AreExtents store.now.entries }
+    ensures runs { IfOk result (λ v. v.items ≡ runs (map_of store.now.entries)) }
+    ensures within { IfOk result (λ v. Each IsRun v.items) }
+{
+    let mut runs = Vec::new(alloc);
+    let Some((first, bytes)) = after(store, 0) else {
+        return Ok(runs);
+    };
+    let mut from = first;
+    let mut end = first + bytes.len() as u64;
+    while let Some((start, bytes)) = after(store, end) {
+        if start != end {
+            runs.push((from, end - from))?;
+            from = start;
+        }
+        end = start + bytes.len() as u64;
+    }
+    runs.push((from, end - from))?;
+    Ok(runs)
 }

@@ -1,14 +1,15 @@
 ghost use Rattle.std.specs.Prelude.{◌≡◌, ℕ, ◌+◌, ◌<◌, ◌≤◌, ◌++◌, ◌-◌, min, take, length, slice_get, MatchOption, IfOk, None, Some};
 ghost use Rattle.std.specs.Option.{option_map};
 ghost use Rattle.std.specs.FinMap as map;
+ghost use Rattle.flash_base.specs.Lists.{Each};
 ghost use Rattle.span_store.specs.ByteMap.{top, part, Holds};
 ghost use Rattle.span_store.specs.Extents.{IsPiece};
 ghost use Rattle.span_store.specs.Lowest.{IsLowest, IsHole, IsShared};
-ghost use Rattle.span_store.specs.Runs.{runs};
+ghost use Rattle.span_store.specs.Runs.{runs, IsRun};
 ghost use Rattle.span_store.specs.Putting.{Puts};
 
 use crate::fault::PutFault;
-use crate::runs::{run_at, run_count};
+use crate::runs::{all_runs, run_at, run_count};
 use crate::store::{byte_at, piece, put_into};
 use flash_base::{Bytes, NoMemory};
 use std::alloc::Global;
@@ -181,6 +182,15 @@ impl Spans {
         ensures { slice_get (runs self.now) i ≡ Some result }
     {
         run_at(&self.store, i)
+    }
+
+    /// The maximal runs, ascending, each as address and size. One walk makes the whole list,
+    /// where `extent` walks anew for each number.
+    pub fn runs(&self, alloc: Global) -> Result<Vec<(u64, u64)>, NoMemory>
+        ensures runs { IfOk result (λ v. v.items ≡ runs self.now) }
+        ensures within { IfOk result (λ v. Each IsRun v.items) }
+    {
+        all_runs(alloc, &self.store)
     }
 }
 

@@ -26,6 +26,10 @@ fn runs_after_puts(rt: HostRuntime) {
             }
         }
         assert_eq!(rt; spans.extents(), runs.len() as u64);
+        match spans.runs(rt.alloc()) {
+            Ok(all) => assert!(rt; all.as_slice() == runs),
+            Err(_) => panic!(rt; "no memory"),
+        }
         for (i, run) in runs.iter().enumerate() {
             if (i as u64) < spans.extents() {
                 assert_eq!(rt; spans.extent(i as u64), *run);
