@@ -7,6 +7,7 @@ pub mod Joins
 pub mod Laid
 pub mod Ordered
 pub mod Outcomes
+pub mod Over
 pub mod Readings
 pub mod Refusals
 pub mod Replies

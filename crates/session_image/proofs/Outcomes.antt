@@ -3,13 +3,17 @@ use Rattle.std.proofs.Common.{◌≡◌, ◌∙◌, sym, refl, ap, ◌+◌, ◌<
 use Rattle.std.proofs.lemmas.Bool.Decides.{nat_tests}
 use Rattle.std.proofs.lemmas.Bool.{lt-ltb, le-ltb}
 use Rattle.ecu_mem.specs.declared.types.Block.{Block}
-use Rattle.session_image.specs.Kept.{HasRoom, kept_ranges, kept_bodies, kept_pieces}
-use Rattle.session_image.specs.Pieces.{◌>>=◌, size_limit, total, has_its_size, some_ranges, moved}
+use Rattle.ecu_mem.specs.declared.types.EcuMem.{EcuMem}
+use Rattle.session_image.specs.Content.{content}
+use Rattle.session_image.specs.Files.{flash_of}
+use Rattle.session_image.specs.Kept.{HasRoom, dropped, kept_ranges, kept_bodies, kept_pieces}
+use Rattle.session_image.specs.Pieces.{◌>>=◌, size_limit, total, has_its_size, some_ranges, moved, block_pieces}
 use Rattle.session_image.specs.declared.content.Content.{Content}
 use Rattle.session_image.specs.declared.content.Content.TheVariants.{Mapped, Plain}
 use Rattle.session_image.specs.declared.pieces.Piece.{Piece}
 use Rattle.session_image.specs.declared.types.ImageFault.{ImageFault}
 use Rattle.session_image.specs.declared.types.ImageFault.TheVariants.{NoSegment, TooLarge, BinarySize}
+use Rattle.session_image.proofs.Dropped.{block_same}
 
 -- the rest once the size is known to fit
 abbrev pub sized_pieces : Option ℕ → ℕ → Block → Content → List (ℕ × ℕ) → Result (List Piece) ImageFault
@@ -57,9 +61,19 @@ room_if : (t : Bool) (c d : Content) (e : ImageFault) (n : ℕ) → cond t (Ok c
 room_if true c d e n ok h = let same : c ≡ d = cc in subst (λ x. HasRoom x n) same (h refl)
 room_if false c d e n ok h = cc
 
-enough : (a n : ℕ) → a == n ≡ true → n ≤ a
+enough : (a n : ℕ) → (a == n) ≡ true → n ≤ a
 enough a n h = grind (arith, nat_tests, h)
 
 pub has_room : (c d : Content) (b : Block) (said : ℕ) → has_its_size c b said ≡ Ok d → HasRoom d said
 has_room (Mapped m) d b said ok = let same : Mapped m ≡ d = cc in subst (λ x. HasRoom x said) same tt
 has_room (Plain bytes) d b said ok = room_if (length bytes == said) (Plain bytes) d (BinarySize b.id said (length bytes)) said ok (enough (length bytes) said)
+
+-- ------ with its data
+pub of_content : (m : EcuMem) (files : List (List ℕ × List ℕ)) (fill : Option ℕ) (number size : ℕ) (b : Block) (e : ImageFault) →
+    content files (flash_of m b) ≡ Err e → block_pieces m files fill number size b ≡ Err e
+of_content m files fill number size b e err = sym (block_same m files fill number size b) ∙ ap (λ r. r >>= λ c. kept_pieces fill number size b (dropped c b)) err
+
+pub of_block : (m : EcuMem) (files : List (List ℕ × List ℕ)) (fill : Option ℕ) (number size : ℕ) (b : Block) (c d : Content) →
+    content files (flash_of m b) ≡ Ok c → d ≡ dropped c b → block_pieces m files fill number size b ≡ kept_pieces fill number size b d
+of_block m files fill number size b c d ok is =
+    sym (block_same m files fill number size b) ∙ ap (λ r. r >>= λ c. kept_pieces fill number size b (dropped c b)) ok ∙ ap (kept_pieces fill number size b) (sym is)
