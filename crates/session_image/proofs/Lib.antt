@@ -5,10 +5,13 @@ pub mod Dropped
 pub mod Filled
 pub mod Joins
 pub mod Laid
+pub mod Listed
 pub mod Ordered
+pub mod Plain
 pub mod Readings
 pub mod Refusals
 pub mod Replies
+pub mod Retained
 pub mod Shared
 pub mod Sizes
 pub mod Usable
