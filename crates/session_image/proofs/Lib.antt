@@ -5,12 +5,15 @@ pub mod Dropped
 pub mod Filled
 pub mod Joins
 pub mod Laid
+pub mod Listed
 pub mod Ordered
 pub mod Outcomes
 pub mod Over
+pub mod Plain
 pub mod Readings
 pub mod Refusals
 pub mod Replies
+pub mod Retained
 pub mod Shared
 pub mod Sizes
 pub mod Usable

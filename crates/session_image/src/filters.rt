@@ -1,5 +1,6 @@
 //! The part of a byte map that filters keep.
 ghost use Rattle.std.specs.Prelude.{◌≡◌, ℕ, Bool, IfOk, OnOk, take};
+ghost use Rattle.std.specs.List.{All};
 ghost use Rattle.std.specs.List.Sorted.{IsPermutation, IsNonDecreasingBy};
 ghost use Rattle.std.specs.FinMap.{retain_keys};
 ghost use Rattle.flash_base.specs.Lists.{Each};
@@ -54,20 +55,30 @@ fn add_part(kept: &mut Spans, spans: &Spans, from: u64, stop: u64) -> Result<(),
     Ok(())
 }
 
-/// The part of a map in some of the ranges. Each byte is copied once, however many ranges have it.
-fn in_one(alloc: Global, spans: &Spans, ranges: &[(u64, u64)]) -> Result<Spans, NoMemory>
-    requires { Each IsRange ranges.now }
+/// The part of a map in some of the ranges, which ascend by their starts. Each byte is copied
+/// once, however many ranges have it.
+fn in_order(alloc: Global, spans: &Spans, ranges: &[(u64, u64)]) -> Result<Spans, NoMemory>
+    requires within { All IsRange ranges.now }
+    requires ascend { IsNonDecreasingBy (λ r. r.0) ranges.now }
     ensures { IfOk result (λ kept. kept ≡ retain_keys spans.now (is_in_one ranges.now)) }
 {
-    let sorted = sorted(alloc, ranges)?;
     let mut kept = Spans::new(alloc);
     let mut reached = 0;
-    for range in sorted.iter() {
+    for range in ranges {
         let stop = range.0 + range.1;
         add_part(&mut kept, spans, range.0.max(reached), stop)?;
         reached = stop.max(reached);
     }
     Ok(kept)
+}
+
+/// The part of a map in some of the ranges.
+fn in_one(alloc: Global, spans: &Spans, ranges: &[(u64, u64)]) -> Result<Spans, NoMemory>
+    requires { Each IsRange ranges.now }
+    ensures { IfOk result (λ kept. kept ≡ retain_keys spans.now (is_in_one ranges.now)) }
+{
+    let sorted = sorted(alloc, ranges)?;
+    in_order(alloc, spans, sorted.as_slice())
 }
 
 /// The part of a map that filters keep; without filters it is the whole.

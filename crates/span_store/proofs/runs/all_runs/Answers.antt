@@ -1,8 +1,8 @@
-use Rattle.std.proofs.Common.{Vec, Global, ◌≡◌, ◌+◌, ◌-◌, ◌∙◌, ◌++◌, ◌∷◌, [], List, length, ℕ, sym, ap, subst, arith, append_assoc}
+use Rattle.std.proofs.Common.{Vec, Global, ◌≡◌, ◌-◌, ◌∙◌, ◌++◌, ◌∷◌, [], List, ℕ, sym, ap, subst, arith, append_assoc}
 use Rattle.flash_base.specs.Lists.{Each}
 use Rattle.span_store.specs.Extents.{Extent, map_of, end_of}
 use Rattle.span_store.specs.Runs.{IsRun, runs}
-use Rattle.span_store.proofs.Merged.{merged, runs_from, runs-merged, runs_none, runs_within, next_is, run_first, run_longer, run_next, run_last}
+use Rattle.span_store.proofs.Merged.{runs_from, runs-merged, runs_none, runs_within, next_is, run_first, run_longer, run_next, run_last}
 use Rattle.span_store.proofs.runs.all_runs.Goals as goal
 use Rattle.span_store.proofs.runs.all_runs.Goals.{then-start-end+in_ok-push, else-start-end}
 
