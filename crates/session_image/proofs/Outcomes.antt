@@ -2,6 +2,8 @@
 use Rattle.std.proofs.Common.{◌≡◌, ◌∙◌, sym, refl, ap, ◌+◌, ◌<◌, ◌≤◌, ℕ, List, [], ◌∷◌, length, arith, subst, Bool, true, false, ◌==◌, Option, Result, Ok, Err, nat_lt, cond}
 use Rattle.std.proofs.lemmas.Bool.Decides.{nat_tests}
 use Rattle.std.proofs.lemmas.Bool.{lt-ltb, le-ltb}
+use Rattle.flash_base.specs.Lists.{Each}
+use Rattle.ecu_mem.specs.Bounds.{IsRange}
 use Rattle.ecu_mem.specs.declared.types.Block.{Block}
 use Rattle.ecu_mem.specs.declared.types.EcuMem.{EcuMem}
 use Rattle.session_image.specs.Content.{content}
@@ -67,6 +69,14 @@ enough a n h = grind (arith, nat_tests, h)
 pub has_room : (c d : Content) (b : Block) (said : ℕ) → has_its_size c b said ≡ Ok d → HasRoom d said
 has_room (Mapped m) d b said ok = let same : Mapped m ≡ d = cc in subst (λ x. HasRoom x said) same tt
 has_room (Plain bytes) d b said ok = room_if (length bytes == said) (Plain bytes) d (BinarySize b.id said (length bytes)) said ok (enough (length bytes) said)
+
+-- ------ a range has an address at least
+pub not_empty : (n : ℕ) (b : Bool) → b ≡ (n == 0) → b ≡ false → 1 ≤ n
+not_empty n b is no = grind (arith, nat_tests, is, no)
+
+pub some_total : (rs : List (ℕ × ℕ)) → 1 ≤ length rs → Each IsRange rs → 1 ≤ total rs
+some_total [] some within = absurd (omega arith)
+some_total (r ∷ rs) some within = let one : 1 ≤ r.1 = within.0.0 in omega arith
 
 -- ------ with its data
 pub of_content : (m : EcuMem) (files : List (List ℕ × List ℕ)) (fill : Option ℕ) (number size : ℕ) (b : Block) (e : ImageFault) →

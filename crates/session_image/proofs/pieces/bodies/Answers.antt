@@ -1,10 +1,11 @@
-use Rattle.std.proofs.Common.{◌≡◌, ◌∙◌, ◌+◌, ◌≤◌, ◌++◌, ℕ, List, [], ◌∷◌, sym, ap, arith, length, drop, subst}
+use Rattle.std.proofs.Common.{◌≡◌, ◌∙◌, ◌+◌, ◌≤◌, ◌++◌, ℕ, List, [], ◌∷◌, sym, ap, arith, length, drop, get_or, subst}
+use Rattle.std.proofs.lemmas.List.{drop_more}
 use Rattle.flash_base.specs.Lists.{Each}
 use Rattle.ecu_mem.specs.Bounds.{IsRange}
 use Rattle.session_image.specs.Kept.{kept_byte, kept_bodies, sizes, IsWithin}
 use Rattle.session_image.specs.Pieces.{filled, total}
 use Rattle.session_image.proofs.Begins.{with_start, bodies_begin}
-use Rattle.session_image.proofs.Joins.{joined, drop_at, given, next}
+use Rattle.session_image.proofs.Joins.{joined, given, next}
 use Rattle.session_image.proofs.Sizes.{each_pushed, sizes_pushed}
 use Rattle.session_image.proofs.pieces.bodies.Goals as goal
 
@@ -17,9 +18,9 @@ loop-range-preserved c =
     let before : ℕ = c.loop-range.before in
     let rs = c.args.ranges.now in
     let j : ℕ = c.loop-range.range-index in
-    let r = c.range-item.result in
+    let r : ℕ × ℕ = get_or rs j (0, 0) in
     let rest = drop (j + 1) rs in
-    let step = drop_at rs j r c.loop-range-test.true c.range-item.is in
+    let step : drop j rs ≡ r ∷ rest = drop_more rs j (0, 0) c.loop-range-test.true in
     let body = c.in_ok-body.body in
     let y : ℕ × List ℕ = (r.0, body) in
     let each : Each IsRange (r ∷ rest) = subst (Each IsRange) step i.rest in
