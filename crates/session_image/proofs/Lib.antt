@@ -5,7 +5,6 @@ pub mod Dropped
 pub mod Filled
 pub mod Joins
 pub mod Laid
-pub mod Listed
 pub mod Ordered
 pub mod Plain
 pub mod Readings
