@@ -1,8 +1,8 @@
 -- Bytes laid over others.
 use Rattle.std.proofs.Math.Seq.{take-append-add, take-add}
-use Rattle.std.proofs.lemmas.List.{take-append-drop, length-take-le}
+use Rattle.std.proofs.lemmas.List.{take-append-drop, take-append-le, take_all, length-take-le}
 use Rattle.std.proofs.lemmas.Slice.{drop-append-drop}
-use Rattle.std.proofs.Common.{append_assoc, length-drop, ◌≡◌, ◌∙◌, sym, refl, ap, zero, suc, ◌+◌, ◌-◌, ◌<◌, ◌≤◌, ℕ, List, [], ◌∷◌, ◌++◌, length, take, drop, min, Option, Some, None, Result, Ok, Err, arith, subst, replicate, cond, get_or, Bool, true, false}
+use Rattle.std.proofs.Common.{append_assoc, length-drop, ◌⊎◌, inl, inr, ◌≡◌, ◌∙◌, sym, refl, ap, zero, suc, ◌+◌, ◌-◌, ◌<◌, ◌≤◌, ℕ, List, [], ◌∷◌, ◌++◌, length, take, drop, min, Option, Some, None, Result, Ok, Err, arith, subst, replicate, cond, get_or, Bool, true, false}
 use Rattle.std.proofs.lemmas.Bool.Decides.{nat_tests}
 use Rattle.std.proofs.lemmas.Option.{slice_get-get_or}
 use Rattle.flash_base.specs.ByteMaps.{is_in}
@@ -76,6 +76,18 @@ all_over p ps fill a (suc n) =
 pub none_there : (fill : Option ℕ) (a n : ℕ) → replicate n (or_byte fill 255) ≡ check_bytes [] fill a n
 none_there fill a zero = refl
 none_there fill a (suc n) = ap (λ xs. or_byte fill 255 ∷ xs) (none_there fill (a + 1) n)
+
+-- a vector that was lent as a slice
+pub written_back : (n : ℕ) (items xs : List ℕ) → length xs ≡ length items → n ≡ length items → take n (xs ++ drop (length xs) items) ≡ xs
+written_back n items xs same is = take-append-le n xs (drop (length xs) items) (omega (arith, same, is)) ∙ take_all n xs (omega (arith, same, is))
+
+-- bytes from the range's start on, or all of a gap before them
+pub byte_outside : (at : ℕ) (bytes : List ℕ) (b : ℕ) → (b < at) ⊎ (at + length bytes ≤ b) → byte_in at bytes b ≡ None
+byte_outside at bytes b (inl h) = grind (arith, nat_tests, h)
+byte_outside at bytes b (inr h) = grind (arith, nat_tests, h)
+
+pub byte_inside : (at : ℕ) (bytes : List ℕ) (b : ℕ) → at ≤ b → b < at + length bytes → byte_in at bytes b ≡ slice_get bytes (b - at)
+byte_inside at bytes b l u = grind (arith, nat_tests, l, u)
 
 -- ------ laid so far
 -- the rest of the range has nothing to be laid

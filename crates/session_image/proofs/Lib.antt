@@ -6,6 +6,8 @@ pub mod Filled
 pub mod Joins
 pub mod Laid
 pub mod Ordered
+pub mod Outcomes
+pub mod Over
 pub mod Plain
 pub mod Readings
 pub mod Refusals

@@ -1,5 +1,5 @@
 -- The target ranges by their starts, and the lowest address that two have.
-use Rattle.std.proofs.Common.{◌≡◌, ◌∙◌, sym, refl, ap, zero, suc, ◌+◌, ◌<◌, ◌≤◌, ℕ, List, [], ◌∷◌, length, get_or, arith, Option, Some, None, subst}
+use Rattle.std.proofs.Common.{◌≡◌, ◌∙◌, sym, refl, ap, zero, suc, ◌+◌, ◌<◌, ◌≤◌, ℕ, List, [], ◌∷◌, length, get_or, arith, Option, Some, None, subst, cond, false, nat_lt}
 use Rattle.std.proofs.lemmas.Bool.{le-ltb}
 use Rattle.std.proofs.lemmas.List.Sorted.{All-permutation, sum_by-IsPermutation}
 use Rattle.std.proofs.lemmas.List.Sums.{sum_by-cons}
@@ -14,16 +14,16 @@ use Rattle.session_image.specs.declared.pieces.Piece.{Piece}
 use Rattle.session_image.proofs.Apart.{met}
 use Rattle.session_image.proofs.Shared.{hit_two, two_hits}
 
--- a range has an address
-abbrev pub IsSome : ℕ × ℕ → Type 0
-IsSome t = t.0 < t.1
+-- it begins before its end
+abbrev pub HasAddress : ℕ × ℕ → Type 0
+HasAddress t = t.0 < t.1
 
-some_ranges : (ps : List Piece) → Each IsPlaced ps → All IsSome (ranges_of ps)
+some_ranges : (ps : List Piece) → Each IsPlaced ps → All HasAddress (ranges_of ps)
 some_ranges [] h k d l = absurd (omega arith)
 some_ranges (p ∷ ps) h zero d l = let one : 1 ≤ length p.body = h.0.some in omega arith
 some_ranges (p ∷ ps) h (suc k) d l = some_ranges ps h.1 k d (omega arith)
 
-ascend_from : (ts : List (ℕ × ℕ)) (low : ℕ) → IsNonDecreasingBy (λ (t : ℕ × ℕ). t.0) ts → All IsSome ts → ((d : ℕ × ℕ) → 0 < length ts → low ≤ (get_or ts 0 d).0) → Ascend low ts
+ascend_from : (ts : List (ℕ × ℕ)) (low : ℕ) → IsNonDecreasingBy (λ (t : ℕ × ℕ). t.0) ts → All HasAddress ts → ((d : ℕ × ℕ) → 0 < length ts → low ≤ (get_or ts 0 d).0) → Ascend low ts
 ascend_from [] low up some first = tt
 ascend_from (t ∷ ts) low up some first = (
   first t (omega arith),
@@ -33,7 +33,7 @@ ascend_from (t ∷ ts) low up some first = (
 
 -- ranges of segments in the order of their starts
 pub ascend : (ps : List Piece) (ts : List (ℕ × ℕ)) → Each IsPlaced ps → IsPermutation (ranges_of ps) ts → IsNonDecreasingBy (λ (t : ℕ × ℕ). t.0) ts → Ascend 0 ts
-ascend ps ts placed same up = ascend_from ts 0 up (All-permutation IsSome (ranges_of ps) ts same (some_ranges ps placed)) (λ d l. omega arith)
+ascend ps ts placed same up = ascend_from ts 0 up (All-permutation HasAddress (ranges_of ps) ts same (some_ranges ps placed)) (λ d l. omega arith)
 
 -- ------ the order changes no count
 hits_sum : (a : ℕ) (ts : List (ℕ × ℕ)) → hits a ts ≡ sum_by (hit a) ts
@@ -50,7 +50,9 @@ lowest_same P Q (Some low) to from h = (to low h.0, λ a below q. h.1 a below (f
 
 lowest_hits : (ts : List (ℕ × ℕ)) → Ascend 0 ts → IsLowest (λ a. 2 ≤ hits a ts) (first_met 0 ts)
 lowest_hits [] asc = λ a h. omega (arith, h)
-lowest_hits (t ∷ ts) asc = rw (le-ltb t.0 0 (omega arith)) (met t ts asc.1 asc.2)
+lowest_hits (t ∷ ts) asc =
+    let e : nat_lt t.0 0 ≡ false = le-ltb t.0 0 (omega arith) in
+    subst (λ x. IsLowest (λ a. 2 ≤ hits a (t ∷ ts)) (cond x (Some t.0) (first_met t.1 ts))) (sym e) (met t ts asc.1 asc.2)
 
 pub lowest_shared : (ps : List Piece) (ts : List (ℕ × ℕ)) → IsPermutation (ranges_of ps) ts → Ascend 0 ts → IsLowest (IsShared ps) (first_met 0 ts)
 lowest_shared ps ts same asc =

@@ -1,9 +1,9 @@
 -- Numbers and sizes of segments.
-use Rattle.std.proofs.Common.{◌≡◌, ◌∙◌, sym, refl, ap, suc, ◌+◌, ◌<◌, ◌≤◌, ℕ, List, [], ◌∷◌, ◌++◌, length, length-append, arith, Option, Result, Ok, Err}
+use Rattle.std.proofs.Common.{◌≡◌, ◌∙◌, sym, refl, ap, suc, ◌+◌, ◌<◌, ◌≤◌, ℕ, List, [], ◌∷◌, ◌++◌, length, length-append, arith, subst, Option, Result, Ok, Err}
 use Rattle.flash_base.specs.Lists.{Each}
 use Rattle.ecu_mem.specs.declared.types.Block.{Block}
 use Rattle.ecu_mem.specs.declared.types.EcuMem.{EcuMem}
-use Rattle.session_image.specs.Kept.{IsPlaced}
+use Rattle.session_image.specs.Kept.{IsPlaced, sizes}
 use Rattle.session_image.specs.Pieces.{◌>>=◌, size_of, block_pieces, all_pieces}
 use Rattle.session_image.specs.declared.pieces.Piece.{Piece}
 use Rattle.session_image.specs.declared.types.ImageFault.{ImageFault}
@@ -16,6 +16,20 @@ each-append P (x ∷ xs) ys h k = (h.0, each-append P xs ys h.1 k)
 pub size_of-append : (ps qs : List Piece) → size_of (ps ++ qs) ≡ size_of ps + size_of qs
 size_of-append [] qs = let e : size_of qs ≡ 0 + size_of qs = omega arith in e
 size_of-append (p ∷ ps) qs = let e = size_of-append ps qs in omega (arith, e)
+
+-- one more at the end
+pub each_pushed : {A : Type 0} (P : A → Type 0) (xs ys : List A) (y : A) → ys ≡ xs ++ y ∷ [] → Each P xs → P y → Each P ys
+each_pushed P xs ys y is h one = subst (Each P) (sym is) (each-append P xs (y ∷ []) h (one, tt))
+
+pub size_of_pushed : (ps qs : List Piece) (p : Piece) → qs ≡ ps ++ p ∷ [] → size_of qs ≡ size_of ps + length p.body
+size_of_pushed ps qs p is = let e = size_of-append ps (p ∷ []) in let f : size_of qs ≡ size_of (ps ++ p ∷ []) = ap size_of is in omega (arith, e, f)
+
+sizes-append : (xs ys : List (ℕ × List ℕ)) → sizes (xs ++ ys) ≡ sizes xs + sizes ys
+sizes-append [] ys = let e : sizes ys ≡ 0 + sizes ys = omega arith in e
+sizes-append (x ∷ xs) ys = let e = sizes-append xs ys in omega (arith, e)
+
+pub sizes_pushed : (xs ys : List (ℕ × List ℕ)) (y : ℕ × List ℕ) → ys ≡ xs ++ y ∷ [] → sizes ys ≡ sizes xs + length y.1
+sizes_pushed xs ys y is = let e = sizes-append xs (y ∷ []) in let f : sizes ys ≡ sizes (xs ++ y ∷ []) = ap sizes is in omega (arith, e, f)
 
 -- each has a byte, so there are not more segments than bytes
 pub as_many : (ps : List Piece) → Each IsPlaced ps → length ps ≤ size_of ps

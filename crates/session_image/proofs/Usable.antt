@@ -54,8 +54,8 @@ apart_rest p (q ∷ qs) hp h none = (
 pub are_apart : (ps : List Piece) → Each IsPlaced ps → ((a : ℕ) → IsShared ps a → ⊥) → AreApart (segments_of ps)
 are_apart [] h none = tt
 are_apart (p ∷ ps) h none = (
-  apart_rest p ps h.0 h.1 (λ j q a is pl pu ql qu. none a (0, suc j, p, q, omega arith, refl, is, (pl, pu), (ql, qu))),
-  are_apart ps h.1 (λ a w. let lt : w.0 < w.1 = w.4 in none a (suc w.0, suc w.1, w.2, w.3, omega arith, w.5, w.6, w.7, w.8)),
+  apart_rest p ps h.0 h.1 (λ j q a is pl pu ql qu. let shared : IsShared (p ∷ ps) a = (0, suc j, p, q, omega arith, refl, is, (pl, pu), (ql, qu)) in none a shared),
+  are_apart ps h.1 (λ a w. let lt : w.0 < w.1 = w.4 in let shared : IsShared (p ∷ ps) a = (suc w.0, suc w.1, w.2, w.3, omega arith, w.5, w.6, w.7, w.8) in none a shared),
 )
 
 -- ------ own idents
