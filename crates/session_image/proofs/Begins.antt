@@ -1,9 +1,12 @@
 -- What the first item of a list does to the whole.
-use Rattle.std.proofs.Common.{◌≡◌, refl, zero, suc, ◌+◌, ◌<◌, ℕ, List, [], ◌∷◌, length, arith, cond, Bool, true, false, Option, Result, Ok, Err}
+use Rattle.std.proofs.Common.{◌≡◌, refl, zero, suc, ◌+◌, ◌-◌, ◌<◌, ◌≤◌, ◌⊎◌, inl, inr, nat_lt, ℕ, List, [], ◌∷◌, length, arith, cond, Bool, true, false, Option, Result, Ok, Err}
+use Rattle.std.proofs.lemmas.Bool.{cases_lt, lt-ltb}
 use Rattle.std.specs.Prelude.{slice_index_or}
 use Rattle.flash_base.specs.Lists.{Each}
+use Rattle.span_store.specs.ByteMap.{top}
+use Rattle.ecu_mem.specs.Values.{address_limit}
 use Rattle.ecu_mem.specs.declared.types.Block.{Block}
-use Rattle.session_image.specs.Kept.{kept_byte, kept_bodies}
+use Rattle.session_image.specs.Kept.{IsPlaced, IsWithin, kept_byte, kept_bodies}
 use Rattle.session_image.specs.Pieces.{◌>>=◌, filled, is_outside, target_of, moved}
 use Rattle.session_image.specs.declared.content.Content.{Content}
 use Rattle.session_image.specs.declared.pieces.Piece.{Piece}
@@ -33,6 +36,21 @@ moved_inside b number s h = rw h refl
 
 pub moved_outside : (b : Block) (number : ℕ) (s : ℕ × List ℕ) → is_outside b s.0 (length s.1) ≡ true → one_moved b number s ≡ Err (OutOfRange number)
 moved_outside b number s h = rw h refl
+
+at_target : (down : Bool) (at offset size : ℕ) → at + size ≤ address_limit → cond down (nat_lt at offset) (nat_lt top (at + offset + size)) ≡ false → cond down (at - offset) (at + offset) + size ≤ address_limit
+at_target true at offset size h inside = omega arith
+at_target false at offset size h inside = elim (cases_lt top (at + offset + size)) [
+  | inl lt ↦ let t : nat_lt top (at + offset + size) ≡ true = lt-ltb top (at + offset + size) lt in cc
+  | inr le ↦ omega arith
+]
+
+-- it is within the addresses there too
+pub placed_one : (b : Block) (s : ℕ × List ℕ) → IsWithin s → is_outside b s.0 (length s.1) ≡ false → IsPlaced (record { source = s.0; target = target_of b s.0; body = s.1 })
+placed_one b s within inside = record {
+  some = within.0;
+  source = within.1;
+  target = at_target b.down s.0 b.offset (length s.1) within.1 inside;
+}
 
 -- ------ one range with its bytes
 abbrev pub with_start : ℕ → Result (List ℕ) ImageFault → Result (ℕ × List ℕ) ImageFault

@@ -1,10 +1,10 @@
 //! The checksums of a session.
-ghost use Rattle.std.specs.Prelude.{◌≡◌, ◌⊎◌, ℕ, ◌≤◌, ◌<◌, ◌+◌, ◌%◌, Err, IfOk, Some, sum, length};
+ghost use Rattle.std.specs.Prelude.{◌≡◌, ◌⊎◌, ℕ, ◌≤◌, ◌<◌, ◌+◌, ◌%◌, Err, IfOk, Some, sum, length, replicate};
 ghost use Rattle.ecu_mem.specs.Bounds.{IsCheck};
 ghost use Rattle.ecu_mem.specs.Values.{address_limit};
 ghost use Rattle.flash_base.specs.Lists.{Each};
 ghost use Rattle.session_image.specs.Algorithms.{known, value_of};
-ghost use Rattle.session_image.specs.Checks.{compared, check_bytes, checked, all_checked};
+ghost use Rattle.session_image.specs.Checks.{or_byte, compared, check_bytes, checked, all_checked};
 ghost use Rattle.session_image.specs.Kept.{IsPlaced, byte_in, laid};
 ghost use Rattle.session_image.specs.Pieces.{size_limit};
 
@@ -30,6 +30,24 @@ fn lay_over(out: &mut [u8], from: u64, at: u64, bytes: &[u8])
     copied(out, (first - from) as usize, there);
 }
 
+/// What stands where no segment has an address.
+fn blank_byte(fill: Option<u8>) -> u8
+    ensures { result ≡ or_byte fill 255 }
+{
+    match fill {
+        Some(byte) => byte,
+        None => 255,
+    }
+}
+
+/// The bytes of a range that no segment has.
+fn blank(alloc: Global, fill: Option<u8>, size: u64) -> Result<Vec<u8>, NoMemory>
+    ensures { IfOk result (λ v. v.items ≡ replicate size (or_byte fill 255)) }
+{
+    let byte = blank_byte(fill);
+    Ok(vec![in alloc; byte; size as usize]?)
+}
+
 /// The bytes of a range of source addresses. Where several segments have an address, the first one
 /// counts, so it is copied last.
 fn check_bytes(
@@ -43,7 +61,7 @@ fn check_bytes(
     requires range { from + size ≤ address_limit }
     ensures { IfOk result (λ v. v.items ≡ check_bytes pieces.now fill from size) }
 {
-    let mut out = vec![in alloc; fill.unwrap_or(255); size as usize]?;
+    let mut out = blank(alloc, fill, size)?;
     let mut left = pieces.len();
     while 0 < left {
         left -= 1;

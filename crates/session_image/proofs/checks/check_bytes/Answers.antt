@@ -1,27 +1,21 @@
 use Rattle.std.proofs.Common.{◌≡◌, ◌∙◌, ◌+◌, ◌-◌, ◌≤◌, ◌++◌, ◌∷◌, [], ℕ, List, Option, Some, None, refl, sym, ap, arith, length, drop, take, replicate}
 use Rattle.std.proofs.lemmas.List.{drop_all, length-replicate}
-use Rattle.std.specs.Option.{unwrap_or}
 use Rattle.session_image.specs.Checks.{or_byte, check_bytes}
 use Rattle.session_image.specs.Kept.{byte_in, laid}
 use Rattle.session_image.proofs.Joins.{drop_at}
 use Rattle.session_image.proofs.Laid.{all_over, none_there, length-laid, written_back}
 use Rattle.session_image.proofs.checks.check_bytes.Goals as goal
 
-or_said : (o : Option ℕ) → unwrap_or o 255 ≡ or_byte o 255
-or_said None = refl
-or_said (Some x) = refl
-
 pub loop-left-init : goal.loop-left-init
 loop-left-init c =
     let ps = c.args.pieces.now in
     let none : drop (length ps) ps ≡ [] = drop_all (length ps) ps (omega arith) in
-    let items : c.in_ok-out.out.items ≡ replicate c.args.size c.unwrap_or.result = ? in
-    let said : c.unwrap_or.result ≡ unwrap_or c.args.fill 255 = ? in
+    let items : c.in_ok-out.out.items ≡ replicate c.args.size (or_byte c.args.fill 255) = c.in_ok-out.ensures in
     record {
       within = omega arith;
-      size = ap length items ∙ length-replicate c.args.size c.unwrap_or.result;
+      size = ap length items ∙ length-replicate c.args.size (or_byte c.args.fill 255);
       laid =
-          items ∙ ap (replicate c.args.size) (said ∙ or_said c.args.fill) ∙ none_there c.args.fill c.args.from c.args.size
+          items ∙ none_there c.args.fill c.args.from c.args.size
           ∙ ap (λ l. check_bytes l c.args.fill c.args.from c.args.size) (sym none);
     }
 
@@ -34,11 +28,13 @@ loop-left-preserved c =
     let out = c.loop-left.out in
     let new = c.lay_over.new.out in
     let look = byte_in p.source p.body in
-    let over : c.lay_over.new.out ≡ laid (byte_in p.source p.body) c.args.from out.items = ? in
+    let over : c.lay_over.new.out ≡ laid (byte_in p.source p.body) c.args.from out.items =
+    c.lay_over.ensures ∙ ap (λ (l : List ℕ). laid (byte_in p.source l) c.args.from c.deref_mut.result.now) c.as_slice.ensures ∙ ap (laid look c.args.from) c.deref_mut.ensures.value in
     let back : left - 1 + 1 ≡ left = omega arith in
     let step : drop (left - 1) ps ≡ p ∷ drop (left - 1 + 1) ps = drop_at ps (left - 1) p (omega arith) c.index-pieces-left.is in
     let many : length c.lay_over.new.out ≡ length out.items = ap length over ∙ length-laid look c.args.from out.items in
-    let whole = written_back out.len out.items new many ? in
+    let full : out.len ≡ length out.items = sym c.deref_mut.ensures.len ∙ ap length c.deref_mut.ensures.value in
+    let whole = written_back out.len out.items new many full in
     record {
       within = omega arith;
       size = ap length whole ∙ many ∙ i.size;

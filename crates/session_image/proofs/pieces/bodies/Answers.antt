@@ -11,7 +11,7 @@ use Rattle.session_image.proofs.pieces.bodies.Goals as goal
 pub loop-range-preserved : goal.loop-range-preserved
 loop-range-preserved c =
     let i = c.loop-range.invariant in
-    let data = c.args.content.now in
+    let held = c.args.content.now in
     let b = c.args.block.now in
     let n : ℕ = c.loop-range.number in
     let before : ℕ = c.loop-range.before in
@@ -30,10 +30,10 @@ loop-range-preserved c =
     let more : sizes c.push.new.self ≡ sizes c.loop-range.bodies + length body = sizes_pushed c.loop-range.bodies c.push.new.self y c.in_ok-push.ensures.ok in
     let one : IsWithin y = (omega arith, omega arith) in
     record {
-      are = next (kept_bodies data b c.args.fill n before) (kept_bodies data b c.args.fill (n + 1) (before + r.1)) r
-          (with_start r.0 (filled n (kept_byte data b r.0 before) c.args.fill r.0 r.1)) rest y c.loop-range.bodies c.push.new.self (kept_bodies data b c.args.fill c.args.first 0 rs)
-          (bodies_begin data b c.args.fill n before r) (ap (with_start r.0) (given c.in_ok-body.ensures.bytes)) c.in_ok-push.ensures.ok
-          (i.are ∙ ap (λ l. joined c.loop-range.bodies (kept_bodies data b c.args.fill n before l)) step);
+      are = next (kept_bodies held b c.args.fill n before) (kept_bodies held b c.args.fill (n + 1) (before + r.1)) r
+          (with_start r.0 (filled n (kept_byte held b r.0 before) c.args.fill r.0 r.1)) rest y c.loop-range.bodies c.push.new.self (kept_bodies held b c.args.fill c.args.first 0 rs)
+          (bodies_begin held b c.args.fill n before r) (ap (with_start r.0) (given c.in_ok-body.ensures.bytes)) c.in_ok-push.ensures.ok
+          (i.are ∙ ap (λ l. joined c.loop-range.bodies (kept_bodies held b c.args.fill n before l)) step);
       rest = each.1;
       before = omega (arith, all, i.before);
       limit = omega (arith, all, some, i.limit);
