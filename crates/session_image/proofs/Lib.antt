@@ -17,3 +17,4 @@ pub mod Shared
 pub mod Sizes
 pub mod Usable
 pub mod Values
+pub mod Wanted
