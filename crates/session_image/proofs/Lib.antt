@@ -5,7 +5,6 @@ pub mod Dropped
 pub mod Filled
 pub mod Joins
 pub mod Laid
-pub mod Listed
 pub mod Ordered
 pub mod Outcomes
 pub mod Over
@@ -18,3 +17,4 @@ pub mod Shared
 pub mod Sizes
 pub mod Usable
 pub mod Values
+pub mod Wanted
