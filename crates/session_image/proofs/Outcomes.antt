@@ -1,7 +1,7 @@
 -- What a datablock gives, step after step.
-use Rattle.std.proofs.Common.{◌≡◌, ◌∙◌, sym, refl, ap, ◌+◌, ◌<◌, ◌≤◌, ℕ, List, [], ◌∷◌, length, arith, subst, Bool, true, false, ◌==◌, Option, Result, Ok, Err, nat_lt, cond}
+use Rattle.std.proofs.Common.{◌≡◌, ◌∙◌, sym, refl, ap, zero, suc, ◌+◌, ◌<◌, ◌≤◌, ℕ, List, [], ◌∷◌, length, arith, subst, Bool, true, false, ◌==◌, Option, Result, Ok, Err, nat_lt, cond}
 use Rattle.std.proofs.lemmas.Bool.Decides.{nat_tests}
-use Rattle.std.proofs.lemmas.Bool.{lt-ltb, le-ltb}
+use Rattle.std.proofs.lemmas.Bool.{lt-ltb, le-ltb, false≢true}
 use Rattle.flash_base.specs.Lists.{Each}
 use Rattle.ecu_mem.specs.Bounds.{IsRange}
 use Rattle.ecu_mem.specs.declared.types.Block.{Block}
@@ -72,7 +72,8 @@ has_room (Plain bytes) d b said ok = room_if (length bytes == said) (Plain bytes
 
 -- ------ a range has an address at least
 pub not_empty : (n : ℕ) (b : Bool) → b ≡ (n == 0) → b ≡ false → 1 ≤ n
-not_empty n b is no = grind (arith, nat_tests, is, no)
+not_empty zero b is other = absurd (false≢true (sym other ∙ is))
+not_empty (suc n) b is other = omega arith
 
 pub some_total : (rs : List (ℕ × ℕ)) → 1 ≤ length rs → Each IsRange rs → 1 ≤ total rs
 some_total [] some within = absurd (omega arith)

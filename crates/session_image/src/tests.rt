@@ -1,4 +1,5 @@
-ghost use Rattle.std.specs.Prelude.{◌≡◌, ◌<◌, length, IfOk, IsTrue};
+ghost use Rattle.std.specs.Prelude.{◌<◌, length, IfOk, IsSome, IsTrue};
+ghost use Rattle.flash_base.specs.Files.{first_of};
 ghost use Rattle.ecu_mem.specs.Bounds.{IsWhole};
 ghost use Rattle.session_image.specs.Images.{HasFiles};
 
@@ -136,6 +137,12 @@ fn document(
     Ok(resolve(alloc, &root)?)
 }
 
+fn has_file(files: &Files, name: &Text) -> bool
+    ensures { IsTrue result → IsSome (first_of name.now files.now) }
+{
+    files.find(name.as_str()).is_some()
+}
+
 /// Whether all files that a session needs are there.
 fn has_files(alloc: Global, mem: &EcuMem, session: u64, files: &Files) -> Result<bool, Fail>
     requires whole { IsWhole mem.now }
@@ -146,7 +153,7 @@ fn has_files(alloc: Global, mem: &EcuMem, session: u64, files: &Files) -> Result
     let mut left = names.len();
     while 0 < left {
         left -= 1;
-        if files.find(names.at(left).as_str()).is_none() {
+        if !has_file(files, names.at(left)) {
             return Ok(false);
         }
     }
