@@ -21,9 +21,9 @@ fn branch(alloc: Global, tag: &str, kids: &str) -> Result<String, Fail> {
 
 /// An element with an attribute and kids.
 fn named(alloc: Global, tag: &str, name: &str, value: &str, kids: &str) -> Result<String, Fail> {
-    Ok(
-        format!(in alloc; "{{\"tag\":\"{tag}\",\"attrs\":{{\"{name}\":\"{value}\"}},\"kids\":[{kids}]}}")?,
-    )
+    Ok(format!(in alloc;
+        "{{\"tag\":\"{tag}\",\"attrs\":{{\"{name}\":\"{value}\"}},\"kids\":[{kids}]}}"
+    )?)
 }
 
 /// Ranges as elements, one after another.
@@ -225,12 +225,7 @@ fn refused(alloc: Global, fault: ImageFault) -> Result<String, Fail> {
 }
 
 /// What the session S gives, in words.
-fn answer(
-    alloc: Global,
-    mem: &EcuMem,
-    files: &Files,
-    fill: Option<u8>,
-) -> Result<String, Fail>
+fn answer(alloc: Global, mem: &EcuMem, files: &Files, fill: Option<u8>) -> Result<String, Fail>
     requires { IsWhole mem.now }
 {
     let Some(session) = mem.session("S") else {
@@ -331,7 +326,8 @@ fn addresses_without_a_byte(rt: HostRuntime) -> Result<(), Fail> {
     Ok(())
 }
 
-const OWN: &str = r#",{"tag":"OWN-IDENTS","kids":[{"tag":"OWN-IDENT","kids":[{"tag":"SHORT-NAME","text":"SW"},{"tag":"IDENT-VALUES","kids":[{"tag":"IDENT-VALUE","text":"1"},{"tag":"IDENT-VALUE","text":"2"}]}]}]}"#;
+const OWN: &str =
+    r#",{"tag":"OWN-IDENTS","kids":[{"tag":"OWN-IDENT","kids":[{"tag":"SHORT-NAME","text":"SW"},{"tag":"IDENT-VALUES","kids":[{"tag":"IDENT-VALUE","text":"1"},{"tag":"IDENT-VALUE","text":"2"}]}]}]}"#;
 
 #[test]
 fn formats(rt: HostRuntime) -> Result<(), Fail> {
@@ -345,13 +341,34 @@ fn formats(rt: HostRuntime) -> Result<(), Fail> {
             OWN,
             "1000:01020304 SW 2 ",
         ),
-        ("MOTOROLA-S", "", "S107100001020304DE\\n", &[], "", "lines F NoEnd"),
-        ("INTEL-HEX", "", ":021000000102EB\\n", &[], "", "lines F NoEnd"),
+        (
+            "MOTOROLA-S",
+            "",
+            "S107100001020304DE\\n",
+            &[],
+            "",
+            "lines F NoEnd",
+        ),
+        (
+            "INTEL-HEX",
+            "",
+            ":021000000102EB\\n",
+            &[],
+            "",
+            "lines F NoEnd",
+        ),
         ("INTEL-HEX", "01", TWO, &[], "", "compressed F"),
         ("USER-DEFINED", "", "", &[], "", "user defined F"),
         ("USER-DEFINED", "a", "", &[], "", "compressed F"),
         ("BINARY", "", "0a0", &[(16, 1)], "", "bad text F"),
-        ("BINARY", "", "0aFf", &[(16, 1), (32, 1)], "", "0010:0a 0020:ff "),
+        (
+            "BINARY",
+            "",
+            "0aFf",
+            &[(16, 1), (32, 1)],
+            "",
+            "0010:0a 0020:ff ",
+        ),
         ("BINARY", "", "0a", &[], "", "no segment D1"),
     ];
     for (format, method, data, segments, more, wanted) in table {

@@ -25,9 +25,9 @@ returns-in-Plain-clause-bytes c =
     elim c.of_bytes.ensures.bytes [
       | inl e ↦ inl e
       | inr e ↦ inr (e
-      ∙ ap (λ (fs : List (ℕ × ℕ)). filled number (λ a. cond (is_kept fs a) (slice_get (take (before + size - before) (drop before c.as_slice-bytes.result.now)) (a - at)) None) fill at size) c.as_slice-filters.ensures
-      ∙ ap (λ (bs : List ℕ). filled number (λ a. cond (is_kept c.args.block.now.filters a) (slice_get (take (before + size - before) (drop before bs)) (a - at)) None) fill at size) c.as_slice-bytes.ensures
-      ∙ ap (λ (k : ℕ). filled number (λ a. cond (is_kept c.args.block.now.filters a) (slice_get (take k (drop before c.in-Plain.bytes)) (a - at)) None) fill at size) n
-      ∙ in_middle number c.args.block.now fill at before size c.in-Plain.bytes
-      ∙ ap (λ (k : Content). filled number (kept_byte k c.args.block.now at before) fill at size) (sym c.in-Plain.is))
+          ∙ ap (λ (fs : List (ℕ × ℕ)). filled number (λ a. cond (is_kept fs a) (slice_get (take (before + size - before) (drop before c.as_slice-bytes.result.now)) (a - at)) None) fill at size) c.as_slice-filters.ensures
+          ∙ ap (λ (bs : List ℕ). filled number (λ a. cond (is_kept c.args.block.now.filters a) (slice_get (take (before + size - before) (drop before bs)) (a - at)) None) fill at size) c.as_slice-bytes.ensures
+          ∙ ap (λ (k : ℕ). filled number (λ a. cond (is_kept c.args.block.now.filters a) (slice_get (take k (drop before c.in-Plain.bytes)) (a - at)) None) fill at size) n
+          ∙ in_middle number c.args.block.now fill at before size c.in-Plain.bytes
+          ∙ ap (λ (k : Content). filled number (kept_byte k c.args.block.now at before) fill at size) (sym c.in-Plain.is))
     ]

@@ -47,8 +47,8 @@ returns-in_err-checks-clause-answer c =
     let e : ImageFault = c.in_err-checks.field-0.0 in
     let are : blocks_at m c.as_slice-blocks.result.now ≡ blocks_of m s = wanted_blocks m s c.at-wanted.result.now c.as_slice-blocks.result.now c.requires.session c.at-wanted.ensures c.as_slice-blocks.ensures in
     let set : IsSet m s c.args.files.now c.args.fill ps =
-        is_set m s c.args.files.now c.args.fill ps c.as_slice.result.now c.in_ok-at.field-0 (pieces_are m s c.args.files.now c.args.fill ps c.as_slice-blocks.result.now are c.in_ok-pieces.ensures.pieces)
-        c.as_slice.ensures c.in_default.is c.in_ok-at.ensures in
+    is_set m s c.args.files.now c.args.fill ps c.as_slice.result.now c.in_ok-at.field-0 (pieces_are m s c.args.files.now c.args.fill ps c.as_slice-blocks.result.now are c.in_ok-pieces.ensures.pieces)
+    c.as_slice.ensures c.in_default.is c.in_ok-at.ensures in
     let checks : c.as_slice-3.result.now ≡ (session_of m s).checks = wanted_checks m s c.at-wanted.result.now c.as_slice-3.result.now c.requires.session c.at-wanted.ensures c.as_slice-3.ensures in
     rw (p.1, p.2) (of_checks m s c.args.files.now c.args.fill ps e set
     (subst (λ (cs : List Check). (◌≡◌ {A = Result (List Checked) ImageFault} (Err e) (Err NoMemory)) ⊎ (Err e ≡ all_checked ps cs)) checks
@@ -82,7 +82,7 @@ returns-clause-usable c =
     let bs : List ℕ = c.as_slice-blocks.result.now in
     let are : blocks_at m c.as_slice-blocks.result.now ≡ blocks_of m s = wanted_blocks m s c.at-wanted.result.now c.as_slice-blocks.result.now c.requires.session c.at-wanted.ensures c.as_slice-blocks.ensures in
     let set : IsSet m s c.args.files.now c.args.fill ps =
-        is_set m s c.args.files.now c.args.fill ps c.as_slice.result.now c.in_ok-at.field-0 (pieces_are m s c.args.files.now c.args.fill ps c.as_slice-blocks.result.now are c.in_ok-pieces.ensures.pieces)
-        c.as_slice.ensures c.in_default.is c.in_ok-at.ensures in
+    is_set m s c.args.files.now c.args.fill ps c.as_slice.result.now c.in_ok-at.field-0 (pieces_are m s c.args.files.now c.args.fill ps c.as_slice-blocks.result.now are c.in_ok-pieces.ensures.pieces)
+    c.as_slice.ensures c.in_default.is c.in_ok-at.ensures in
     is_usable m _ ps bs c.requires.whole (blocks_within m s c.at-wanted.result.now bs c.requires.whole c.requires.session c.at-wanted.ensures c.as_slice-blocks.ensures)
     c.in_ok-pieces.ensures.placed c.in_ok-pieces.ensures.some set.apart c.in_ok-segments.ensures c.in_ok-own.ensures

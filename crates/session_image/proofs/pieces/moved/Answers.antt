@@ -21,7 +21,7 @@ loop-piece-preserved c =
     let y : Piece = record { source = p.0; target = target_of b p.0; body = p.1 } in
     let inside : is_outside b p.0 (length p.1) ≡ false = ap (is_outside b p.0) (sym c.len-size.ensures) ∙ sym c.is_outside.ensures ∙ c.if-is_outside.false in
     let pushed : c.push.new.self ≡ c.loop-piece.pieces ++ y ∷ [] =
-    c.in_ok-push.ensures.ok ∙ ap (λ (t : ℕ). c.loop-piece.pieces ++ record {source = p.0; target = t; body = p.1} ∷ []) c.target_of.ensures in
+    c.in_ok-push.ensures.ok ∙ ap (λ (t : ℕ). c.loop-piece.pieces ++ record { source = p.0; target = t; body = p.1 } ∷ []) c.target_of.ensures in
     let each : Each IsWithin (p ∷ rest) = subst (Each IsWithin) cut i.within in
     let most : 1 ≤ length p.1 = each.0.0 in
     let size : sizes (into_iter_items c.loop-piece.rest) ≡ length p.1 + sizes rest = ap sizes cut in
