@@ -257,9 +257,24 @@ fn refusals(rt: HostRuntime) -> Result<(), Fail> {
         ("run one.json 01", SMALLEST, Status::Usage, "usage\n"),
         ("run one.json 17", SMALLEST, Status::Usage, "usage\n"),
         ("run -x 1", SMALLEST, Status::Usage, "usage\n"),
-        ("run one.json 1", OTHER_FILE, Status::Shelf, "shelf b.bin missing\n"),
-        ("run two.json 1", SMALLEST, Status::Shelf, "shelf two.json missing\n"),
-        ("run one.json 1", "[]", Status::Input, "input one.json not yet\n"),
+        (
+            "run one.json 1",
+            OTHER_FILE,
+            Status::Shelf,
+            "shelf b.bin missing\n",
+        ),
+        (
+            "run two.json 1",
+            SMALLEST,
+            Status::Shelf,
+            "shelf two.json missing\n",
+        ),
+        (
+            "run one.json 1",
+            "[]",
+            Status::Input,
+            "input one.json not yet\n",
+        ),
     ] {
         let (shop, status, sink) = flash_over(&rt, alloc, command, order, &[])?;
         assert!(rt; status == want, "at {command}");
