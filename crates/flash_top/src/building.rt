@@ -15,11 +15,15 @@ use std::alloc::Global;
 /// Why there is no plan. A shelf's refusal has the file's name.
 #[derive(Debug, Drop)]
 pub enum BuildFault {
+    /// There is no such file.
     Missing { name: Text },
+    /// The file has more than 67,108,864 bytes.
     TooLarge { name: Text },
+    /// The file could not be read.
     Failed { name: Text },
     /// The order, or the file that it names, is outside the first form.
     NotYet,
+    /// There was no memory.
     NoMemory,
 }
 

@@ -17,5 +17,6 @@ pub enum Status {
     Disk = 6,
     /// The text could not be written whole.
     Sink = 7,
+    /// There was no memory for something.
     NoMemory = 8,
 }

@@ -137,23 +137,26 @@ a5a5\
 01000000000000000000000000000000\
 02000000000000000000000000000000";
 
-fn run_words(alloc: Global) -> Result<Vec<String>, NoMemory> {
-    let words = vec![in alloc;
-        String::from_str(alloc, "run")?,
-        String::from_str(alloc, "one.json")?,
-        String::from_str(alloc, "1")?,
-    ]?;
+/// The words of a command, each behind a blank.
+fn words_of(alloc: Global, command: &str) -> Result<Vec<String>, NoMemory> {
+    let mut words = Vec::new(alloc);
+    for word in command.split(' ') {
+        words.push(String::from_str(alloc, word)?)?;
+    }
     Ok(words)
 }
 
-/// The smallest run over a shelf, a shop and a sink in memory.
-fn run_smallest<R: Threads + Wait + Sync>(
+/// A command over this order file, a shop and a sink in memory; the listed writes of the sink fail.
+fn flash_over<R: Threads + Wait + Sync>(
     rt: &R,
     alloc: Global,
+    command: &str,
+    order: &str,
+    failing: &[u64],
 ) -> Result<(ThinShop, Status, MemorySink), NoMemory> {
-    let mut shelf = shelf_of(alloc, SMALLEST)?;
-    let words = run_words(alloc)?;
-    let mut sink = MemorySink::new(alloc, &[])?;
+    let mut shelf = shelf_of(alloc, order)?;
+    let words = words_of(alloc, command)?;
+    let mut sink = MemorySink::new(alloc, failing)?;
     let shop = ThinShop::new(alloc)?;
     let (shop, status) = flash(rt, alloc, words.as_slice(), &mut shelf, shop, &mut sink);
     Ok((shop, status, sink))
@@ -214,11 +217,69 @@ fn is_blank(bytes: &[u8]) -> bool {
 #[test]
 fn smallest_run(rt: HostRuntime) -> Result<(), Fail> {
     let alloc = rt.alloc();
-    let (shop, status, sink) = run_smallest(&rt, alloc)?;
+    let (shop, status, sink) = flash_over(&rt, alloc, "run one.json 1", SMALLEST, &[])?;
     assert!(rt; is_done(status));
     assert!(rt; sink.written() == REPORT.as_bytes());
     assert!(rt; lines_spell(REQUESTS, shop.car().heard()));
     assert!(rt; is_programmed(&shop));
     assert!(rt; spells(JOURNAL, shop.disk().bytes()));
+    Ok(())
+}
+
+/// The sink fails at its first write: the unit is programmed and recorded all the same.
+#[test]
+fn failing_sink(rt: HostRuntime) -> Result<(), Fail> {
+    let alloc = rt.alloc();
+    let (shop, status, sink) = flash_over(&rt, alloc, "run one.json 1", SMALLEST, &[0])?;
+    assert!(rt; status == Status::Sink);
+    assert!(rt; sink.written().is_empty());
+    assert!(rt; is_programmed(&shop));
+    assert!(rt; spells(JOURNAL, shop.disk().bytes()));
+    Ok(())
+}
+
+/// Whether nothing was asked of the unit and nothing written to the disk.
+fn is_untouched(shop: &ThinShop) -> bool {
+    shop.car().heard().is_empty() && shop.disk().bytes().is_empty()
+}
+
+/// The order of the smallest run with a file that is not there.
+const OTHER_FILE: &str =
+    "{\"tester\":\"0E80\",\"relinks\":0,\"tasks\":[{\"name\":\"A\",\"unit\":\"1001\",\"check\":\"0202\",\"raw\":\"b.bin\",\"at\":\"1000\"}]}";
+
+/// What is refused before a run: the words, the order file, the status and the line.
+#[test]
+fn refusals(rt: HostRuntime) -> Result<(), Fail> {
+    let alloc = rt.alloc();
+    for (command, order, want, line) in [
+        ("run", SMALLEST, Status::Usage, "usage\n"),
+        ("run one.json 0", SMALLEST, Status::Usage, "usage\n"),
+        ("run one.json 01", SMALLEST, Status::Usage, "usage\n"),
+        ("run one.json 17", SMALLEST, Status::Usage, "usage\n"),
+        ("run -x 1", SMALLEST, Status::Usage, "usage\n"),
+        (
+            "run one.json 1",
+            OTHER_FILE,
+            Status::Shelf,
+            "shelf b.bin missing\n",
+        ),
+        (
+            "run two.json 1",
+            SMALLEST,
+            Status::Shelf,
+            "shelf two.json missing\n",
+        ),
+        (
+            "run one.json 1",
+            "[]",
+            Status::Input,
+            "input one.json not yet\n",
+        ),
+    ] {
+        let (shop, status, sink) = flash_over(&rt, alloc, command, order, &[])?;
+        assert!(rt; status == want, "at {command}");
+        assert!(rt; sink.written() == line.as_bytes(), "at {command}");
+        assert!(rt; is_untouched(&shop), "at {command}");
+    }
     Ok(())
 }
