@@ -1,5 +1,5 @@
 -- Target ranges in the order of their starts.
-use Rattle.std.proofs.Common.{◌≡◌, ◌∙◌, sym, refl, ap, suc, zero, ◌+◌, ◌<◌, ◌≤◌, ◌⊎◌, inl, inr, ℕ, List, [], ◌∷◌, ◌++◌, length, arith, Option, Some, None, cond, Bool, true, false, nat_lt, nat_le, ◌&&◌, subst}
+use Rattle.std.proofs.Common.{◌≡◌, refl, ◌<◌, ◌≤◌, inl, inr, ℕ, List, [], ◌∷◌, arith, Option, Some, None}
 use Rattle.std.proofs.lemmas.Bool.{cases_lt, lt-ltb, le-ltb}
 use Rattle.std.proofs.lemmas.Bool.Decides.{nat_tests}
 use Rattle.span_store.specs.Lowest.{IsLowest}

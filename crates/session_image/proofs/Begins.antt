@@ -1,5 +1,5 @@
 -- What the first item of a list does to the whole.
-use Rattle.std.proofs.Common.{◌≡◌, refl, zero, suc, ◌+◌, ◌-◌, ◌<◌, ◌≤◌, ◌⊎◌, inl, inr, nat_lt, ℕ, List, [], ◌∷◌, length, arith, cond, Bool, true, false, Option, Result, Ok, Err}
+use Rattle.std.proofs.Common.{◌≡◌, refl, zero, suc, ◌+◌, ◌-◌, ◌<◌, ◌≤◌, inl, inr, nat_lt, ℕ, List, [], ◌∷◌, length, arith, cond, Bool, true, false, Option, Result, Ok, Err}
 use Rattle.std.proofs.lemmas.Bool.{cases_lt, lt-ltb}
 use Rattle.std.specs.Prelude.{slice_index_or}
 use Rattle.flash_base.specs.Lists.{Each}

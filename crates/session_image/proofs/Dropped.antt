@@ -1,9 +1,8 @@
 -- Filters applied to the map itself, and to each look-up.
-use Rattle.std.proofs.Common.{◌≡◌, ◌∙◌, sym, refl, ap, ◌+◌, ◌-◌, ◌<◌, ◌≤◌, ℕ, List, [], ◌∷◌, length, cond, ◌==◌, Bool, true, false, Option, Some, None, Result, Ok, Err, nat_lt, if◌then◌else◌}
-use Rattle.std.specs.FinMap.{get, retain_keys, get-retain_keys, nat_cmp-IsAntisymmetric}
+use Rattle.std.proofs.Common.{◌≡◌, ◌∙◌, sym, refl, ap, ◌+◌, ℕ, List, [], ◌∷◌, length, cond, ◌==◌, Bool, true, false, Option, Result, Ok, Err, nat_lt, if◌then◌else◌}
+use Rattle.std.specs.FinMap.{get-retain_keys, nat_cmp-IsAntisymmetric}
 use Rattle.ecu_mem.specs.declared.types.Block.{Block}
 use Rattle.ecu_mem.specs.declared.types.EcuMem.{EcuMem}
-use Rattle.span_store.specs.ByteMap.{ByteMap}
 use Rattle.session_image.specs.Content.{content, is_kept}
 use Rattle.session_image.specs.Files.{flash_of}
 use Rattle.session_image.specs.Kept.{dropped, kept_ranges, kept_byte, kept_bodies, kept_pieces}

@@ -2,17 +2,15 @@
 use Rattle.std.proofs.Math.Seq.{take-append-add, take-add}
 use Rattle.std.proofs.lemmas.List.{take-append-drop, take-append-le, take_all, length-take-le}
 use Rattle.std.proofs.lemmas.Slice.{drop-append-drop}
-use Rattle.std.proofs.Common.{append_assoc, length-drop, ◌⊎◌, inl, inr, ◌≡◌, ◌∙◌, sym, refl, ap, zero, suc, ◌+◌, ◌-◌, ◌<◌, ◌≤◌, ℕ, List, [], ◌∷◌, ◌++◌, length, take, drop, min, Option, Some, None, Result, Ok, Err, arith, subst, replicate, cond, get_or, Bool, true, false}
+use Rattle.std.proofs.Common.{append_assoc, length-drop, ◌⊎◌, inl, inr, ◌≡◌, ◌∙◌, sym, refl, ap, zero, suc, ◌+◌, ◌-◌, ◌<◌, ◌≤◌, ℕ, List, [], ◌∷◌, ◌++◌, length, take, drop, Option, Some, None, Ok, arith, replicate, cond, get_or, Bool, true, false}
 use Rattle.std.proofs.lemmas.Bool.Decides.{nat_tests}
 use Rattle.std.proofs.lemmas.Option.{slice_get-get_or}
 use Rattle.flash_base.specs.ByteMaps.{is_in}
 use Rattle.std.specs.Prelude.{slice_get}
-use Rattle.span_store.specs.Lowest.{IsLowest}
 use Rattle.session_image.specs.Checks.{or_byte, check_byte, check_bytes, source_byte}
 use Rattle.session_image.specs.Kept.{laid, byte_in}
 use Rattle.session_image.specs.Pieces.{◌>>=◌, or_fill, with_byte, filled}
 use Rattle.session_image.specs.declared.pieces.Piece.{Piece}
-use Rattle.session_image.specs.declared.types.ImageFault.TheVariants.{Hole}
 
 pub laid-append : (look : ℕ → Option ℕ) (a : ℕ) (xs ys : List ℕ) → laid look a (xs ++ ys) ≡ laid look a xs ++ laid look (a + length xs) ys
 laid-append look a [] ys = let e : a ≡ a + 0 = omega arith in ap (λ n. laid look n ys) e

@@ -1,5 +1,5 @@
 -- The bytes of one segment of data that have no addresses of their own.
-use Rattle.std.proofs.Common.{zero, suc, ◌≡◌, ◌∙◌, sym, refl, ap, ℕ, ◌+◌, ◌-◌, ◌<◌, ◌≤◌, cond, List, [], ◌∷◌, length, take, drop, Option, Some, None, Ok, arith}
+use Rattle.std.proofs.Common.{suc, ◌≡◌, ◌∙◌, sym, refl, ap, ℕ, ◌+◌, ◌-◌, ◌<◌, ◌≤◌, cond, List, [], ◌∷◌, length, take, drop, Option, Some, None, Ok, arith}
 use Rattle.std.specs.Prelude.{slice_get}
 use Rattle.std.specs.Ordering.{nat_cmp}
 use Rattle.std.specs.FinMap.{get, empty, retain_keys}

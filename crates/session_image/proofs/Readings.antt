@@ -1,5 +1,5 @@
 -- What a reader of records gave.
-use Rattle.std.proofs.Common.{◌≡◌, ◌∙◌, ◌⊎◌, inl, inr, ap, ℕ, List, Result, Ok, Err}
+use Rattle.std.proofs.Common.{◌≡◌, ◌∙◌, ◌⊎◌, inl, inr, ap, ℕ, List, Result, Err}
 use Rattle.span_store.specs.ByteMap.{ByteMap}
 use Rattle.rec_text.specs.declared.fault.RecFault.{RecFault}
 use Rattle.rec_text.specs.declared.fault.RecFault.TheVariants as records

@@ -1,5 +1,5 @@
 -- What datablocks and checksums are refused for: never an overlap, and never want of memory.
-use Rattle.std.proofs.Common.{◌≡◌, ◌==◌, refl, sym, subst, zero, suc, ◌+◌, ℕ, List, [], ◌∷◌, length, cond, Bool, true, false, nat_lt, bytes_eq, Option, Some, None, Result, Ok, Err}
+use Rattle.std.proofs.Common.{◌==◌, zero, suc, ◌+◌, ℕ, List, [], ◌∷◌, length, cond, Bool, true, false, nat_lt, bytes_eq, Option, Some, None, Result, Ok, Err}
 use Rattle.span_store.specs.ByteMap.{ByteMap}
 use Rattle.rec_text.specs.declared.fault.RecFault.{RecFault}
 use Rattle.ecu_mem.specs.declared.types.Block.{Block}
@@ -20,9 +20,8 @@ use Rattle.session_image.specs.Pieces.{◌>>=◌, size_limit, ranges, total, wit
 use Rattle.session_image.specs.declared.content.Content.{Content}
 use Rattle.session_image.specs.declared.content.Content.TheVariants.{Mapped, Plain}
 use Rattle.session_image.specs.declared.pieces.Piece.{Piece}
-use Rattle.session_image.specs.declared.types.Checked.{Checked}
 use Rattle.session_image.specs.declared.types.ImageFault.{ImageFault}
-use Rattle.session_image.specs.declared.types.ImageFault.TheVariants.{Overlap, NoMemory, TooLarge, ChecksumDiffers, Hole, OutOfRange}
+use Rattle.session_image.specs.declared.types.ImageFault.TheVariants.{Overlap, NoMemory}
 
 abbrev pub IsOwn : ImageFault → Type 0
 IsOwn (Overlap at) = ⊥

@@ -1,6 +1,5 @@
 -- A refusal that is passed on is an answer.
-use Rattle.std.proofs.Common.{◌≡◌, ◌⊎◌, inl, inr, sym, refl, subst, ℕ, List, Option, None, Result, Ok, Err}
-use Rattle.span_store.specs.Lowest.{IsLowest}
+use Rattle.std.proofs.Common.{◌≡◌, ◌⊎◌, inl, inr, sym, subst, ℕ, List, Option, Result, Err}
 use Rattle.ecu_mem.specs.declared.types.EcuMem.{EcuMem}
 use Rattle.session_image.specs.Checks.{all_checked}
 use Rattle.session_image.specs.Files.{session_of, blocks_of}

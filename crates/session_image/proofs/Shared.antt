@@ -1,8 +1,7 @@
 -- Addresses that two segments share, by the number of target ranges that have them.
-use Rattle.std.proofs.Common.{◌≡◌, ◌∙◌, sym, refl, ap, suc, zero, ◌+◌, ◌<◌, ◌≤◌, ◌⊎◌, inl, inr, ℕ, List, [], ◌∷◌, length, arith, Option, Some, None, subst}
+use Rattle.std.proofs.Common.{◌≡◌, sym, refl, suc, zero, ◌+◌, ◌<◌, ◌≤◌, inl, inr, ℕ, List, [], ◌∷◌, length, arith, Some, subst}
 use Rattle.std.proofs.lemmas.Bool.{cases_lt}
 use Rattle.std.specs.Prelude.{slice_get}
-use Rattle.span_store.specs.Lowest.{IsLowest}
 use Rattle.session_image.specs.Pieces.{has_target, IsShared}
 use Rattle.session_image.specs.declared.pieces.Piece.{Piece}
 use Rattle.session_image.specs.Targets.{hit, hits, range_of, ranges_of}

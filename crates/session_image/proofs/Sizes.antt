@@ -1,5 +1,5 @@
 -- Numbers and sizes of segments.
-use Rattle.std.proofs.Common.{◌≡◌, ◌∙◌, sym, refl, ap, suc, ◌+◌, ◌<◌, ◌≤◌, ℕ, List, [], ◌∷◌, ◌++◌, length, length-append, arith, subst, Option, Result, Ok, Err}
+use Rattle.std.proofs.Common.{◌≡◌, ◌∙◌, sym, ap, ◌+◌, ◌≤◌, ℕ, List, [], ◌∷◌, ◌++◌, length, length-append, arith, subst, Option, Result, Ok, Err}
 use Rattle.flash_base.specs.Lists.{Each}
 use Rattle.ecu_mem.specs.declared.types.Block.{Block}
 use Rattle.ecu_mem.specs.declared.types.EcuMem.{EcuMem}

@@ -1,12 +1,11 @@
 -- What every image keeps.
-use Rattle.std.proofs.Common.{◌≡◌, ◌∙◌, sym, refl, ap, zero, suc, ◌+◌, ◌<◌, ◌≤◌, ◌⊎◌, inl, inr, ℕ, List, [], ◌∷◌, ◌++◌, length, arith, Some, None, subst}
+use Rattle.std.proofs.Common.{◌≡◌, refl, suc, ◌+◌, ◌<◌, ◌≤◌, inl, inr, ℕ, List, [], ◌∷◌, length, arith, Some}
 use Rattle.std.proofs.lemmas.Bool.{cases_lt}
 use Rattle.std.specs.Prelude.{slice_get}
 use Rattle.flash_base.specs.Lists.{Each}
 use Rattle.flash_plan.specs.Plan.{IsApart, AreApart}
 use Rattle.flash_plan.specs.declared.unit.Segment.{Segment}
 use Rattle.ecu_mem.specs.Bounds.{IsIdent, IsBlockAmong}
-use Rattle.ecu_mem.specs.declared.types.Block.{Block}
 use Rattle.ecu_mem.specs.declared.types.EcuMem.{EcuMem}
 use Rattle.session_image.specs.Files.{block_of, blocks_at, no_block}
 use Rattle.session_image.specs.Images.{own_of, IsSegment}

@@ -1,9 +1,8 @@
 -- The value of a checksum by its algorithm.
-use Rattle.std.proofs.Common.{◌≡◌, refl, cond, ℕ, List, Bool, true, false, Option, Some, None, bytes_eq, codes}
+use Rattle.std.proofs.Common.{◌≡◌, refl, cond, ℕ, List, Bool, true, false, Some, None, bytes_eq, codes}
 use Rattle.std.specs.Option.{option_map}
 use Rattle.session_image.specs.Algorithms.{known, value_of}
 use Rattle.session_image.specs.Checks.{value_by}
-use Rattle.session_image.specs.declared.checks.Algorithm.{Algorithm}
 use Rattle.session_image.specs.declared.checks.Algorithm.TheVariants.{Sha256, Sum16}
 
 chosen : (s t : Bool) (bytes : List ℕ) →

@@ -9,7 +9,6 @@ use Rattle.span_store.specs.Lowest.{IsLowest}
 use Rattle.ecu_mem.specs.Bounds.{IsWhole, IsCheck, IsIdent, IsSessionAmong}
 use Rattle.ecu_mem.specs.declared.types.Check.{Check}
 use Rattle.ecu_mem.specs.declared.types.EcuMem.{EcuMem}
-use Rattle.ecu_mem.specs.declared.types.Ident.{Ident}
 use Rattle.ecu_mem.specs.declared.types.Session.{Session}
 use Rattle.session_image.specs.Files.{no_session, session_of, blocks_at, blocks_of}
 use Rattle.session_image.specs.Images.{own_of, IsSet, IsOverlap, IsSegment, IsUsable}

@@ -1,5 +1,5 @@
 -- The checksums of a session.
-use Rattle.std.specs.Prelude.{ℕ, zero, suc, ◌+◌, ◌-◌, ◌%◌, nat_lt, Bool, true, false, List, [], ◌∷◌, length, codes, bytes_eq, sum, slice_get, Option, Some, None, Result, Ok, Err, if◌then◌else◌}
+use Rattle.std.specs.Prelude.{ℕ, zero, suc, ◌+◌, ◌-◌, ◌%◌, nat_lt, true, false, List, [], ◌∷◌, length, codes, bytes_eq, sum, slice_get, Option, Some, None, Result, Ok, Err, if◌then◌else◌}
 use Rattle.sha2.specs.Sha256.{sha256}
 use Rattle.flash_base.specs.ByteMaps.{is_in}
 use Rattle.flash_base.specs.Numbers.{big_endian}

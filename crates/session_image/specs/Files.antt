@@ -1,5 +1,5 @@
 -- The files that a session needs.
-use Rattle.std.specs.Prelude.{ℕ, ◌||◌, ◌&&◌, ◌<◌, Bool, false, not, List, [], ◌∷◌, ◌++◌, length, slice_index_or, bytes_eq, if◌then◌else◌}
+use Rattle.std.specs.Prelude.{ℕ, ◌||◌, Bool, false, List, [], ◌∷◌, ◌++◌, slice_index_or, bytes_eq, if◌then◌else◌}
 use Rattle.ecu_mem.specs.declared.types.Block.{Block}
 use Rattle.ecu_mem.specs.declared.types.EcuMem.{EcuMem}
 use Rattle.ecu_mem.specs.declared.types.Flash.{Flash}

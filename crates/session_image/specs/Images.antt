@@ -1,5 +1,5 @@
 -- The image of a session.
-use Rattle.std.specs.Prelude.{◌≡◌, ◌⊎◌, ◌≢◌, ℕ, ◌+◌, ◌≤◌, List, [], ◌∷◌, ◌++◌, length, IsSome, Option, Some, None, Result, Ok, Err}
+use Rattle.std.specs.Prelude.{◌≡◌, ◌⊎◌, ℕ, ◌+◌, ◌≤◌, List, [], ◌∷◌, ◌++◌, length, IsSome, Option, Some, None, Result, Ok, Err}
 use Rattle.flash_base.specs.Files.{first_of}
 use Rattle.flash_base.specs.Lists.{Each}
 use Rattle.flash_plan.specs.Plan.{AreApart}

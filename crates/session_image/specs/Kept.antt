@@ -1,12 +1,12 @@
 -- The data of a datablock once its filters have been applied, as the body keeps them.
-use Rattle.std.specs.Prelude.{◌≡◌, ℕ, ◌+◌, ◌-◌, ◌<◌, ◌≤◌, ◌||◌, ◌&&◌, nat_le, nat_lt, Bool, List, [], ◌∷◌, length, slice_get, Option, Some, None, Result, Ok, Err, if◌then◌else◌}
+use Rattle.std.specs.Prelude.{ℕ, ◌+◌, ◌-◌, ◌≤◌, ◌||◌, ◌&&◌, nat_le, nat_lt, Bool, List, [], ◌∷◌, length, slice_get, Option, None, Result, Ok, Err, if◌then◌else◌}
 use Rattle.std.specs.FinMap.{get, retain_keys}
 use Rattle.flash_base.specs.ByteMaps.{is_in}
 use Rattle.ecu_mem.specs.Values.{address_limit}
 use Rattle.ecu_mem.specs.declared.types.Block.{Block}
 use Rattle.session_image.specs.Checks.{or_byte}
 use Rattle.session_image.specs.Content.{is_kept}
-use Rattle.session_image.specs.Pieces.{◌>>=◌, size_limit, or_runs, total, if_kept, or_fill, filled, moved, has_its_size, some_ranges}
+use Rattle.session_image.specs.Pieces.{◌>>=◌, size_limit, or_runs, total, if_kept, filled, moved, has_its_size, some_ranges}
 use Rattle.session_image.specs.declared.content.Content.{Content}
 use Rattle.session_image.specs.declared.content.Content.TheVariants.{Mapped, Plain}
 use Rattle.session_image.specs.declared.pieces.Piece.{Piece}

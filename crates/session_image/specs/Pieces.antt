@@ -1,7 +1,6 @@
 -- The segments of a session with their bytes.
-use Rattle.std.specs.Prelude.{◌≡◌, ℕ, zero, suc, ◌+◌, ◌-◌, ◌<◌, ◌≤◌, ◌==◌, nat_lt, Bool, true, false, List, [], ◌∷◌, ◌++◌, length, slice_get, Option, Some, None, Result, Ok, Err, if◌then◌else◌}
+use Rattle.std.specs.Prelude.{◌≡◌, ℕ, zero, suc, ◌+◌, ◌-◌, ◌<◌, ◌≤◌, ◌==◌, nat_lt, Bool, List, [], ◌∷◌, ◌++◌, length, slice_get, Option, Some, None, Result, Ok, Err, if◌then◌else◌}
 use Rattle.std.specs.FinMap.{get, retain_keys}
-use Rattle.flash_base.specs.ByteMaps.{is_in}
 use Rattle.span_store.specs.ByteMap.{ByteMap, top}
 use Rattle.span_store.specs.Runs.{runs}
 use Rattle.ecu_mem.specs.declared.types.Block.{Block}

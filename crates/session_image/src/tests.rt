@@ -1,11 +1,12 @@
 ghost use Rattle.std.specs.Prelude.{◌<◌, length, IfOk, IsSome, IsTrue};
 ghost use Rattle.flash_base.specs.Files.{first_of};
+ghost use Rattle.flash_base.specs.Lists.{Each};
 ghost use Rattle.ecu_mem.specs.Bounds.{IsWhole};
 ghost use Rattle.session_image.specs.Images.{HasFiles};
 
 use crate::{Image, ImageFault, files_of, image};
 use ecu_mem::{EcuMem, resolve};
-use flash_base::{Bytes, Files, Text};
+use flash_base::{Bytes, Files, Names, Text};
 use std::alloc::Global;
 use std::test::Fail;
 
@@ -143,6 +144,20 @@ fn has_file(files: &Files, name: &Text) -> bool
     files.find(name.as_str()).is_some()
 }
 
+/// Whether files with all these names are there.
+fn are_there(files: &Files, names: &Names) -> bool
+    ensures { IsTrue result → Each (λ name. IsSome (first_of name files.now)) names.now }
+{
+    let mut left = names.len();
+    while 0 < left {
+        left -= 1;
+        if !has_file(files, names.at(left)) {
+            return false;
+        }
+    }
+    true
+}
+
 /// Whether all files that a session needs are there.
 fn has_files(alloc: Global, mem: &EcuMem, session: u64, files: &Files) -> Result<bool, Fail>
     requires whole { IsWhole mem.now }
@@ -150,14 +165,7 @@ fn has_files(alloc: Global, mem: &EcuMem, session: u64, files: &Files) -> Result
     ensures { IfOk result (λ has. IsTrue has → HasFiles mem.now session files.now) }
 {
     let names = files_of(alloc, mem, session)?;
-    let mut left = names.len();
-    while 0 < left {
-        left -= 1;
-        if !has_file(files, names.at(left)) {
-            return Ok(false);
-        }
-    }
-    Ok(true)
+    Ok(are_there(files, &names))
 }
 
 fn digits(alloc: Global, bytes: &[u8]) -> Result<String, Fail> {

@@ -1,8 +1,8 @@
-use Rattle.std.proofs.Common.{◌≡◌, ◌∙◌, ◌+◌, ap, refl, subst, ◌∷◌, drop}
+use Rattle.std.proofs.Common.{◌∙◌, ◌+◌, ap, refl, subst, drop}
 use Rattle.ecu_mem.specs.Bounds.{IsCheck}
 use Rattle.flash_base.specs.Lists.{Each}
 use Rattle.session_image.specs.Checks.{checked, all_checked}
-use Rattle.session_image.proofs.Joins.{joined, drop_at, given, next, passed, stopped}
+use Rattle.session_image.proofs.Joins.{joined, drop_at, given, next}
 use Rattle.session_image.proofs.checks.all_checked.Goals as goal
 
 pub loop-check-preserved : goal.loop-check-preserved

@@ -1,4 +1,4 @@
-use Rattle.std.proofs.Common.{◌≡◌, ◌∙◌, ◌+◌, ◌-◌, ◌≤◌, ◌++◌, ◌∷◌, [], ℕ, List, Option, Some, None, refl, sym, ap, arith, length, drop, take, replicate}
+use Rattle.std.proofs.Common.{◌≡◌, ◌∙◌, ◌+◌, ◌-◌, ◌∷◌, [], ℕ, List, sym, ap, arith, length, drop, replicate}
 use Rattle.std.proofs.lemmas.List.{drop_all, length-replicate}
 use Rattle.session_image.specs.Checks.{or_byte, check_bytes}
 use Rattle.session_image.specs.Kept.{byte_in, laid}

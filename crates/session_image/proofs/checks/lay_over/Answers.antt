@@ -1,4 +1,4 @@
-use Rattle.std.proofs.Common.{◌≡◌, ◌∙◌, ◌+◌, ◌-◌, ◌<◌, ◌≤◌, ◌++◌, ℕ, List, inl, inr, min, max, length, take, drop, length-drop, arith, sym, ap}
+use Rattle.std.proofs.Common.{◌≡◌, ◌∙◌, ◌+◌, ◌-◌, ◌<◌, ◌≤◌, ◌++◌, ℕ, List, inl, inr, min, length, take, drop, length-drop, arith, ap}
 use Rattle.std.proofs.lemmas.List.{take_rest}
 use Rattle.session_image.proofs.Over.{laid_away, laid_over}
 use Rattle.session_image.proofs.checks.lay_over.Goals.{then-at-bytes-via-then-at-bytes, then-at-bytes-via-else-at-bytes+then-from-out}

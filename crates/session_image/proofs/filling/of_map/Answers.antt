@@ -1,4 +1,4 @@
-use Rattle.std.proofs.Common.{◌≡◌, ◌∙◌, ℕ, inr, sym, ap, Ok, Option, length, replicate}
+use Rattle.std.proofs.Common.{◌∙◌, ℕ, inr, sym, ap, Ok, Option, length, replicate}
 use Rattle.std.proofs.lemmas.List.{length-replicate}
 use Rattle.std.specs.FinMap.{get}
 use Rattle.session_image.specs.Pieces.{filled}

@@ -1,4 +1,4 @@
-use Rattle.std.proofs.Common.{◌≡◌, ◌∙◌, inr, sym, ap, Ok, length, replicate}
+use Rattle.std.proofs.Common.{◌∙◌, inr, sym, ap, Ok, length, replicate}
 use Rattle.std.proofs.lemmas.List.{length-replicate}
 use Rattle.std.specs.FinMap.{get}
 use Rattle.session_image.proofs.Filled.{filled_whole, filled_hole}

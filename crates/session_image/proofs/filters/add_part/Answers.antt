@@ -1,8 +1,6 @@
-use Rattle.std.proofs.Common.{◌≡◌, ◌≤◌, ◌+◌, ◌-◌, ◌∙◌, ℕ, min, length, take, arith, sym, ap, subst, length-take}
-use Rattle.std.specs.FinMap.{retain_keys}
+use Rattle.std.proofs.Common.{◌≡◌, ◌≤◌, ◌-◌, ◌∙◌, min, length, take, arith, sym, ap, subst, length-take}
 use Rattle.span_store.specs.ByteMap.{ByteMap, Holds, over}
 use Rattle.span_store.proofs.Maps.{held_first}
-use Rattle.session_image.specs.Kept.{or_within}
 use Rattle.session_image.proofs.Retained.{from_here, to_stop, with_bytes}
 use Rattle.session_image.proofs.filters.add_part.Goals as goal
 

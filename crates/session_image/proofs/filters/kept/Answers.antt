@@ -1,4 +1,4 @@
-use Rattle.std.proofs.Common.{◌≡◌, ◌∙◌, length, rules}
+use Rattle.std.proofs.Common.{◌≡◌, length, rules}
 use Rattle.session_image.proofs.Retained.{retain_empty}
 use Rattle.session_image.proofs.filters.kept.Goals as goal
 

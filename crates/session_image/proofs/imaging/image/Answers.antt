@@ -1,10 +1,10 @@
-use Rattle.std.proofs.Common.{◌≡◌, ◌⊎◌, ◌∙◌, ℕ, List, Option, Result, Ok, Err, sym, ap, subst}
+use Rattle.std.proofs.Common.{◌≡◌, ◌⊎◌, ◌∙◌, ℕ, List, Result, Err, sym, ap, subst}
 use Rattle.std.proofs.lemmas.Result.{err_from_is_err_and}
 use Rattle.ecu_mem.specs.declared.types.Block.{Block}
 use Rattle.ecu_mem.specs.declared.types.Check.{Check}
 use Rattle.session_image.specs.Checks.{all_checked}
 use Rattle.session_image.specs.Files.{session_of, blocks_at, blocks_of}
-use Rattle.session_image.specs.Images.{own_of, IsAnswer, IsSet}
+use Rattle.session_image.specs.Images.{own_of, IsSet}
 use Rattle.session_image.specs.Pieces.{session_pieces}
 use Rattle.session_image.specs.declared.pieces.Piece.{Piece}
 use Rattle.session_image.specs.declared.types.Checked.{Checked}

@@ -1,4 +1,4 @@
-use Rattle.std.proofs.Common.{◌≡◌, ◌∙◌, Option, ℕ, sym, ap, subst}
+use Rattle.std.proofs.Common.{◌≡◌, ◌∙◌, sym, ap, subst}
 use Rattle.span_store.specs.Lowest.{IsLowest}
 use Rattle.session_image.specs.Pieces.{IsShared}
 use Rattle.session_image.specs.Targets.{first_met}

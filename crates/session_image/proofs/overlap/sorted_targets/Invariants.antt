@@ -2,7 +2,6 @@ use Rattle.std.proofs.Common.{◌≡◌, ◌++◌, drop}
 use Rattle.flash_base.specs.Lists.{Each}
 use Rattle.session_image.specs.Kept.{IsPlaced}
 use Rattle.session_image.specs.Targets.{ranges_of}
-use Rattle.session_image.proofs.Ordered.{ascend}
 use Rattle.session_image.proofs.overlap.sorted_targets.Given as goal
 
 abbrev pub invariant-loop-piece : goal.invariant-loop-piece

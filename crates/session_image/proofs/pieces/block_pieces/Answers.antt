@@ -1,4 +1,4 @@
-use Rattle.std.proofs.Common.{◌≡◌, ◌∙◌, ◌⊎◌, inl, inr, sym, ap, Ok}
+use Rattle.std.proofs.Common.{◌≡◌, ◌∙◌, inl, inr, sym, ap, Ok}
 use Rattle.session_image.specs.Content.{content}
 use Rattle.session_image.specs.Files.{flash_of}
 use Rattle.session_image.specs.Kept.{dropped}

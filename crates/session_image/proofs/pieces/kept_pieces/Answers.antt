@@ -1,4 +1,4 @@
-use Rattle.std.proofs.Common.{◌≡◌, ◌≤◌, ℕ, List, length, arith, sym, subst, vec_len}
+use Rattle.std.proofs.Common.{◌≡◌, ◌≤◌, List, length, arith, sym, subst, vec_len}
 use Rattle.std.proofs.lemmas.Result.{IfOk-weaker}
 use Rattle.flash_base.specs.Lists.{Each}
 use Rattle.ecu_mem.specs.Bounds.{IsRange}

@@ -4,8 +4,6 @@ use Rattle.flash_base.specs.Lists.{Each}
 use Rattle.session_image.specs.Kept.{IsPlaced, IsWithin, sizes}
 use Rattle.session_image.specs.Pieces.{moved, size_of, size_limit}
 use Rattle.session_image.proofs.Joins.{joined}
-use Rattle.session_image.proofs.Outcomes.{has_room}
-use Rattle.session_image.proofs.Usable.{each_own}
 use Rattle.session_image.proofs.pieces.moved.Given as goal
 
 abbrev pub invariant-loop-piece : goal.invariant-loop-piece

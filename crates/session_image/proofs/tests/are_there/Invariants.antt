@@ -2,12 +2,12 @@ use Rattle.std.proofs.Common.{◌≤◌, drop, length}
 use Rattle.std.specs.Prelude.{IsSome}
 use Rattle.flash_base.specs.Files.{first_of}
 use Rattle.flash_base.specs.Lists.{Each}
-use Rattle.session_image.proofs.tests.has_files.Given as goal
+use Rattle.session_image.proofs.tests.are_there.Given as goal
 
 abbrev pub invariant-loop-left : goal.invariant-loop-left
 invariant-loop-left l = record {
-  within : l.left ≤ length l.names;
-  there : Each (λ name. IsSome (first_of name l.files)) (drop l.left l.names);
+  within : l.left ≤ length l.fn.names;
+  there : Each (λ name. IsSome (first_of name l.fn.files)) (drop l.left l.fn.names);
 }
 
 abbrev pub decreases-loop-left : goal.decreases-loop-left

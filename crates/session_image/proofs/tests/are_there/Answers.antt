@@ -3,13 +3,13 @@ use Rattle.std.specs.Prelude.{IsSome}
 use Rattle.flash_base.specs.Files.{first_of}
 use Rattle.flash_base.specs.Lists.{Each}
 use Rattle.session_image.proofs.Joins.{drop_here}
-use Rattle.session_image.proofs.tests.has_files.Goals as goal
+use Rattle.session_image.proofs.tests.are_there.Goals as goal
 
 pub loop-left-preserved : goal.loop-left-preserved
 loop-left-preserved c =
     let i = c.loop-left.invariant in
     let files = c.args.files.now in
-    let names : List (List ℕ) = c.in_ok-names.names in
+    let names : List (List ℕ) = c.args.names.now in
     let left : ℕ = c.loop-left.left in
     let name : List ℕ = c.at.result.now in
     let back : left - 1 + 1 ≡ left = omega arith in
