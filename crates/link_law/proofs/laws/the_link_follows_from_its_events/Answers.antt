@@ -1,0 +1,4 @@
+use Rattle.link_law.proofs.laws.the_link_follows_from_its_events.Goals as goal
+
+pub returns : goal.returns
+returns c = ?

@@ -1,0 +1,4 @@
+pub mod Follows
+pub mod Happened
+pub mod Kinds
+pub mod Looked
