@@ -24,7 +24,7 @@ use Rattle.bay_core.specs.declared.event.Event.TheVariants.{Claimed, Began, Sent
 -- whether the last dial failed, if there was one
 abbrev pub last_dial : List Event → Option Bool
 last_dial [] = None
-last_dial (e ∷ es) = if has is_dial es then last_dial es else dial_of e None
+last_dial (e ∷ es) = if has is_dial es then last_dial es else dial_of e
 
 abbrev pub since_dial : List Event → List Event
 since_dial events = behind_last is_dial events

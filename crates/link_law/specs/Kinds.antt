@@ -72,7 +72,7 @@ is_failed_call (Tended (Said lost)) = lost
 is_failed_call (Tended (Polled Lost)) = true
 is_failed_call e = false
 
--- whether the last dial failed, if there was one
-abbrev pub dial_of : Event → Option Bool → Option Bool
-dial_of (Tended (Dialed lost)) later = Some lost
-dial_of e later = later
+-- of a dial, whether it failed
+abbrev pub dial_of : Event → Option Bool
+dial_of (Tended (Dialed lost)) = Some lost
+dial_of e = None
