@@ -1,3 +1,5 @@
 pub mod Lists
 pub mod Frames
 pub mod Reading
+pub mod Standing
+pub mod Pieces

@@ -229,25 +229,27 @@ module _ (tester : ℕ) (units : List ℕ) where
     others = λ a unknown. refl;
   }
 
-  abbrev Verdict : Bool → ℕ → Type 0
-  Verdict ten code = (code == 16) ≡ ten
+  -- what an answer that accepts, or does not, leaves of the frames behind it
+  abbrev By : Link → Link → Frame → List Frame → ℕ → Bool → Type 0
+  By l m f fs code ten = Reads tester units l m (if not ten then [] else f ∷ before_refusal fs) (if not (not ten) && refuses_header fs then Down else (if ten then Up else Denied code)) (not (not ten) && refuses_header fs)
 
   accepted : (t entity code : ℕ) (oem : Option ℕ) (fs : List Frame) (l : Link) → l.phase ≡ Waits → (code == 16) ≡ true
       → Reads tester units l (see_all tester units (Activated t entity code oem ∷ fs) l) (looked_at (Activated t entity code oem ∷ fs)) (phase_by (Activated t entity code oem ∷ fs)) (lost_by (Activated t entity code oem ∷ fs))
   accepted t entity code oem fs l waits ten =
-      let m : Link = record l { phase = Up } in
       let is : see tester units (Activated t entity code oem) l ≡ record l { phase = Up } = answered t entity code oem l waits ∙ ap (λ (b : Bool). record l { phase = if b then Up else Denied code }) ten in
       let both : Reads tester units l (see_all tester units fs (record l { phase = Up })) (Activated t entity code oem ∷ before_refusal fs) (up_phase (refuses_header fs)) (refuses_header fs) =
           then_reads l (record l { phase = Up }) (see_all tester units fs (record l { phase = Up })) (Activated t entity code oem ∷ []) (before_refusal fs) Up (up_phase (refuses_header fs)) (refuses_header fs)
           (in_phase l Up (Activated t entity code oem ∷ []) refl (λ a. refl)) (up_reads fs (record l { phase = Up }) refl) in
-      rw ten (subst (λ (m : Link). Reads tester units l (see_all tester units fs m) (Activated t entity code oem ∷ before_refusal fs) (up_phase (refuses_header fs)) (refuses_header fs)) (sym is) both)
+      subst (By l (see_all tester units (Activated t entity code oem ∷ fs) l) (Activated t entity code oem) fs code) (sym ten)
+      (subst (λ (m : Link). Reads tester units l (see_all tester units fs m) (Activated t entity code oem ∷ before_refusal fs) (up_phase (refuses_header fs)) (refuses_header fs)) (sym is) both)
 
   denied : (t entity code : ℕ) (oem : Option ℕ) (fs : List Frame) (l : Link) → l.phase ≡ Waits → (code == 16) ≡ false
       → Reads tester units l (see_all tester units (Activated t entity code oem ∷ fs) l) (looked_at (Activated t entity code oem ∷ fs)) (phase_by (Activated t entity code oem ∷ fs)) (lost_by (Activated t entity code oem ∷ fs))
   denied t entity code oem fs l waits other =
       let is : see tester units (Activated t entity code oem) l ≡ record l { phase = Denied code } = answered t entity code oem l waits ∙ ap (λ (b : Bool). record l { phase = if b then Up else Denied code }) other in
       let whole : see_all tester units (Activated t entity code oem ∷ fs) l ≡ record l { phase = Denied code } = ap (see_all tester units fs) is ∙ stays tester units fs (record l { phase = Denied code }) refl in
-      rw other (subst (λ (m : Link). Reads tester units l m [] (Denied code) false) (sym whole) (in_phase l (Denied code) [] refl (λ a. refl)))
+      subst (By l (see_all tester units (Activated t entity code oem ∷ fs) l) (Activated t entity code oem) fs code) (sym other)
+      (subst (λ (m : Link). Reads tester units l m [] (Denied code) false) (sym whole) (in_phase l (Denied code) [] refl (λ a. refl)))
 
   -- a plain frame in front
   cons_either : (b : Bool) (f : Frame) (x y : List Frame) → f ∷ (if b then x else y) ≡ (if b then f ∷ x else f ∷ y)
