@@ -3,3 +3,5 @@ pub mod Frames
 pub mod Reading
 pub mod Standing
 pub mod Pieces
+pub mod Words
+pub mod Moving

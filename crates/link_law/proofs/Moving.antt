@@ -1,0 +1,74 @@
+-- One event more: what has to be shown of the link behind it.
+use Rattle.std.proofs.Common.{◌≡◌, inl, inr, ℕ, zero, suc, ◌+◌, ◌≤◌, true, false, List, [], ◌∷◌, ◌++◌, length, drop, Some, None, refl, sym, ◌∙◌, ap, subst, arith}
+use Rattle.std.specs.Prelude.{Bool, Option, ◌==◌, ◌&&◌, ◌||◌, not, nat_le, nat_lt, if◌then◌else◌}
+use Rattle.std.proofs.lemmas.Bool.{le-ltb}
+use Rattle.std.proofs.lemmas.List.{append-nil}
+use Rattle.doip_frame.specs.Frame.{stream_of}
+use Rattle.flash_plan.specs.declared.unit.LinkRules.{LinkRules}
+use Rattle.flash_plan.specs.declared.unit.UnitPlan.{UnitPlan}
+use Rattle.run_model.specs.Link.{Link, Phase, Down, Fresh, Waits, Up, Denied, is_down, is_known}
+use Rattle.run_model.specs.Ways.{Spoken, words_from}
+use Rattle.bay_core.specs.Core.{addresses_of}
+use Rattle.bay_core.specs.LinkLaws.{phase_for}
+use Rattle.bay_core.specs.declared.event.Event.{Event}
+use Rattle.link_law.specs.Happened.{one, has, count, behind_last, to_last, count_after}
+use Rattle.link_law.specs.Kinds.{event_bytes, bytes_in, is_dial, is_ask, is_say, is_quiet, is_quiet_wait, is_failed_call, dial_of}
+use Rattle.link_law.specs.Looked.{answer_in, is_broken, checks_of, words_of}
+use Rattle.link_law.specs.Follows.{last_dial, since_dial, is_ended, is_loss, phase_in, is_owed, takes, taken, IsLinkOf}
+use Rattle.link_law.proofs.Lists.{has_more, has_same, count_more, count_same, behind_same, to_it, to_same, bytes_more, count_after_more, dial_same, or_true, or_false}
+use Rattle.link_law.proofs.Words.{IsKept, untaken}
+
+-- alive checks that had come when one was answered
+abbrev pub answered : List Event → ℕ
+answered w = checks_of (bytes_in (to_last is_say w))
+
+-- the link by the events, and besides what holds before the first answer to the activation
+pub record Stands (rules : LinkRules) (P : List UnitPlan) (es : List Event) (l : Link) : Type 0 where
+  pub link : IsLinkOf rules P es l
+  pub fresh : l.phase ≡ Fresh → (bytes_in (since_dial es) ≡ []) × (count is_quiet_wait (since_dial es) ≡ 0)
+  pub waits : l.phase ≡ Waits → l.ticks ≡ l.asked + count is_quiet_wait (since_dial es)
+  pub checks : answered (since_dial es) ≤ checks_of (bytes_in (since_dial es))
+
+module _ (rules : LinkRules) (P : List UnitPlan) (es : List Event) (x : Event) where
+  -- each unit's messages behind the event
+  pub record WordsMove (l2 : Link) : Type 0 where
+    pub known : (a : ℕ) → is_known (addresses_of P) a ≡ true
+        → IsKept (words_from a l2.inbox) (taken rules.tester P a (since_dial es)) (takes rules.tester P a (since_dial es) x) (words_of rules.tester a (bytes_in (since_dial es) ++ event_bytes x))
+    pub others : (a : ℕ) → is_known (addresses_of P) a ≡ false → words_from a l2.inbox ≡ []
+
+  pub record Moves (l l2 : Link) : Type 0 where
+    pub got : l2.got ≡ bytes_in (since_dial es) ++ event_bytes x
+    pub rest : l2.rest ≡ (stream_of (bytes_in (since_dial es) ++ event_bytes x)).rest
+    pub phase : l2.phase ≡ phase_in (last_dial es) (since_dial es ++ (x ∷ []))
+    pub ticks : l2.ticks ≡ l.ticks + one (is_quiet x)
+    pub asked : l2.asked ≡ count is_quiet (to_last is_ask (es ++ (x ∷ [])))
+    pub losses : l2.losses ≡ l.losses + one (is_loss es x)
+    pub dials : l2.losses + one (not (is_down l2.phase)) ≡ l.losses + one (not (is_down l.phase))
+    pub owes : l2.owes ≡ is_owed (since_dial es ++ (x ∷ []))
+    pub words : WordsMove l2
+
+  module _ (no_dial : is_dial x ≡ false) (none : dial_of x ≡ None) where
+    pub since : since_dial (es ++ (x ∷ [])) ≡ since_dial es ++ (x ∷ [])
+    since = behind_same is_dial x no_dial es
+
+    pub bytes_now : bytes_in (since_dial (es ++ (x ∷ []))) ≡ bytes_in (since_dial es) ++ event_bytes x
+    bytes_now = ap bytes_in since ∙ bytes_more (since_dial es) x
+
+    taken_now : (a : ℕ) → taken rules.tester P a (since_dial (es ++ (x ∷ []))) ≡ taken rules.tester P a (since_dial es) + one (takes rules.tester P a (since_dial es) x)
+    taken_now a = ap (taken rules.tester P a) since ∙ count_after_more (takes rules.tester P a) [] (since_dial es) x
+
+    pub moved : (l l2 : Link) → IsLinkOf rules P es l → Moves l l2 → IsLinkOf rules P (es ++ (x ∷ [])) l2
+    moved l l2 is m = record {
+      bytes = m.got ∙ sym bytes_now;
+      rest = m.rest ∙ ap (λ (bs : List ℕ). (stream_of bs).rest) (sym bytes_now);
+      phase = m.phase ∙ (λ i. phase_in (sym (dial_same es x no_dial none) i) (sym since i));
+      ticks = m.ticks ∙ ap (λ (n : ℕ). n + one (is_quiet x)) is.ticks ∙ sym (count_more is_quiet x es);
+      asked = m.asked;
+      losses = m.losses ∙ ap (λ (n : ℕ). n + one (is_loss es x)) is.losses ∙ sym (count_after_more is_loss [] es x);
+      dials = m.dials ∙ is.dials ∙ sym (count_same is_dial x no_dial es);
+      owes = m.owes ∙ ap is_owed (sym since);
+      came = λ a known. subst (λ (n : ℕ). n ≤ length (words_of rules.tester a (bytes_in (since_dial (es ++ (x ∷ [])))))) (sym (taken_now a))
+          (subst (λ (bs : List ℕ). taken rules.tester P a (since_dial es) + one (takes rules.tester P a (since_dial es) x) ≤ length (words_of rules.tester a bs)) (sym bytes_now) (m.words.known a known).came);
+      inbox = λ a known. (m.words.known a known).words ∙ (λ i. drop (sym (taken_now a) i) (words_of rules.tester a (sym bytes_now i)));
+      others = m.words.others;
+    }
