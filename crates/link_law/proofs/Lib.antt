@@ -5,3 +5,4 @@ pub mod Standing
 pub mod Pieces
 pub mod Words
 pub mod Moving
+pub mod Silent

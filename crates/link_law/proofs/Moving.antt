@@ -72,3 +72,16 @@ module _ (rules : LinkRules) (P : List UnitPlan) (es : List Event) (x : Event) w
       inbox = λ a known. (m.words.known a known).words ∙ (λ i. drop (sym (taken_now a) i) (words_of rules.tester a (sym bytes_now i)));
       others = m.words.others;
     }
+
+    pub stands : (l l2 : Link) → Stands rules P es l → Moves l l2 → (l2.phase ≡ Fresh → (bytes_in (since_dial es) ++ event_bytes x ≡ []) × (count is_quiet_wait (since_dial es) + one (is_quiet_wait x) ≡ 0))
+        → (l2.phase ≡ Waits → l2.ticks ≡ l2.asked + (count is_quiet_wait (since_dial es) + one (is_quiet_wait x)))
+        → answered (since_dial es ++ (x ∷ [])) ≤ checks_of (bytes_in (since_dial es ++ (x ∷ []))) → Stands rules P (es ++ (x ∷ [])) l2
+    stands l l2 s m fresh waits checks = record {
+      link = moved l l2 s.link m;
+      fresh = λ e. (bytes_now ∙ (fresh e).0, count_now ∙ (fresh e).1);
+      waits = λ e. waits e ∙ ap (λ (n : ℕ). l2.asked + n) (sym count_now);
+      checks = subst (λ (w : List Event). answered w ≤ checks_of (bytes_in w)) (sym since) checks;
+    }
+      where
+        count_now : count is_quiet_wait (since_dial (es ++ (x ∷ []))) ≡ count is_quiet_wait (since_dial es) + one (is_quiet_wait x)
+        count_now = ap (count is_quiet_wait) since ∙ count_more is_quiet_wait x (since_dial es)

@@ -7,7 +7,7 @@ use Rattle.run_model.specs.Link.{first_word, without_first}
 use Rattle.run_model.specs.Ways.{Spoken, words_from}
 use Rattle.link_law.specs.Happened.{one}
 
-pub is_cons : List Spoken → Bool
+abbrev pub is_cons : List Spoken → Bool
 is_cons [] = false
 is_cons (w ∷ ws) = true
 
