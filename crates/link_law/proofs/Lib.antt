@@ -6,3 +6,5 @@ pub mod Pieces
 pub mod Words
 pub mod Moving
 pub mod Silent
+pub mod Dialing
+pub mod Quieting

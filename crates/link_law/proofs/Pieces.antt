@@ -1,10 +1,11 @@
 -- What a piece does to an open link, by all the bytes of the connection.
 use Rattle.std.proofs.Common.{◌≡◌, inl, inr, ℕ, ◌+◌, true, false, List, [], ◌∷◌, ◌++◌, Some, None, refl, sym, ◌∙◌, ap, subst, arith}
 use Rattle.std.specs.Prelude.{Bool, Option, ◌==◌, ◌&&◌, ◌||◌, not, is_some, if◌then◌else◌}
+use Rattle.std.proofs.lemmas.Bool.{both_ways}
 use Rattle.doip_frame.specs.Frame.{Stream, stream_of}
 use Rattle.doip_frame.specs.declared.frame.Bad.{Bad}
 use Rattle.doip_frame.specs.declared.frame.Frame.{Frame}
-use Rattle.run_model.specs.Link.{Link, Phase, Down, Fresh, Waits, Up, Denied, is_open, see_all, see_end}
+use Rattle.run_model.specs.Link.{Link, Phase, Down, Fresh, Waits, Up, Denied, is_open, is_waiting, see_all, see_end}
 use Rattle.bay_core.specs.LinkLaws.{refuses_header, phase_for}
 use Rattle.link_law.specs.Looked.{before_refusal, answer_in, is_denial, looked_at, is_broken}
 use Rattle.link_law.proofs.Frames.{refuses_more, waits_answer, waits_looked, waits_all, up_answer, up_looked, up_all}
@@ -20,6 +21,16 @@ pub record PieceReads (tester : ℕ) (units : List ℕ) (l n : Link) (F : List F
   pub old : looked_at F ≡ F
   pub looked : looked_at s.frames ≡ F ++ extra
   pub reads : Reads tester units l n extra (if is_broken s then Down else phase_for (answer_in s.frames)) (is_broken s)
+  pub later : is_waiting (if is_broken s then Down else phase_for (answer_in s.frames)) ≡ true → l.phase ≡ Waits
+
+-- once an answer came no other is awaited
+never_waits : (gone : Bool) (o : Option ℕ) (c : ℕ) → o ≡ Some c → is_waiting (if gone then Down else phase_for o) ≡ false
+never_waits gone o c is = ap (λ (x : Option ℕ). is_waiting (if gone then Down else phase_for x)) is ∙ one gone (c == 16)
+  where
+    one : (gone ten : Bool) → is_waiting (if gone then Down else (if ten then Up else Denied c)) ≡ false
+    one true ten = refl
+    one false true = refl
+    one false false = refl
 
 module _ (tester : ℕ) (units : List ℕ) (l : Link) where
   -- by the answer to the activation, whether a header was refused, and the refusal at the end
@@ -45,6 +56,7 @@ module _ (tester : ℕ) (units : List ℕ) (l : Link) where
     reads = subst (λ (o : Option ℕ). By (see_end t.bad (see_all tester units t.frames l)) (looked_at t.frames) o (refuses_header (F ++ t.frames)) (is_some t.bad)) (sym (waits_answer F is.no_refusal is.none t.frames))
         (subst (λ (R : Bool). By (see_end t.bad (see_all tester units t.frames l)) (looked_at t.frames) (answer_in t.frames) R (is_some t.bad)) (sym (refuses_more F t.frames is.no_refusal))
         (settle (answer_in t.frames) (refuses_header t.frames) t.bad (see_all tester units t.frames l) (looked_at t.frames) (waits_reads tester units t.frames l waits)));
+    later = λ e. waits;
   }
 
   up_piece : (F : List Frame) (t : Stream) → l.phase ≡ Up → IsAccepted F → PieceReads tester units l (see_end t.bad (see_all tester units t.frames l)) F (joint F t)
@@ -56,6 +68,7 @@ module _ (tester : ℕ) (units : List ℕ) (l : Link) where
         (subst (λ (R : Bool). By (see_end t.bad (see_all tester units t.frames l)) (before_refusal t.frames) (Some is.code) R (is_some t.bad)) (sym (refuses_more F t.frames is.no_refusal))
         (subst (λ (ten : Bool). Reads tester units l (see_end t.bad (see_all tester units t.frames l)) (before_refusal t.frames) (if not (not ten) && (refuses_header t.frames || is_some t.bad) then Down else (if ten then Up else Denied is.code)) (not (not ten) && (refuses_header t.frames || is_some t.bad))) (sym is.ten)
         (settle_by true (refuses_header t.frames) is.code t.bad (see_all tester units t.frames l) (before_refusal t.frames) (up_reads tester units t.frames l up))));
+    later = λ e. absurd (both_ways _ (never_waits (is_broken (joint F t)) (answer_in (F ++ t.frames)) is.code (up_answer F is.no_refusal is.code is.is is.ten t.frames)) e);
   }
 
   pub piece_reads : (F : List Frame) (t : Stream) (p : Phase) → l.phase ≡ p → Clean p F → PieceReads tester units l (see_end t.bad (see_all tester units t.frames l)) F (joint F t)

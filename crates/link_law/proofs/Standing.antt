@@ -71,6 +71,7 @@ pub record IsOpened (d : Option Bool) (w : List Event) (p : Phase) : Type 0 wher
   pub asked : has is_ask w ≡ true
   pub clean : Clean p (stream_of (bytes_in w)).frames
   pub good : (stream_of (bytes_in w)).bad ≡ None
+  pub verdict : phase_for (answer_in (stream_of (bytes_in w)).frames) ≡ p
 
 pub record IsFresh (d : Option Bool) (w : List Event) : Type 0 where
   pub live : IsLive d w
@@ -98,7 +99,7 @@ opened_in w p false false x y e opened = shut Fresh p refl e opened
 opened_in w p false true x y e opened =
     let live : IsLive (Some false) w = live_of w x in
     let both = clean_of (stream_of (bytes_in w)) p (ap (λ (b : Bool). if b then Down else phase_for (answer_in (stream_of (bytes_in w)).frames)) live.whole ∙ e) opened in
-    record { live = live; asked = y; clean = both.0; good = both.1 }
+    record { live = live; asked = y; clean = both.0; good = both.1; verdict = e }
 
 pub opened_of : (d : Option Bool) (w : List Event) (p : Phase) → phase_in d w ≡ p → is_open p ≡ true → IsOpened d w p
 opened_of None w p e opened = shut Down p refl e opened
