@@ -8,3 +8,4 @@ pub mod Moving
 pub mod Silent
 pub mod Dialing
 pub mod Quieting
+pub mod Piecing
