@@ -9,3 +9,5 @@ pub mod Silent
 pub mod Dialing
 pub mod Quieting
 pub mod Piecing
+pub mod Collecting
+pub mod Following
