@@ -231,15 +231,15 @@ module _ (rules : LinkRules) (P : List UnitPlan) (es : List Event) (c : Core) (s
   collects u (Piece bytes) f = pieces.collected rules P es u bytes c.link (ap is_open (up_is c.link.phase f.up)) (not_true _ f.inbox) s
   collects u Lost f = failure rules P es c.link s (Collected u Lost) (record { silent = record { no_dial = refl; none = refl; bytes = refl }; failed = refl; no_quiet = refl; no_ask = refl; no_say = refl; loss = refl; no_take = λ a. and_false ((plan_of P u).address == a) }) (ap is_down (up_is c.link.phase f.up))
 
-  step : (e : Event) → is_allowed P c e ≡ true → Stands rules P (es ++ (e ∷ [])) (link_after rules P e c.link)
-  step (Claimed u) ok = idle rules P es c.link s (Claimed u) (record { silent = record { no_dial = refl; none = refl; bytes = refl }; works = refl; no_wait = refl; no_quiet = refl; no_ask = refl; no_say = refl; no_loss = refl; no_take = λ a. refl })
-  step (Began u) ok = idle rules P es c.link s (Began u) (record { silent = record { no_dial = refl; none = refl; bytes = refl }; works = refl; no_wait = refl; no_quiet = refl; no_ask = refl; no_say = refl; no_loss = refl; no_take = λ a. refl })
-  step (Sent u place lost) ok = sent rules P es c.link s u place lost (up_is c.link.phase (sent_facts P c u place lost ok).up)
-  step (Collected u heard) ok = collects u heard (collected_facts P c u heard ok)
-  step (Tended step) ok = tended step (and_parts _ _ ok).1
-  step (Completed u) ok = idle rules P es c.link s (Completed u) (record { silent = record { no_dial = refl; none = refl; bytes = refl }; works = refl; no_wait = refl; no_quiet = refl; no_ask = refl; no_say = refl; no_loss = refl; no_take = λ a. refl })
-  step (DiskFailed u entry) ok = idle rules P es c.link s (DiskFailed u entry) (record { silent = record { no_dial = refl; none = refl; bytes = refl }; works = refl; no_wait = refl; no_quiet = refl; no_ask = refl; no_say = refl; no_loss = refl; no_take = λ a. refl })
-  step (Ended u why) ok = idle rules P es c.link s (Ended u why) (record { silent = record { no_dial = refl; none = refl; bytes = refl }; works = refl; no_wait = refl; no_quiet = refl; no_ask = refl; no_say = refl; no_loss = refl; no_take = λ a. refl })
+  each_event : (e : Event) → is_allowed P c e ≡ true → Stands rules P (es ++ (e ∷ [])) (link_after rules P e c.link)
+  each_event (Claimed u) ok = idle rules P es c.link s (Claimed u) (record { silent = record { no_dial = refl; none = refl; bytes = refl }; works = refl; no_wait = refl; no_quiet = refl; no_ask = refl; no_say = refl; no_loss = refl; no_take = λ a. refl })
+  each_event (Began u) ok = idle rules P es c.link s (Began u) (record { silent = record { no_dial = refl; none = refl; bytes = refl }; works = refl; no_wait = refl; no_quiet = refl; no_ask = refl; no_say = refl; no_loss = refl; no_take = λ a. refl })
+  each_event (Sent u place lost) ok = sent rules P es c.link s u place lost (up_is c.link.phase (sent_facts P c u place lost ok).up)
+  each_event (Collected u heard) ok = collects u heard (collected_facts P c u heard ok)
+  each_event (Tended tend) ok = tended tend (and_parts _ _ ok).1
+  each_event (Completed u) ok = idle rules P es c.link s (Completed u) (record { silent = record { no_dial = refl; none = refl; bytes = refl }; works = refl; no_wait = refl; no_quiet = refl; no_ask = refl; no_say = refl; no_loss = refl; no_take = λ a. refl })
+  each_event (DiskFailed u entry) ok = idle rules P es c.link s (DiskFailed u entry) (record { silent = record { no_dial = refl; none = refl; bytes = refl }; works = refl; no_wait = refl; no_quiet = refl; no_ask = refl; no_say = refl; no_loss = refl; no_take = λ a. refl })
+  each_event (Ended u why) ok = idle rules P es c.link s (Ended u why) (record { silent = record { no_dial = refl; none = refl; bytes = refl }; works = refl; no_wait = refl; no_quiet = refl; no_ask = refl; no_say = refl; no_loss = refl; no_take = λ a. refl })
 
 -- ------ the whole list
 along : (rules : LinkRules) (P : List UnitPlan) (es events : List Event) (c : Core) → is_legal rules P c events ≡ true → Stands rules P es c.link → Stands rules P (es ++ events) (core_of rules P c events).link
@@ -247,7 +247,7 @@ along rules P es [] c legal s = subst (λ (xs : List Event). Stands rules P xs c
 along rules P es (e ∷ events) c legal s =
     let both = and_parts _ _ legal in
     subst (λ (xs : List Event). Stands rules P xs (core_of rules P c (e ∷ events)).link) (append_assoc es (e ∷ []) events)
-    (along rules P (es ++ (e ∷ [])) events (core_after rules P e c) both.1 (step rules P es c s e both.0))
+    (along rules P (es ++ (e ∷ [])) events (core_after rules P e c) both.1 (each_event rules P es c s e both.0))
 
 starts : (rules : LinkRules) (P : List UnitPlan) → Stands rules P [] link_start
 starts rules P = record {
