@@ -18,9 +18,9 @@ use Rattle.link_law.specs.Kinds.{event_bytes, bytes_in, is_dial, is_ask, is_say,
 use Rattle.link_law.specs.Looked.{answer_in, is_broken, checks_of, words_of}
 use Rattle.link_law.specs.Follows.{last_dial, since_dial, is_ended, is_loss, phase_in, is_owed, takes, taken, IsLinkOf}
 use Rattle.link_law.proofs.Lists.{has_more, has_same, count_more, count_same, behind_it, to_same, count_after_more, dial_is, or_true}
-use Rattle.link_law.proofs.Moving.{Stands, answered, stands}
+use Rattle.link_law.proofs.Moving.{Stands, stands}
 use Rattle.link_law.proofs.Standing.{IsFresh, fresh_of}
-use Rattle.link_law.proofs.Silent.{IsSilent, Fails, fails, untaken_words, asked_now, owed_same, checks_same, all_bytes, since_bytes, ended_more, none_more}
+use Rattle.link_law.proofs.Silent.{IsSilent, Fails, fails, untaken_words, asked_now, owed_same, all_bytes, since_bytes, ended_more, none_more}
 
 module _ (rules : LinkRules) (P : List UnitPlan) (es : List Event) (lost : Bool) where
   abbrev dial : Event
@@ -53,13 +53,13 @@ module _ (rules : LinkRules) (P : List UnitPlan) (es : List Event) (lost : Bool)
       losses = d.losses ∙ ap (λ (n : ℕ). n + one lost) s.link.losses ∙ sym (count_after_more is_loss [] es (Tended (Dialed lost)));
       dials = d.dials ∙ ap (λ (n : ℕ). n + 1) (none_more l.losses ∙ ap (λ (p : Phase). l.losses + one (not (is_down p))) (sym down) ∙ s.link.dials) ∙ sym (count_more is_dial (Tended (Dialed lost)) es);
       owes = d.owes ∙ ap is_owed (sym now);
+      unasked = λ none_asked. ap bytes_in now;
       came = λ a known. subst (λ (w : List Event). taken rules.tester P a w ≤ length (words_of rules.tester a (bytes_in w))) (sym now) (omega arith);
       inbox = λ a known. ap (words_from a) d.inbox ∙ ap (λ (w : List Event). drop (taken rules.tester P a w) (words_of rules.tester a (bytes_in w))) (sym now);
       others = λ a unknown. ap (words_from a) d.inbox;
     };
-    fresh = λ e. (ap bytes_in now, ap (count is_quiet_wait) now);
+    fresh = λ e. ap (count is_quiet_wait) now;
     waits = λ e. absurd (both_ways _ d.calm (ap is_waiting e));
-    checks = subst (λ (w : List Event). answered w ≤ checks_of (bytes_in w)) (sym now) (omega arith);
   }
 
 lost_dial : (n : ℕ) → (n + 1) + 0 ≡ n + 1
@@ -96,7 +96,7 @@ module _ (rules : LinkRules) (P : List UnitPlan) (es : List Event) (l : Link) (f
   has_asked = has_more is_ask (Tended (Asked false)) (since_dial es) ∙ or_true (has is_ask (since_dial es))
 
   no_bytes : bytes_in (since_dial es ++ (Tended (Asked false) ∷ [])) ≡ []
-  no_bytes = since_bytes (since_dial es) (Tended (Asked false)) (ask_silent false) ∙ (s.fresh fresh).0
+  no_bytes = since_bytes (since_dial es) (Tended (Asked false)) (ask_silent false) ∙ s.link.unasked was.asked
 
   waits_now : phase_in (last_dial es) (since_dial es ++ (Tended (Asked false) ∷ [])) ≡ Waits
   waits_now = ap (λ (d : Option Bool). phase_in d (since_dial es ++ (Tended (Asked false) ∷ []))) was.live.dialed
@@ -112,10 +112,10 @@ module _ (rules : LinkRules) (P : List UnitPlan) (es : List Event) (l : Link) (f
     losses = none_more l.losses;
     dials = ap (λ (p : Phase). l.losses + one (not (is_down p))) (sym fresh);
     owes = s.link.owes ∙ sym (owed_same (since_dial es) (Tended (Asked false)) (ask_silent false) refl);
+    unasked = λ none_asked. absurd (both_ways _ none_asked (has_asked));
     words = untaken_words rules P es (Tended (Asked false)) (ask_silent false) l (asked_link false l) (λ a. refl) s.link refl;
   }) (λ e. absurd (false≢true (ap is_fresh e)))
-      (λ e. none_more l.ticks ∙ ap (λ (n : ℕ). l.ticks + (n + 0)) (sym (s.fresh fresh).1))
-      (checks_same (since_dial es) (Tended (Asked false)) (ask_silent false) refl s.checks)
+      (λ e. none_more l.ticks ∙ ap (λ (n : ℕ). l.ticks + (n + 0)) (sym (s.fresh fresh)))
 
   asked_lost : Stands rules P (es ++ (Tended (Asked true) ∷ [])) (asked_link true l)
   asked_lost = fails rules P es (Tended (Asked true)) (ask_silent true) l (asked_link true l) s (record {
@@ -130,7 +130,7 @@ module _ (rules : LinkRules) (P : List UnitPlan) (es : List Event) (l : Link) (f
     ticks = refl;
     asked = asked_now rules P es (Tended (Asked true)) (ask_silent true) l refl refl s.link;
     owes = s.link.owes ∙ sym (owed_same (since_dial es) (Tended (Asked true)) (ask_silent true) refl);
-    checks = checks_same (since_dial es) (Tended (Asked true)) (ask_silent true) refl s.checks;
+    unasked = λ none_asked. absurd (both_ways _ none_asked (has_more is_ask (Tended (Asked true)) (since_dial es) ∙ or_true (has is_ask (since_dial es))));
     words = untaken_words rules P es (Tended (Asked true)) (ask_silent true) l (asked_link true l) (λ a. refl) s.link refl;
   })
 

@@ -24,7 +24,7 @@ use Rattle.link_law.proofs.Collecting.{kept_words}
 use Rattle.link_law.proofs.Dialing.{dialed, asked}
 use Rattle.link_law.proofs.Moving.{Stands}
 use Rattle.link_law.proofs.Quieting as quiet
-use Rattle.link_law.proofs.Silent.{IsSilent, Keeps, keeps, Fails, fails, untaken_words, asked_same, owed_same, owed_none, checks_same, checks_said, none_more}
+use Rattle.link_law.proofs.Silent.{IsSilent, Keeps, keeps, Fails, fails, untaken_words, asked_same, unasked_same, owed_same, owed_none, none_more}
 
 -- ------ phases
 down_is : (p : Phase) → is_down p ≡ true → p ≡ Down
@@ -89,7 +89,6 @@ module _ (rules : LinkRules) (P : List UnitPlan) (es : List Event) (l : Link) (s
     ticks = none_more l.ticks ∙ ap (λ (b : Bool). l.ticks + one b) (sym is.no_quiet);
     calm = λ e. is.no_quiet;
     owes = s.link.owes ∙ sym (owed_same (since_dial es) x is.silent is.no_say);
-    checks = checks_same (since_dial es) x is.silent is.no_say s.checks;
     words = untaken_words rules P es x is.silent l l is.no_take s.link refl;
   })
 
@@ -116,7 +115,7 @@ module _ (rules : LinkRules) (P : List UnitPlan) (es : List Event) (l : Link) (s
     ticks = refl;
     asked = asked_same rules P es x is.silent l is.no_ask s.link;
     owes = s.link.owes ∙ sym (owed_same (since_dial es) x is.silent is.no_say);
-    checks = checks_same (since_dial es) x is.silent is.no_say s.checks;
+    unasked = unasked_same rules P es x is.silent is.no_ask s.link;
     words = untaken_words rules P es x is.silent l (drop_link l) is.no_take s.link refl;
   })
 
@@ -138,7 +137,7 @@ module _ (rules : LinkRules) (P : List UnitPlan) (es : List Event) (l : Link) (s
     ticks = refl;
     asked = asked_same rules P es (Tended (Said true)) silent l refl s.link;
     owes = sym (owed_none (since_dial es) (Tended (Said true)) silent refl);
-    checks = checks_said (since_dial es) (Tended (Said true)) silent refl;
+    unasked = unasked_same rules P es (Tended (Said true)) silent refl s.link;
     words = untaken_words rules P es (Tended (Said true)) silent l (said_link true l) (λ a. refl) s.link refl;
   })
     where
@@ -157,7 +156,6 @@ module _ (rules : LinkRules) (P : List UnitPlan) (es : List Event) (l : Link) (s
     ticks = none_more l.ticks;
     calm = λ e. refl;
     owes = sym (owed_none (since_dial es) (Tended (Said false)) silent refl);
-    checks = checks_said (since_dial es) (Tended (Said false)) silent refl;
     words = untaken_words rules P es (Tended (Said false)) silent l (said_link false l) (λ a. refl) s.link refl;
   })
     where
@@ -179,7 +177,6 @@ module _ (rules : LinkRules) (P : List UnitPlan) (es : List Event) (l : Link) (s
     ticks = none_more l.ticks;
     calm = λ e. refl;
     owes = s.link.owes ∙ sym (owed_same (since_dial es) (Collected u Kept) silent refl);
-    checks = checks_same (since_dial es) (Collected u Kept) silent refl s.checks;
     words = kept_words rules P es u l s.link has;
   })
     where
@@ -201,7 +198,6 @@ module _ (rules : LinkRules) (P : List UnitPlan) (es : List Event) (l : Link) (s
     ticks = refl;
     calm = λ e. absurd (false≢true (ap is_waiting (sym up ∙ e)));
     owes = s.link.owes ∙ sym (owed_same (since_dial es) (Collected u Quiet) silent refl);
-    checks = checks_same (since_dial es) (Collected u Quiet) silent refl s.checks;
     words = untaken_words rules P es (Collected u Quiet) silent l (quiet_link l) (λ a. and_false ((plan_of P u).address == a)) s.link refl;
   }))
     where
@@ -260,13 +256,13 @@ starts rules P = record {
     losses = refl;
     dials = refl;
     owes = refl;
+    unasked = λ none_asked. refl;
     came = λ a known. omega arith;
     inbox = λ a known. refl;
     others = λ a unknown. refl;
   };
   fresh = λ e. absurd (false≢true (ap is_fresh e));
   waits = λ e. absurd (false≢true (ap is_waiting e));
-  checks = omega arith;
 }
 
 pub link_follows : LinkFollows

@@ -1,12 +1,13 @@
 -- Lists of events with one event more at their end.
 use Rattle.std.proofs.Common.{◌≡◌, inl, inr, ℕ, zero, suc, ◌+◌, true, false, List, [], ◌∷◌, ◌++◌, Some, None, refl, sym, ◌∙◌, ap, append_assoc, arith}
-use Rattle.std.specs.Prelude.{Bool, Option, ◌||◌, if◌then◌else◌}
+use Rattle.std.specs.Prelude.{Bool, Option, ◌&&◌, ◌||◌, not, nat_lt, if◌then◌else◌}
 use Rattle.std.proofs.lemmas.Bool.{cases_Bool}
 use Rattle.std.proofs.lemmas.List.{append-nil}
 use Rattle.bay_core.specs.declared.event.Event.{Event}
-use Rattle.link_law.specs.Happened.{one, has, count, behind_last, to_last, count_after}
-use Rattle.link_law.specs.Kinds.{bytes_in, event_bytes, is_dial, dial_of}
-use Rattle.link_law.specs.Follows.{last_dial}
+use Rattle.link_law.specs.Happened.{one, has, count, behind_last, to_last, count_after, some_amid}
+use Rattle.link_law.specs.Kinds.{bytes_in, event_bytes, is_dial, is_say, dial_of}
+use Rattle.link_law.specs.Looked.{checks_of}
+use Rattle.link_law.specs.Follows.{last_dial, leaves_check}
 
 pub or_assoc : (a b c : Bool) → ((a || b) || c) ≡ (a || (b || c))
 or_assoc true b c = refl
@@ -93,3 +94,27 @@ dial_same [] x is_not none = none
 dial_same (e ∷ es) x is_not none =
     ap (λ (b : Bool). if b then last_dial (es ++ (x ∷ [])) else dial_of e) (has_same is_dial x is_not es)
     ∙ ap (λ (o : Option Bool). if has is_dial es then o else dial_of e) (dial_same es x is_not none)
+
+-- ------ an alive check that is not answered
+abbrev pub brings : List Event → Event → Bool
+brings before x = nat_lt (checks_of (bytes_in before)) (checks_of (bytes_in before ++ event_bytes x))
+
+-- some event leaves one, the next event answers, the last one leaves one
+amid : (here said says later last : Bool) → ((here && not (said || says)) || ((later && not says) || last)) ≡ ((((here && not said) || later) && not says) || last)
+amid true true true later last = refl
+amid true true false later last = refl
+amid true false true true last = refl
+amid true false true false last = refl
+amid true false false later last = refl
+amid false said says later last = refl
+
+pub owed_more : (before es : List Event) (x : Event) → some_amid leaves_check before (es ++ (x ∷ [])) ≡ ((some_amid leaves_check before es && not (is_say x)) || brings (before ++ es) x)
+owed_more before [] x = alone (brings before x) ∙ ap (λ (xs : List Event). brings xs x) (sym (append-nil before))
+  where
+    alone : (b : Bool) → ((b && true) || false) ≡ b
+    alone true = refl
+    alone false = refl
+owed_more before (e ∷ es) x =
+    (λ i. (brings before e && not (has_more is_say x es i)) || owed_more (before ++ (e ∷ [])) es x i)
+    ∙ amid (brings before e) (has is_say es) (is_say x) (some_amid leaves_check (before ++ (e ∷ [])) es) (brings ((before ++ (e ∷ [])) ++ es) x)
+    ∙ ap (λ (xs : List Event). (some_amid leaves_check before (e ∷ es) && not (is_say x)) || brings xs x) (append_assoc before (e ∷ []) es)

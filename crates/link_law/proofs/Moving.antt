@@ -18,16 +18,11 @@ use Rattle.link_law.specs.Follows.{last_dial, since_dial, is_ended, is_loss, pha
 use Rattle.link_law.proofs.Lists.{has_more, has_same, count_more, count_same, behind_same, to_it, to_same, bytes_more, count_after_more, dial_same, or_true, or_false}
 use Rattle.link_law.proofs.Words.{IsKept, untaken}
 
--- alive checks that had come when one was answered
-abbrev pub answered : List Event → ℕ
-answered w = checks_of (bytes_in (to_last is_say w))
-
 -- the link by the events, and besides what holds before the first answer to the activation
 pub record Stands (rules : LinkRules) (P : List UnitPlan) (es : List Event) (l : Link) : Type 0 where
   pub link : IsLinkOf rules P es l
-  pub fresh : l.phase ≡ Fresh → (bytes_in (since_dial es) ≡ []) × (count is_quiet_wait (since_dial es) ≡ 0)
+  pub fresh : l.phase ≡ Fresh → count is_quiet_wait (since_dial es) ≡ 0
   pub waits : l.phase ≡ Waits → l.ticks ≡ l.asked + count is_quiet_wait (since_dial es)
-  pub checks : answered (since_dial es) ≤ checks_of (bytes_in (since_dial es))
 
 module _ (rules : LinkRules) (P : List UnitPlan) (es : List Event) (x : Event) where
   -- each unit's messages behind the event
@@ -45,6 +40,7 @@ module _ (rules : LinkRules) (P : List UnitPlan) (es : List Event) (x : Event) w
     pub losses : l2.losses ≡ l.losses + one (is_loss es x)
     pub dials : l2.losses + one (not (is_down l2.phase)) ≡ l.losses + one (not (is_down l.phase))
     pub owes : l2.owes ≡ is_owed (since_dial es ++ (x ∷ []))
+    pub unasked : has is_ask (since_dial es ++ (x ∷ [])) ≡ false → bytes_in (since_dial es) ++ event_bytes x ≡ []
     pub words : WordsMove l2
 
   module _ (no_dial : is_dial x ≡ false) (none : dial_of x ≡ None) where
@@ -67,20 +63,19 @@ module _ (rules : LinkRules) (P : List UnitPlan) (es : List Event) (x : Event) w
       losses = m.losses ∙ ap (λ (n : ℕ). n + one (is_loss es x)) is.losses ∙ sym (count_after_more is_loss [] es x);
       dials = m.dials ∙ is.dials ∙ sym (count_same is_dial x no_dial es);
       owes = m.owes ∙ ap is_owed (sym since);
+      unasked = λ none_asked. bytes_now ∙ m.unasked (sym (ap (has is_ask) since) ∙ none_asked);
       came = λ a known. subst (λ (n : ℕ). n ≤ length (words_of rules.tester a (bytes_in (since_dial (es ++ (x ∷ [])))))) (sym (taken_now a))
           (subst (λ (bs : List ℕ). taken rules.tester P a (since_dial es) + one (takes rules.tester P a (since_dial es) x) ≤ length (words_of rules.tester a bs)) (sym bytes_now) (m.words.known a known).came);
       inbox = λ a known. (m.words.known a known).words ∙ (λ i. drop (sym (taken_now a) i) (words_of rules.tester a (sym bytes_now i)));
       others = m.words.others;
     }
 
-    pub stands : (l l2 : Link) → Stands rules P es l → Moves l l2 → (l2.phase ≡ Fresh → (bytes_in (since_dial es) ++ event_bytes x ≡ []) × (count is_quiet_wait (since_dial es) + one (is_quiet_wait x) ≡ 0))
-        → (l2.phase ≡ Waits → l2.ticks ≡ l2.asked + (count is_quiet_wait (since_dial es) + one (is_quiet_wait x)))
-        → answered (since_dial es ++ (x ∷ [])) ≤ checks_of (bytes_in (since_dial es ++ (x ∷ []))) → Stands rules P (es ++ (x ∷ [])) l2
-    stands l l2 s m fresh waits checks = record {
+    pub stands : (l l2 : Link) → Stands rules P es l → Moves l l2 → (l2.phase ≡ Fresh → count is_quiet_wait (since_dial es) + one (is_quiet_wait x) ≡ 0)
+        → (l2.phase ≡ Waits → l2.ticks ≡ l2.asked + (count is_quiet_wait (since_dial es) + one (is_quiet_wait x))) → Stands rules P (es ++ (x ∷ [])) l2
+    stands l l2 s m fresh waits = record {
       link = moved l l2 s.link m;
-      fresh = λ e. (bytes_now ∙ (fresh e).0, count_now ∙ (fresh e).1);
+      fresh = λ e. count_now ∙ fresh e;
       waits = λ e. waits e ∙ ap (λ (n : ℕ). l2.asked + n) (sym count_now);
-      checks = subst (λ (w : List Event). answered w ≤ checks_of (bytes_in w)) (sym since) checks;
     }
       where
         count_now : count is_quiet_wait (since_dial (es ++ (x ∷ []))) ≡ count is_quiet_wait (since_dial es) + one (is_quiet_wait x)

@@ -18,8 +18,8 @@ use Rattle.link_law.specs.Kinds.{event_bytes, bytes_in, is_dial, is_ask, is_say,
 use Rattle.link_law.specs.Looked.{answer_in, is_broken, looked_at, checks_in, checks_of, words_of}
 use Rattle.link_law.specs.Follows.{last_dial, since_dial, is_ended, is_loss, phase_in, is_owed, takes, taken, IsLinkOf}
 use Rattle.link_law.proofs.Frames.{checks_more}
-use Rattle.link_law.proofs.Lists.{has_more, has_same, count_same, to_same, bytes_more, or_false}
-use Rattle.link_law.proofs.Moving.{Stands, WordsMove, answered, stands}
+use Rattle.link_law.proofs.Lists.{has_more, has_same, count_same, to_same, bytes_more, or_false, owed_more, brings}
+use Rattle.link_law.proofs.Moving.{Stands, WordsMove, stands}
 use Rattle.link_law.proofs.Pieces.{PieceReads, piece_reads, joint}
 use Rattle.link_law.proofs.Silent.{none_more}
 use Rattle.link_law.proofs.Standing.{IsOpened, opened_of}
@@ -76,14 +76,11 @@ open_stands Waits e = refl
 open_stands Up e = refl
 open_stands (Denied code) e = refl
 
--- more checks came, or the one owed was owed before
-owes_more : (a c n : ℕ) → a ≤ c → (nat_lt a c || nat_lt 0 n) ≡ nat_lt a (c + n)
-owes_more a c n le = elim (cases_lt a c) [
-  | inl lt ↦ ap (λ (b : Bool). b || nat_lt 0 n) (lt-ltb a c lt) ∙ sym (lt-ltb a (c + n) (omega (arith, lt)))
-  | inr ge ↦ elim (cases_lt 0 n) [
-    | inl some ↦ (λ i. le-ltb a c ge i || lt-ltb 0 n some i) ∙ sym (lt-ltb a (c + n) (omega (arith, some, le)))
-    | inr none ↦ (λ i. le-ltb a c ge i || le-ltb 0 n none i) ∙ sym (le-ltb a (c + n) (omega (arith, none, ge)))
-  ]
+-- more checks than before
+more_checks : (c n : ℕ) → nat_lt 0 n ≡ nat_lt c (c + n)
+more_checks c n = elim (cases_lt 0 n) [
+  | inl some ↦ lt-ltb 0 n some ∙ sym (lt-ltb c (c + n) (omega (arith, some)))
+  | inr none ↦ le-ltb 0 n none ∙ sym (le-ltb c (c + n) (omega (arith, none)))
 ]
 
 module _ (rules : LinkRules) (P : List UnitPlan) (es : List Event) (x : Event) (is : IsPiece x) (loss : is_loss es x ≡ is_broken (stream_of (bytes_in (since_dial es) ++ event_bytes x)))
@@ -125,17 +122,14 @@ module _ (rules : LinkRules) (P : List UnitPlan) (es : List Event) (x : Event) (
   checks_all = ap checks_in reads.looked ∙ checks_more before reads.extra ∙ ap (λ (fs : List Frame). checks_in fs + checks_in reads.extra) (sym reads.old)
 
   owed : (l.owes || nat_lt 0 (checks_in reads.extra)) ≡ is_owed (since_dial es ++ (x ∷ []))
-  owed = ap (λ (b : Bool). b || nat_lt 0 (checks_in reads.extra)) s.link.owes
-      ∙ owes_more (answered (since_dial es)) (checks_of (bytes_in (since_dial es))) (checks_in reads.extra) s.checks
-      ∙ (λ i. nat_lt (checks_of (bytes_in (sym (to_same is_say x is.no_say (since_dial es)) i))) (sym (ap checks_of (bytes_more (since_dial es) x) ∙ checks_all) i))
-
-  checks_now : answered (since_dial es ++ (x ∷ [])) ≤ checks_of (bytes_in (since_dial es ++ (x ∷ [])))
-  checks_now =
-      subst (λ (v : List Event). checks_of (bytes_in v) ≤ checks_of (bytes_in (since_dial es ++ (x ∷ [])))) (sym (to_same is_say x is.no_say (since_dial es)))
-      (subst (λ (n : ℕ). answered (since_dial es) ≤ n) (sym (ap checks_of (bytes_more (since_dial es) x) ∙ checks_all)) (more (answered (since_dial es)) (checks_of (bytes_in (since_dial es))) (checks_in reads.extra) s.checks))
+  owed =
+      (λ i. s.link.owes i || (more_checks (checks_of (bytes_in (since_dial es))) (checks_in reads.extra) ∙ ap (nat_lt (checks_of (bytes_in (since_dial es)))) (sym checks_all)) i)
+      ∙ ap (λ (b : Bool). b || brings (since_dial es) x) (sym (ap (λ (b : Bool). is_owed (since_dial es) && not b) is.no_say ∙ as_before (is_owed (since_dial es))))
+      ∙ sym (owed_more [] (since_dial es) x)
     where
-      more : (a b n : ℕ) → a ≤ b → a ≤ b + n
-      more a b n le = omega (arith, le)
+      as_before : (b : Bool) → (b && true) ≡ b
+      as_before true = refl
+      as_before false = refl
 
   -- with these messages in the inbox
   pub piece_stands : (inbox : List (ℕ × Spoken)) → WordsMove rules P es x (record behind { inbox = inbox }) → Stands rules P (es ++ (x ∷ [])) (record behind { inbox = inbox })
@@ -150,8 +144,8 @@ module _ (rules : LinkRules) (P : List UnitPlan) (es : List Event) (x : Event) (
         ∙ ends_one l.losses (is_broken (stream_of all)) (answer_in (stream_of all).frames)
         ∙ ap (λ (b : Bool). l.losses + one (not b)) (sym (open_stands l.phase opened));
     owes = reads.reads.owes ∙ owed;
+    unasked = λ none_asked. absurd (both_ways _ none_asked (has_same is_ask x is.no_ask (since_dial es) ∙ was.asked));
     words = words;
   }) (λ e. absurd (both_ways _ (answer_not_fresh (is_broken (stream_of all)) (answer_in (stream_of all).frames)) (ap is_fresh (sym reads.reads.phase ∙ e))))
       (λ e. reads.reads.ticks ∙ s.waits (reads.later (ap is_waiting (sym reads.reads.phase ∙ e)))
           ∙ (λ i. sym reads.reads.asked i + (none_more (count is_quiet_wait (since_dial es)) ∙ ap (λ (b : Bool). count is_quiet_wait (since_dial es) + one b) (sym is.no_wait)) i))
-      checks_now

@@ -18,7 +18,7 @@ use Rattle.link_law.specs.Follows.{last_dial, since_dial, is_ended, phase_in}
 use Rattle.link_law.proofs.Lists.{has_same, count_more}
 use Rattle.link_law.proofs.Moving.{Stands, stands}
 use Rattle.link_law.proofs.Standing.{IsOpened, opened_of}
-use Rattle.link_law.proofs.Silent.{IsSilent, untaken_words, asked_same, owed_same, checks_same, all_bytes, since_bytes, ended_more, none_more}
+use Rattle.link_law.proofs.Silent.{IsSilent, untaken_words, asked_same, unasked_same, owed_same, all_bytes, since_bytes, ended_more, none_more}
 
 shift : (a q : ℕ) → nat_le (a + 1000) ((a + q) + 1) ≡ nat_le 1000 (q + 1)
 shift a q = elim (cases_Bool (nat_le 1000 (q + 1))) [
@@ -59,8 +59,9 @@ module _ (rules : LinkRules) (P : List UnitPlan) (es : List Event) (l : Link) (w
     losses = ap (λ (b : Bool). l.losses + one b) (sym late);
     dials = lost_one l.losses ∙ ap (λ (p : Phase). l.losses + one (not (is_down p))) (sym waits);
     owes = s.link.owes ∙ sym (owed_same (since_dial es) (Tended (Polled Quiet)) silent refl);
+    unasked = unasked_same rules P es (Tended (Polled Quiet)) silent refl s.link;
     words = untaken_words rules P es (Tended (Polled Quiet)) silent l (drop_link (quiet_link l)) (λ a. refl) s.link refl;
-  }) (λ e. absurd (false≢true (ap is_fresh e))) (λ e. absurd (false≢true (ap is_waiting e))) (checks_same (since_dial es) (Tended (Polled Quiet)) silent refl s.checks)
+  }) (λ e. absurd (false≢true (ap is_fresh e))) (λ e. absurd (false≢true (ap is_waiting e)))
     where
       lost_one : (n : ℕ) → (n + 1) + 0 ≡ n + 1
       lost_one n = omega arith
@@ -73,10 +74,11 @@ module _ (rules : LinkRules) (P : List UnitPlan) (es : List Event) (l : Link) (w
     losses = none_more l.losses ∙ ap (λ (b : Bool). l.losses + one b) (sym late);
     dials = refl;
     owes = s.link.owes ∙ sym (owed_same (since_dial es) (Tended (Polled Quiet)) silent refl);
+    unasked = unasked_same rules P es (Tended (Polled Quiet)) silent refl s.link;
     words = untaken_words rules P es (Tended (Polled Quiet)) silent l (quiet_link l) (λ a. refl) s.link refl;
   }) (λ e. absurd (false≢true (ap is_fresh (sym waits ∙ e))))
       (λ e. ap (λ (n : ℕ). n + 1) (s.waits waits) ∙ one_more l.asked (count is_quiet_wait (since_dial es)))
-      (checks_same (since_dial es) (Tended (Polled Quiet)) silent refl s.checks)
+     
     where
       one_more : (a q : ℕ) → (a + q) + 1 ≡ a + (q + 1)
       one_more a q = omega arith

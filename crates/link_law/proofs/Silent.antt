@@ -15,9 +15,9 @@ use Rattle.link_law.specs.Happened.{one, has, count, behind_last, to_last, count
 use Rattle.link_law.specs.Kinds.{event_bytes, bytes_in, is_dial, is_ask, is_say, is_quiet, is_quiet_wait, is_failed_call, dial_of}
 use Rattle.link_law.specs.Looked.{answer_in, is_broken, checks_of, words_of}
 use Rattle.link_law.specs.Follows.{last_dial, since_dial, is_ended, is_loss, phase_in, is_owed, takes, taken, IsLinkOf}
-use Rattle.link_law.proofs.Lists.{has_more, has_same, count_more, count_same, behind_same, to_it, to_same, bytes_more, count_after_more, dial_same, or_true, or_false}
+use Rattle.link_law.proofs.Lists.{has_more, has_same, count_more, count_same, behind_same, to_it, to_same, bytes_more, count_after_more, dial_same, or_true, or_false, owed_more, brings}
 use Rattle.link_law.proofs.Words.{IsKept, untaken}
-use Rattle.link_law.proofs.Moving.{Stands, WordsMove, Moves, answered, stands}
+use Rattle.link_law.proofs.Moving.{Stands, WordsMove, Moves, stands}
 
 pub none_more : (n : ℕ) → n ≡ n + 0
 none_more n = omega arith
@@ -44,26 +44,26 @@ module _ (w : List Event) (x : Event) (silent : IsSilent x) where
   pub since_bytes : bytes_in (w ++ (x ∷ [])) ≡ bytes_in w
   since_bytes = bytes_more w x ∙ all_bytes
 
+  -- no check comes without bytes
+  none_brought : brings w x ≡ false
+  none_brought = ap (λ (bs : List ℕ). nat_lt (checks_of (bytes_in w)) (checks_of bs)) all_bytes ∙ le-ltb (checks_of (bytes_in w)) (checks_of (bytes_in w)) (itself (checks_of (bytes_in w)))
+    where
+      itself : (n : ℕ) → n ≤ n
+      itself n = omega arith
+
   pub owed_same : is_say x ≡ false → is_owed (w ++ (x ∷ [])) ≡ is_owed w
-  owed_same no_say = λ i. nat_lt (checks_of (bytes_in (to_same is_say x no_say w i))) (checks_of (since_bytes i))
+  owed_same no_say = owed_more [] w x ∙ (λ i. (is_owed w && not (no_say i)) || none_brought i) ∙ as_before (is_owed w)
+    where
+      as_before : (b : Bool) → ((b && true) || false) ≡ b
+      as_before true = refl
+      as_before false = refl
 
   pub owed_none : is_say x ≡ true → is_owed (w ++ (x ∷ [])) ≡ false
-  owed_none say = ap (λ (xs : List Event). nat_lt (checks_of (bytes_in xs)) (checks_of (bytes_in (w ++ (x ∷ []))))) (to_it is_say x say w)
-      ∙ le-ltb (checks_of (bytes_in (w ++ (x ∷ [])))) (checks_of (bytes_in (w ++ (x ∷ [])))) (itself (checks_of (bytes_in (w ++ (x ∷ [])))))
+  owed_none say = owed_more [] w x ∙ (λ i. (is_owed w && not (say i)) || none_brought i) ∙ none_left (is_owed w)
     where
-      itself : (n : ℕ) → n ≤ n
-      itself n = omega arith
-
-  pub checks_same : is_say x ≡ false → answered w ≤ checks_of (bytes_in w) → answered (w ++ (x ∷ [])) ≤ checks_of (bytes_in (w ++ (x ∷ [])))
-  checks_same no_say le =
-      subst (λ (xs : List Event). checks_of (bytes_in xs) ≤ checks_of (bytes_in (w ++ (x ∷ [])))) (sym (to_same is_say x no_say w))
-      (subst (λ (bs : List ℕ). checks_of (bytes_in (to_last is_say w)) ≤ checks_of bs) (sym since_bytes) le)
-
-  pub checks_said : is_say x ≡ true → answered (w ++ (x ∷ [])) ≤ checks_of (bytes_in (w ++ (x ∷ [])))
-  checks_said say = subst (λ (xs : List Event). checks_of (bytes_in xs) ≤ checks_of (bytes_in (w ++ (x ∷ [])))) (sym (to_it is_say x say w)) (itself (checks_of (bytes_in (w ++ (x ∷ [])))))
-    where
-      itself : (n : ℕ) → n ≤ n
-      itself n = omega arith
+      none_left : (b : Bool) → ((b && false) || false) ≡ false
+      none_left true = refl
+      none_left false = refl
 
   -- no call that failed
   pub ended_more : is_failed_call x ≡ false → is_ended (w ++ (x ∷ [])) ≡ (has is_failed_call w || is_broken (stream_of (bytes_in w)) || nat_le 1000 (count is_quiet_wait (w ++ (x ∷ []))))
@@ -88,6 +88,9 @@ module _ (rules : LinkRules) (P : List UnitPlan) (es : List Event) (x : Event) (
   pub asked_same : (l : Link) → is_ask x ≡ false → IsLinkOf rules P es l → l.asked ≡ count is_quiet (to_last is_ask (es ++ (x ∷ [])))
   asked_same l no_ask is = is.asked ∙ ap (count is_quiet) (sym (to_same is_ask x no_ask es))
 
+  pub unasked_same : {l : Link} → is_ask x ≡ false → IsLinkOf rules P es l → has is_ask (since_dial es ++ (x ∷ [])) ≡ false → bytes_in (since_dial es) ++ event_bytes x ≡ []
+  unasked_same {l} no_ask is none_asked = all_bytes (since_dial es) x silent ∙ is.unasked (sym (has_same is_ask x no_ask (since_dial es)) ∙ none_asked)
+
   pub asked_now : (l : Link) → is_ask x ≡ true → is_quiet x ≡ false → IsLinkOf rules P es l → l.ticks ≡ count is_quiet (to_last is_ask (es ++ (x ∷ [])))
   asked_now l ask no_quiet is = is.ticks ∙ sym (count_same is_quiet x no_quiet es) ∙ ap (count is_quiet) (sym (to_it is_ask x ask es))
 
@@ -105,7 +108,6 @@ module _ (rules : LinkRules) (P : List UnitPlan) (es : List Event) (x : Event) (
     pub ticks : l2.ticks ≡ l.ticks + one (is_quiet x)
     pub calm : l.phase ≡ Waits → is_quiet x ≡ false
     pub owes : l2.owes ≡ is_owed (since_dial es ++ (x ∷ []))
-    pub checks : answered (since_dial es ++ (x ∷ [])) ≤ checks_of (bytes_in (since_dial es ++ (x ∷ [])))
     pub words : WordsMove rules P es x l2
 
   pub keeps : (l l2 : Link) → Stands rules P es l → Keeps l l2 → Stands rules P (es ++ (x ∷ [])) l2
@@ -118,10 +120,10 @@ module _ (rules : LinkRules) (P : List UnitPlan) (es : List Event) (x : Event) (
     losses = k.losses ∙ none_more l.losses ∙ ap (λ (b : Bool). l.losses + one b) (sym k.no_loss);
     dials = λ i. k.losses i + one (not (is_down (k.phase i)));
     owes = k.owes;
+    unasked = unasked_same k.no_ask s.link;
     words = k.words;
-  }) (λ e. (all_bytes (since_dial es) x silent ∙ (s.fresh (sym k.phase ∙ e)).0, sym (waits_same (count is_quiet_wait (since_dial es))) ∙ (s.fresh (sym k.phase ∙ e)).1))
+  }) (λ e. sym (waits_same (count is_quiet_wait (since_dial es))) ∙ s.fresh (sym k.phase ∙ e))
       (λ e. k.ticks ∙ ap (λ (b : Bool). l.ticks + one b) (k.calm (sym k.phase ∙ e)) ∙ sym (none_more l.ticks) ∙ s.waits (sym k.phase ∙ e) ∙ (λ i. sym k.asked i + waits_same (count is_quiet_wait (since_dial es)) i))
-      k.checks
     where
       waits_same : (n : ℕ) → n ≡ n + one (is_quiet_wait x)
       waits_same n = none_more n ∙ ap (λ (b : Bool). n + one b) (sym k.no_wait)
@@ -139,7 +141,7 @@ module _ (rules : LinkRules) (P : List UnitPlan) (es : List Event) (x : Event) (
     pub ticks : l2.ticks ≡ l.ticks
     pub asked : l2.asked ≡ count is_quiet (to_last is_ask (es ++ (x ∷ [])))
     pub owes : l2.owes ≡ is_owed (since_dial es ++ (x ∷ []))
-    pub checks : answered (since_dial es ++ (x ∷ [])) ≤ checks_of (bytes_in (since_dial es ++ (x ∷ [])))
+    pub unasked : has is_ask (since_dial es ++ (x ∷ [])) ≡ false → bytes_in (since_dial es) ++ event_bytes x ≡ []
     pub words : WordsMove rules P es x l2
 
   pub fails : (l l2 : Link) → Stands rules P es l → Fails l l2 → Stands rules P (es ++ (x ∷ [])) l2
@@ -152,8 +154,9 @@ module _ (rules : LinkRules) (P : List UnitPlan) (es : List Event) (x : Event) (
     losses = k.losses ∙ ap (λ (b : Bool). l.losses + one b) (sym k.loss);
     dials = (λ i. k.losses i + one (not (is_down (k.phase i)))) ∙ moved_one l.losses ∙ ap (λ (b : Bool). l.losses + one (not b)) (sym k.stood);
     owes = k.owes;
+    unasked = k.unasked;
     words = k.words;
-  }) (λ e. absurd (false≢true (ap is_fresh (sym k.phase ∙ e)))) (λ e. absurd (false≢true (ap is_waiting (sym k.phase ∙ e)))) k.checks
+  }) (λ e. absurd (false≢true (ap is_fresh (sym k.phase ∙ e)))) (λ e. absurd (false≢true (ap is_waiting (sym k.phase ∙ e))))
     where
       moved_one : (n : ℕ) → (n + 1) + 0 ≡ n + 1
       moved_one n = omega arith

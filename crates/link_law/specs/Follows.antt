@@ -10,7 +10,7 @@ use Rattle.flash_plan.specs.declared.unit.LinkRules.{LinkRules}
 use Rattle.flash_plan.specs.declared.unit.UnitPlan.{UnitPlan}
 use Rattle.run_model.specs.Link.{Link, Phase, Down, Fresh, is_down, is_known}
 use Rattle.run_model.specs.Ways.{words_from}
-use Rattle.link_law.specs.Happened.{one, has, count, behind_last, to_last, count_after}
+use Rattle.link_law.specs.Happened.{one, has, count, behind_last, to_last, count_after, some_amid}
 use Rattle.link_law.specs.Kinds.{event_bytes, bytes_in, is_dial, is_ask, is_say, is_quiet, is_quiet_wait, is_failed_call, dial_of}
 use Rattle.link_law.specs.Looked.{answer_in, is_broken, checks_of, words_of}
 use Rattle.bay_core.specs.declared.event.Heard.{Heard}
@@ -71,9 +71,12 @@ abbrev pub phase_of : List Event → Phase
 phase_of events = phase_in (last_dial events) (since_dial events)
 
 -- ------ an alive check to be answered
--- more alive checks came than had come when one was last answered
+-- an alive check ends in the piece of this event, and none behind it answers one
+abbrev pub leaves_check : List Event → Event → List Event → Bool
+leaves_check before e behind = nat_lt (checks_of (bytes_in before)) (checks_of (bytes_in before ++ event_bytes e)) && not (has is_say behind)
+
 abbrev pub is_owed : List Event → Bool
-is_owed since = nat_lt (checks_of (bytes_in (to_last is_say since))) (checks_of (bytes_in since))
+is_owed since = some_amid leaves_check [] since
 
 -- ------ messages taken
 -- a step that collects got a message: a kept one, or one that came with its piece
@@ -92,10 +95,10 @@ abbrev pub taken : ℕ → List UnitPlan → ℕ → List Event → ℕ
 taken tester P a since = count_after (takes tester P a) [] since
 
 -- ------ the link
--- The link by the events: the bytes since the last dial, and those of them behind the last whole frame; the phase by the last
--- dial, what ended the connection and the first answer to the activation; ticks, the tick of the last activation request and
+-- The link by the events: the bytes since the last dial, none before the activation was asked for, and those of them behind
+-- the last whole frame; the phase by the last dial, what ended the connection and the first answer to the activation; ticks, the tick of the last activation request and
 -- losses by counting events; each dial but the last was lost, and the last where there is no connection; an alive answer is
--- owed where more checks came than had come when one was answered; and each unit's messages are those of its address that
+-- owed where a check ends in a piece that no answer follows; and each unit's messages are those of its address that
 -- are looked at since the last dial, without the first ones, as many as were taken since.
 pub record IsLinkOf (rules : LinkRules) (P : List UnitPlan) (events : List Event) (l : Link) : Type 0 where
   pub bytes : l.got ≡ bytes_since_dial events
@@ -106,6 +109,7 @@ pub record IsLinkOf (rules : LinkRules) (P : List UnitPlan) (events : List Event
   pub losses : l.losses ≡ count_after is_loss [] events
   pub dials : l.losses + one (not (is_down l.phase)) ≡ count is_dial events
   pub owes : l.owes ≡ is_owed (since_dial events)
+  pub unasked : has is_ask (since_dial events) ≡ false → bytes_since_dial events ≡ []
   pub came : (a : ℕ) → is_known (addresses_of P) a ≡ true → taken rules.tester P a (since_dial events) ≤ length (words_of rules.tester a (bytes_since_dial events))
   pub inbox : (a : ℕ) → is_known (addresses_of P) a ≡ true → words_from a l.inbox ≡ drop (taken rules.tester P a (since_dial events)) (words_of rules.tester a (bytes_since_dial events))
   pub others : (a : ℕ) → is_known (addresses_of P) a ≡ false → words_from a l.inbox ≡ []

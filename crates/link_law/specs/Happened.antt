@@ -31,3 +31,8 @@ to_last kind (e ∷ es) = if has kind (e ∷ es) then e ∷ to_last kind es else
 abbrev pub count_after : (List Event → Event → Bool) → List Event → List Event → ℕ
 count_after test before [] = 0
 count_after test before (e ∷ es) = one (test before e) + count_after test (before ++ (e ∷ [])) es
+
+-- one of these events passes a test, which is told the events before it and those behind it
+abbrev pub some_amid : (List Event → Event → List Event → Bool) → List Event → List Event → Bool
+some_amid test before [] = false
+some_amid test before (e ∷ es) = test before e es || some_amid test (before ++ (e ∷ [])) es

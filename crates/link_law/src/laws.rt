@@ -5,8 +5,7 @@ ghost use Rattle.link_law.specs.Follows.{LinkFollows};
 /// For every legal list of events from the start of a run: the link has the bytes since the last
 /// dial, and their frames say the rest. The phase is that of the last dial and of the first answer
 /// to the activation, unless a loss ended the connection; ticks and losses count events; an alive
-/// answer is owed where more alive checks came than had come when one was last answered; and the
-/// inbox of each unit is the messages of its address among the frames looked at since the last
+/// answer is owed where an alive check ended in a piece that no answer follows; and the inbox of each unit is the messages of its address among the frames looked at since the last
 /// dial, less as many of the first ones as its collecting events took.
 pub fn the_link_follows_from_its_events()
     ensures { LinkFollows }
