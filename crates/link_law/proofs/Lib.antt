@@ -11,3 +11,4 @@ pub mod Quieting
 pub mod Piecing
 pub mod Collecting
 pub mod Following
+pub mod Worked

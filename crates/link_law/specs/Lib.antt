@@ -2,3 +2,4 @@ pub mod Follows
 pub mod Happened
 pub mod Kinds
 pub mod Looked
+pub mod Rows

@@ -1,6 +1,7 @@
 //! Theorems about a link and its events: functions with nothing to run.
 
 ghost use Rattle.link_law.specs.Follows.{LinkFollows};
+ghost use Rattle.link_law.specs.Rows.{AreWorked};
 
 /// For every legal list of events from the start of a run: the link has the bytes since the last
 /// dial, and their frames say the rest. The phase is that of the last dial and of the first answer
@@ -9,4 +10,10 @@ ghost use Rattle.link_law.specs.Follows.{LinkFollows};
 /// dial, less as many of the first ones as its collecting events took.
 pub fn the_link_follows_from_its_events()
     ensures { LinkFollows }
+{}
+
+/// The definitions on connections that were worked out by hand: an activation answer byte by byte,
+/// a denied one, each kind of bytes that are no frame, alive checks and messages.
+pub fn worked_connections()
+    ensures { AreWorked }
 {}

@@ -6,8 +6,9 @@
 //! - `Kinds`: what an event is for the link.
 //! - `Looked`: what the frames of one connection say, and which of them are looked at.
 //! - `Follows`: what a whole list of events says of the link.
+//! - `Rows`: connections worked out by hand.
 #![tactic(auto)]
 
 mod laws;
 
-pub use laws::the_link_follows_from_its_events;
+pub use laws::{the_link_follows_from_its_events, worked_connections};
