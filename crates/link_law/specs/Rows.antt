@@ -1,6 +1,6 @@
 -- Connections worked out by hand, byte by byte (ISO 13400-2:2019, section 9): tester 0E80, gateway 4000, a unit with the
 -- address 1001.
-use Rattle.std.specs.Prelude.{◌≡◌, ℕ, Bool, true, false, List, [], ◌∷◌, ◌++◌, take}
+use Rattle.std.specs.Prelude.{◌≡◌, ℕ, zero, suc, Bool, true, false, nat_le, List, [], ◌∷◌, ◌++◌, take, if◌then◌else◌}
 use Rattle.flash_plan.specs.declared.unit.UnitPlan.{UnitPlan}
 use Rattle.run_model.specs.Link.{Phase, Down, Fresh, Waits, Up, Denied}
 use Rattle.run_model.specs.Ways.{Reply, Unheard}
@@ -49,6 +49,11 @@ asks = Tended (Dialed false) ∷ Tended (Asked false) ∷ []
 abbrev pub hears : List ℕ → List Event
 hears bytes = asks ++ (Tended (Polled (Piece bytes)) ∷ [])
 
+-- so many quiet polls
+abbrev pub quiets : ℕ → List Event
+quiets zero = []
+quiets (suc n) = Tended (Polled Quiet) ∷ quiets n
+
 -- it accepted, and these came to collecting steps of the first unit
 abbrev pub collects : List Event → List Event
 collects es = hears accepts ++ es
@@ -66,6 +71,8 @@ pub record AreWorked : Type 0 where
   pub denied : phase_of (hears denies) ≡ Denied 1
   -- the first answer counts
   pub first : phase_of (hears (accepts ++ denies)) ≡ Up
+  -- the 1,000th quiet poll is the last
+  pub patience : (n : ℕ) → phase_of (asks ++ quiets n) ≡ (if nat_le 1000 n then Down else Waits)
   -- nothing behind a denial is looked at, no bytes that are no frame either
   pub behind : phase_of (hears (denies ++ (3 ∷ 253 ∷ []))) ≡ Denied 1
   pub unread : words_of 3712 4097 (denies ++ answers) ≡ []
