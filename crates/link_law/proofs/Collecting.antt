@@ -1,12 +1,12 @@
 -- Messages taken by a step that collects.
-use Rattle.std.proofs.Common.{◌≡◌, inl, inr, ℕ, zero, suc, ◌+◌, ◌≤◌, true, false, List, [], ◌∷◌, ◌++◌, length, drop, Some, None, refl, sym, ◌∙◌, ap, subst, arith}
-use Rattle.std.specs.Prelude.{Bool, Option, ◌==◌, ◌&&◌, ◌||◌, not, nat_lt, is_some, if◌then◌else◌}
-use Rattle.std.proofs.lemmas.Bool.{cases_Bool, false≢true, both_ways, eqb-true, eq-eqb}
+use Rattle.std.proofs.Common.{◌≡◌, ℕ, true, false, List, [], ◌∷◌, ◌++◌, length, drop, refl, sym, ◌∙◌, subst}
+use Rattle.std.specs.Prelude.{Bool, ◌==◌, ◌&&◌, nat_lt, is_some}
+use Rattle.std.proofs.lemmas.Bool.{false≢true, eqb-true, eq-eqb}
 use Rattle.doip_frame.specs.Frame.{stream_of}
 use Rattle.flash_plan.specs.Plan.{plan_of}
 use Rattle.flash_plan.specs.declared.unit.LinkRules.{LinkRules}
 use Rattle.flash_plan.specs.declared.unit.UnitPlan.{UnitPlan}
-use Rattle.run_model.specs.Link.{Link, Phase, is_open, is_known, hear_piece, take_word, first_word, without_first}
+use Rattle.run_model.specs.Link.{Link, is_open, is_known, hear_piece, take_word, first_word, without_first}
 use Rattle.run_model.specs.Ways.{Spoken, words_from, words_in}
 use Rattle.bay_core.proofs.Takes.{others_keep}
 use Rattle.bay_core.specs.Core.{addresses_of}
@@ -16,7 +16,7 @@ use Rattle.bay_core.specs.declared.event.Tend.TheVariants.{Polled}
 use Rattle.bay_core.specs.declared.event.Heard.TheVariants.{Kept, Piece}
 use Rattle.link_law.specs.Kinds.{event_bytes, bytes_in}
 use Rattle.link_law.specs.Looked.{is_broken, words_of}
-use Rattle.link_law.specs.Follows.{since_dial, is_loss, takes, taken, IsLinkOf}
+use Rattle.link_law.specs.Follows.{since_dial, is_loss, taken, IsLinkOf}
 use Rattle.link_law.proofs.Moving.{Stands, WordsMove}
 use Rattle.link_law.proofs.Piecing.{IsPiece, reads, words_all, piece_stands}
 use Rattle.link_law.proofs.Pieces.{PieceReads}

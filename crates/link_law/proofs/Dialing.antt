@@ -1,31 +1,26 @@
 -- A dial, and the request for the activation.
-use Rattle.std.proofs.Common.{◌≡◌, inl, inr, ℕ, zero, suc, ◌+◌, ◌≤◌, true, false, List, [], ◌∷◌, ◌++◌, length, drop, Some, None, refl, sym, ◌∙◌, ap, subst, arith}
-use Rattle.std.specs.Prelude.{Bool, Option, ◌==◌, ◌&&◌, ◌||◌, not, nat_le, nat_lt, if◌then◌else◌}
-use Rattle.std.proofs.lemmas.Bool.{le-ltb, false≢true, both_ways}
-use Rattle.std.proofs.lemmas.List.{append-nil}
+use Rattle.std.proofs.Common.{◌≡◌, ℕ, ◌+◌, ◌≤◌, true, false, List, [], ◌∷◌, ◌++◌, length, drop, Some, refl, sym, ◌∙◌, ap, subst, arith}
+use Rattle.std.specs.Prelude.{Bool, Option, ◌||◌, not, nat_le, if◌then◌else◌}
+use Rattle.std.proofs.lemmas.Bool.{false≢true, both_ways}
 use Rattle.doip_frame.specs.Frame.{stream_of}
 use Rattle.flash_plan.specs.declared.unit.LinkRules.{LinkRules}
 use Rattle.flash_plan.specs.declared.unit.UnitPlan.{UnitPlan}
-use Rattle.run_model.specs.Link.{Link, Phase, Down, Fresh, Waits, Up, Denied, is_down, is_fresh, is_waiting, is_known, dialed_link, asked_link, fresh_link, drop_link}
-use Rattle.run_model.specs.Ways.{Spoken, words_from}
-use Rattle.bay_core.specs.Core.{addresses_of}
+use Rattle.run_model.specs.Link.{Link, Phase, Down, Fresh, Waits, is_down, is_fresh, is_waiting, dialed_link, asked_link, fresh_link, drop_link}
+use Rattle.run_model.specs.Ways.{words_from}
 use Rattle.bay_core.specs.LinkLaws.{phase_for}
 use Rattle.bay_core.specs.declared.event.Event.{Event}
 use Rattle.bay_core.specs.declared.event.Event.TheVariants.{Tended}
 use Rattle.bay_core.specs.declared.event.Tend.TheVariants.{Dialed, Asked}
-use Rattle.link_law.specs.Happened.{one, has, count, behind_last, to_last, count_after}
-use Rattle.link_law.specs.Kinds.{event_bytes, bytes_in, is_dial, is_ask, is_say, is_quiet, is_quiet_wait, is_failed_call, dial_of}
-use Rattle.link_law.specs.Looked.{answer_in, is_broken, checks_of, words_of}
-use Rattle.link_law.specs.Follows.{last_dial, since_dial, is_ended, is_loss, phase_in, is_owed, takes, taken, IsLinkOf}
-use Rattle.link_law.proofs.Lists.{has_more, has_same, count_more, count_same, behind_it, to_same, count_after_more, dial_is, or_true}
+use Rattle.link_law.specs.Happened.{one, has, count}
+use Rattle.link_law.specs.Kinds.{bytes_in, is_dial, is_ask, is_quiet, is_quiet_wait}
+use Rattle.link_law.specs.Looked.{answer_in, words_of}
+use Rattle.link_law.specs.Follows.{last_dial, since_dial, is_ended, is_loss, phase_in, is_owed, taken}
+use Rattle.link_law.proofs.Lists.{has_more, count_more, count_same, behind_it, to_same, count_after_more, dial_is, or_true}
 use Rattle.link_law.proofs.Moving.{Stands, stands}
 use Rattle.link_law.proofs.Standing.{IsFresh, fresh_of}
-use Rattle.link_law.proofs.Silent.{IsSilent, Fails, fails, untaken_words, asked_now, owed_same, all_bytes, since_bytes, ended_more, none_more}
+use Rattle.link_law.proofs.Silent.{IsSilent, fails, untaken_words, asked_now, owed_same, all_bytes, since_bytes, ended_more, none_more}
 
 module _ (rules : LinkRules) (P : List UnitPlan) (es : List Event) (lost : Bool) where
-  abbrev dial : Event
-  dial = Tended (Dialed lost)
-
   -- the link behind a dial
   record IsDialed (l l2 : Link) : Type 0 where
     phase : l2.phase ≡ phase_in (Some lost) []
@@ -75,16 +70,7 @@ dialed rules P es false l down s = dialed_stands rules P es false l (fresh_link 
 ask_silent : (lost : Bool) → IsSilent (Tended (Asked lost))
 ask_silent lost = record { no_dial = refl; none = refl; bytes = refl }
 
-fresh_stood : (l : Link) → l.phase ≡ Fresh → is_down l.phase ≡ false
-fresh_stood l e = ap is_down e
-
 module _ (rules : LinkRules) (P : List UnitPlan) (es : List Event) (l : Link) (fresh : l.phase ≡ Fresh) (s : Stands rules P es l) where
-  abbrev w : List Event
-  w = since_dial es
-
-  abbrev ask : Event
-  ask = Tended (Asked false)
-
   was : IsFresh (last_dial es) (since_dial es)
   was = fresh_of (last_dial es) (since_dial es) l.phase (sym s.link.phase) (ap is_fresh fresh)
 

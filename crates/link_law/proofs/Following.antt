@@ -1,15 +1,15 @@
 -- Each event, and the whole list.
-use Rattle.std.proofs.Common.{◌≡◌, inl, inr, ℕ, zero, suc, ◌+◌, ◌≤◌, true, false, List, [], ◌∷◌, ◌++◌, Some, None, refl, sym, ◌∙◌, ap, subst, append_assoc, arith}
-use Rattle.std.specs.Prelude.{Bool, Option, ◌==◌, ◌&&◌, ◌||◌, not, is_some, if◌then◌else◌}
-use Rattle.std.proofs.lemmas.Bool.{cases_Bool, false≢true, both_ways, and_parts}
+use Rattle.std.proofs.Common.{◌≡◌, ℕ, ◌+◌, true, false, List, [], ◌∷◌, ◌++◌, refl, sym, ◌∙◌, ap, subst, append_assoc, arith}
+use Rattle.std.specs.Prelude.{Bool, ◌==◌, ◌&&◌, not, is_some, if◌then◌else◌}
+use Rattle.std.proofs.lemmas.Bool.{false≢true, and_parts}
 use Rattle.std.proofs.lemmas.List.{append-nil}
 use Rattle.flash_plan.specs.Plan.{plan_of}
 use Rattle.flash_plan.specs.declared.unit.LinkRules.{LinkRules}
 use Rattle.flash_plan.specs.declared.unit.UnitPlan.{UnitPlan}
 use Rattle.run_model.specs.Link.{Link, Phase, Down, Fresh, Waits, Up, Denied, link_start, is_down, is_fresh, is_waiting, is_up, is_open, drop_link, quiet_link, polled_quiet, unanswered, said_link, take_word, first_word}
-use Rattle.bay_core.proofs.Allowed.{CollectedFacts, collected_facts, SentFacts, sent_facts}
+use Rattle.bay_core.proofs.Allowed.{CollectedFacts, collected_facts, sent_facts}
 use Rattle.bay_core.specs.Core.{Core, core_of, core_start, core_after, link_after, tended_link}
-use Rattle.bay_core.specs.Legal.{is_allowed, is_legal, may_tend, has_word}
+use Rattle.bay_core.specs.Legal.{is_allowed, is_legal, may_tend}
 use Rattle.bay_core.specs.declared.event.Heard.{Heard}
 use Rattle.bay_core.specs.declared.event.Heard.TheVariants.{Kept, Quiet, Piece, Lost}
 use Rattle.bay_core.specs.declared.event.Tend.{Tend}
@@ -17,14 +17,14 @@ use Rattle.bay_core.specs.declared.event.Tend.TheVariants.{Dialed, Asked, Said, 
 use Rattle.bay_core.specs.declared.event.Event.{Event}
 use Rattle.bay_core.specs.declared.event.Event.TheVariants.{Claimed, Began, Sent, Collected, Tended, Completed, DiskFailed, Ended}
 use Rattle.link_law.specs.Happened.{one}
-use Rattle.link_law.specs.Kinds.{is_dial, is_ask, is_say, is_quiet, is_quiet_wait, is_failed_call}
+use Rattle.link_law.specs.Kinds.{is_ask, is_say, is_quiet, is_quiet_wait, is_failed_call}
 use Rattle.link_law.specs.Follows.{since_dial, is_loss, takes, LinkFollows}
 use Rattle.link_law.proofs.Collecting as pieces
 use Rattle.link_law.proofs.Collecting.{kept_words}
 use Rattle.link_law.proofs.Dialing.{dialed, asked}
 use Rattle.link_law.proofs.Moving.{Stands}
 use Rattle.link_law.proofs.Quieting as quiet
-use Rattle.link_law.proofs.Silent.{IsSilent, Keeps, keeps, Fails, fails, untaken_words, asked_same, unasked_same, owed_same, owed_none, none_more}
+use Rattle.link_law.proofs.Silent.{IsSilent, keeps, fails, untaken_words, asked_same, unasked_same, owed_same, owed_none, none_more}
 
 -- ------ phases
 down_is : (p : Phase) → is_down p ≡ true → p ≡ Down

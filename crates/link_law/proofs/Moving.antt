@@ -1,22 +1,19 @@
 -- One event more: what has to be shown of the link behind it.
-use Rattle.std.proofs.Common.{◌≡◌, inl, inr, ℕ, zero, suc, ◌+◌, ◌≤◌, true, false, List, [], ◌∷◌, ◌++◌, length, drop, Some, None, refl, sym, ◌∙◌, ap, subst, arith}
-use Rattle.std.specs.Prelude.{Bool, Option, ◌==◌, ◌&&◌, ◌||◌, not, nat_le, nat_lt, if◌then◌else◌}
-use Rattle.std.proofs.lemmas.Bool.{le-ltb}
-use Rattle.std.proofs.lemmas.List.{append-nil}
+use Rattle.std.proofs.Common.{◌≡◌, ℕ, ◌+◌, ◌≤◌, true, false, List, [], ◌∷◌, ◌++◌, length, drop, None, sym, ◌∙◌, ap, subst}
+use Rattle.std.specs.Prelude.{not}
 use Rattle.doip_frame.specs.Frame.{stream_of}
 use Rattle.flash_plan.specs.declared.unit.LinkRules.{LinkRules}
 use Rattle.flash_plan.specs.declared.unit.UnitPlan.{UnitPlan}
-use Rattle.run_model.specs.Link.{Link, Phase, Down, Fresh, Waits, Up, Denied, is_down, is_known}
-use Rattle.run_model.specs.Ways.{Spoken, words_from}
+use Rattle.run_model.specs.Link.{Link, Fresh, Waits, is_down, is_known}
+use Rattle.run_model.specs.Ways.{words_from}
 use Rattle.bay_core.specs.Core.{addresses_of}
-use Rattle.bay_core.specs.LinkLaws.{phase_for}
 use Rattle.bay_core.specs.declared.event.Event.{Event}
-use Rattle.link_law.specs.Happened.{one, has, count, behind_last, to_last, count_after}
-use Rattle.link_law.specs.Kinds.{event_bytes, bytes_in, is_dial, is_ask, is_say, is_quiet, is_quiet_wait, is_failed_call, dial_of}
-use Rattle.link_law.specs.Looked.{answer_in, is_broken, checks_of, words_of}
-use Rattle.link_law.specs.Follows.{last_dial, since_dial, is_ended, is_loss, phase_in, is_owed, takes, taken, IsLinkOf}
-use Rattle.link_law.proofs.Lists.{has_more, has_same, count_more, count_same, behind_same, to_it, to_same, bytes_more, count_after_more, dial_same, or_true, or_false}
-use Rattle.link_law.proofs.Words.{IsKept, untaken}
+use Rattle.link_law.specs.Happened.{one, has, count, to_last}
+use Rattle.link_law.specs.Kinds.{event_bytes, bytes_in, is_dial, is_ask, is_quiet, is_quiet_wait, dial_of}
+use Rattle.link_law.specs.Looked.{words_of}
+use Rattle.link_law.specs.Follows.{last_dial, since_dial, is_loss, phase_in, is_owed, takes, taken, IsLinkOf}
+use Rattle.link_law.proofs.Lists.{count_more, count_same, behind_same, bytes_more, count_after_more, dial_same}
+use Rattle.link_law.proofs.Words.{IsKept}
 
 -- the link by the events, and besides what holds before the first answer to the activation
 pub record Stands (rules : LinkRules) (P : List UnitPlan) (es : List Event) (l : Link) : Type 0 where

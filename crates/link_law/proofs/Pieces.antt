@@ -1,11 +1,11 @@
 -- What a piece does to an open link, by all the bytes of the connection.
-use Rattle.std.proofs.Common.{◌≡◌, inl, inr, ℕ, ◌+◌, true, false, List, [], ◌∷◌, ◌++◌, Some, None, refl, sym, ◌∙◌, ap, subst, arith}
+use Rattle.std.proofs.Common.{◌≡◌, ℕ, true, false, List, ◌++◌, Some, None, refl, sym, ◌∙◌, ap, subst}
 use Rattle.std.specs.Prelude.{Bool, Option, ◌==◌, ◌&&◌, ◌||◌, not, is_some, if◌then◌else◌}
 use Rattle.std.proofs.lemmas.Bool.{both_ways}
-use Rattle.doip_frame.specs.Frame.{Stream, stream_of}
+use Rattle.doip_frame.specs.Frame.{Stream}
 use Rattle.doip_frame.specs.declared.frame.Bad.{Bad}
 use Rattle.doip_frame.specs.declared.frame.Frame.{Frame}
-use Rattle.run_model.specs.Link.{Link, Phase, Down, Fresh, Waits, Up, Denied, is_open, is_waiting, see_all, see_end}
+use Rattle.run_model.specs.Link.{Link, Phase, Down, Fresh, Waits, Up, Denied, is_waiting, see_all, see_end}
 use Rattle.bay_core.specs.LinkLaws.{refuses_header, phase_for}
 use Rattle.link_law.specs.Looked.{before_refusal, answer_in, is_denial, looked_at, is_broken}
 use Rattle.link_law.proofs.Frames.{refuses_more, waits_answer, waits_looked, waits_all, up_answer, up_looked, up_all}

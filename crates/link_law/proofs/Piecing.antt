@@ -1,24 +1,24 @@
 -- A piece received, as an event.
-use Rattle.std.proofs.Common.{◌≡◌, inl, inr, ℕ, zero, suc, ◌+◌, ◌≤◌, ◌<◌, true, false, List, [], ◌∷◌, ◌++◌, length, drop, Some, None, refl, sym, ◌∙◌, ap, subst, arith}
+use Rattle.std.proofs.Common.{◌≡◌, inl, inr, ℕ, ◌+◌, true, false, List, [], ◌∷◌, ◌++◌, Some, None, refl, sym, ◌∙◌, ap, subst, arith}
 use Rattle.std.specs.Prelude.{Bool, Option, ◌==◌, ◌&&◌, ◌||◌, not, nat_le, nat_lt, if◌then◌else◌}
-use Rattle.std.proofs.lemmas.Bool.{cases_Bool, cases_lt, lt-ltb, le-ltb, false≢true, both_ways}
+use Rattle.std.proofs.lemmas.Bool.{cases_lt, lt-ltb, le-ltb, false≢true, both_ways}
 use Rattle.doip_frame.proofs.Streams.{split}
 use Rattle.doip_frame.specs.Frame.{Stream, stream_of}
 use Rattle.doip_frame.specs.declared.frame.Frame.{Frame}
 use Rattle.flash_plan.specs.declared.unit.LinkRules.{LinkRules}
 use Rattle.flash_plan.specs.declared.unit.UnitPlan.{UnitPlan}
 use Rattle.run_model.proofs.Words.{words_more}
-use Rattle.run_model.specs.Link.{Link, Phase, Down, Fresh, Waits, Up, Denied, is_down, is_fresh, is_waiting, is_open, is_known, hear_piece, see_all, see_end}
-use Rattle.run_model.specs.Ways.{Spoken, words_from, words_in}
+use Rattle.run_model.specs.Link.{Link, Phase, Down, Fresh, Waits, Up, Denied, is_down, is_fresh, is_waiting, is_open, hear_piece}
+use Rattle.run_model.specs.Ways.{Spoken, words_in}
 use Rattle.bay_core.specs.Core.{addresses_of}
 use Rattle.bay_core.specs.LinkLaws.{phase_for}
 use Rattle.bay_core.specs.declared.event.Event.{Event}
-use Rattle.link_law.specs.Happened.{one, has, count, to_last}
+use Rattle.link_law.specs.Happened.{one, count}
 use Rattle.link_law.specs.Kinds.{event_bytes, bytes_in, is_dial, is_ask, is_say, is_quiet, is_quiet_wait, is_failed_call, dial_of}
-use Rattle.link_law.specs.Looked.{answer_in, is_broken, looked_at, checks_in, checks_of, words_of}
-use Rattle.link_law.specs.Follows.{last_dial, since_dial, is_ended, is_loss, phase_in, is_owed, takes, taken, IsLinkOf}
+use Rattle.link_law.specs.Looked.{answer_in, is_broken, checks_in, checks_of, words_of}
+use Rattle.link_law.specs.Follows.{last_dial, since_dial, is_ended, is_loss, phase_in, is_owed}
 use Rattle.link_law.proofs.Frames.{checks_more}
-use Rattle.link_law.proofs.Lists.{has_more, has_same, count_same, to_same, bytes_more, or_false, owed_more, brings}
+use Rattle.link_law.proofs.Lists.{has_same, count_same, to_same, bytes_more, or_false, owed_more, brings}
 use Rattle.link_law.proofs.Moving.{Stands, WordsMove, stands}
 use Rattle.link_law.proofs.Pieces.{PieceReads, piece_reads, joint}
 use Rattle.link_law.proofs.Silent.{none_more}
@@ -107,14 +107,6 @@ module _ (rules : LinkRules) (P : List UnitPlan) (es : List Event) (x : Event) (
   pub reads : PieceReads rules.tester (addresses_of P) told behind before (stream_of all)
   reads = subst (PieceReads rules.tester (addresses_of P) told behind before) (sym whole) (piece_reads rules.tester (addresses_of P) told before (stream_of (l.rest ++ event_bytes x)) l.phase refl was.clean)
 
-  -- all frames that are looked at
-  looked : (f : List Frame → ℕ) → f (looked_at (stream_of all).frames) ≡ f (before ++ reads.extra)
-  looked f = ap f reads.looked
-
-  -- the messages of a unit that were there, and those that came
-  pub came : ℕ → List Spoken
-  came a = words_in rules.tester a reads.extra
-
   pub words_all : (a : ℕ) → words_of rules.tester a all ≡ words_of rules.tester a (bytes_in (since_dial es)) ++ words_in rules.tester a reads.extra
   words_all a = ap (words_in rules.tester a) reads.looked ∙ words_more rules.tester a before reads.extra ∙ ap (λ (fs : List Frame). words_in rules.tester a fs ++ words_in rules.tester a reads.extra) (sym reads.old)
 
@@ -148,4 +140,4 @@ module _ (rules : LinkRules) (P : List UnitPlan) (es : List Event) (x : Event) (
     words = words;
   }) (λ e. absurd (both_ways _ (answer_not_fresh (is_broken (stream_of all)) (answer_in (stream_of all).frames)) (ap is_fresh (sym reads.reads.phase ∙ e))))
       (λ e. reads.reads.ticks ∙ s.waits (reads.later (ap is_waiting (sym reads.reads.phase ∙ e)))
-          ∙ (λ i. sym reads.reads.asked i + (none_more (count is_quiet_wait (since_dial es)) ∙ ap (λ (b : Bool). count is_quiet_wait (since_dial es) + one b) (sym is.no_wait)) i))
+      ∙ (λ i. sym reads.reads.asked i + (none_more (count is_quiet_wait (since_dial es)) ∙ ap (λ (b : Bool). count is_quiet_wait (since_dial es) + one b) (sym is.no_wait)) i))

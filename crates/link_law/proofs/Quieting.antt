@@ -1,19 +1,19 @@
 -- A quiet poll for the answer to the activation.
-use Rattle.std.proofs.Common.{◌≡◌, inl, inr, ℕ, zero, suc, ◌+◌, ◌≤◌, ◌<◌, true, false, List, [], ◌∷◌, ◌++◌, length, drop, Some, None, refl, sym, ◌∙◌, ap, subst, arith}
-use Rattle.std.specs.Prelude.{Bool, Option, ◌==◌, ◌&&◌, ◌||◌, not, nat_le, nat_lt, if◌then◌else◌}
-use Rattle.std.proofs.lemmas.Bool.{cases_Bool, le-leb, lt-leb, leb-true, leb-false, false≢true, both_ways}
+use Rattle.std.proofs.Common.{◌≡◌, inl, inr, ℕ, ◌+◌, ◌≤◌, ◌<◌, true, false, List, [], ◌∷◌, ◌++◌, refl, sym, ◌∙◌, ap, subst, arith}
+use Rattle.std.specs.Prelude.{Bool, Option, ◌&&◌, ◌||◌, not, nat_le, if◌then◌else◌}
+use Rattle.std.proofs.lemmas.Bool.{cases_Bool, le-leb, lt-leb, leb-true, leb-false, false≢true}
 use Rattle.doip_frame.specs.Frame.{stream_of}
 use Rattle.flash_plan.specs.declared.unit.LinkRules.{LinkRules}
 use Rattle.flash_plan.specs.declared.unit.UnitPlan.{UnitPlan}
-use Rattle.run_model.specs.Link.{Link, Phase, Down, Fresh, Waits, Up, Denied, is_down, is_fresh, is_waiting, is_open, drop_link, quiet_link, unanswered, polled_quiet}
+use Rattle.run_model.specs.Link.{Link, Phase, Down, Fresh, Waits, is_down, is_fresh, is_waiting, is_open, drop_link, quiet_link, unanswered, polled_quiet}
 use Rattle.bay_core.specs.LinkLaws.{phase_for}
 use Rattle.bay_core.specs.declared.event.Event.{Event}
 use Rattle.bay_core.specs.declared.event.Event.TheVariants.{Tended}
 use Rattle.bay_core.specs.declared.event.Tend.TheVariants.{Polled}
 use Rattle.bay_core.specs.declared.event.Heard.TheVariants.{Quiet}
-use Rattle.link_law.specs.Happened.{one, has, count}
-use Rattle.link_law.specs.Kinds.{bytes_in, is_ask, is_quiet_wait, is_failed_call}
-use Rattle.link_law.specs.Looked.{answer_in, is_broken}
+use Rattle.link_law.specs.Happened.{one, count}
+use Rattle.link_law.specs.Kinds.{is_ask, is_quiet_wait}
+use Rattle.link_law.specs.Looked.{answer_in}
 use Rattle.link_law.specs.Follows.{last_dial, since_dial, is_ended, phase_in}
 use Rattle.link_law.proofs.Lists.{has_same, count_more}
 use Rattle.link_law.proofs.Moving.{Stands, stands}
@@ -38,9 +38,6 @@ quiet_phase d w p o = ap (λ (x : Option Bool). phase_in x (w ++ (Tended (Polled
     ended = ended_more w (Tended (Polled Quiet)) silent refl ∙ (λ i. o.live.called i || o.live.whole i || nat_le 1000 (count_more is_quiet_wait (Tended (Polled Quiet)) w i))
 
 module _ (rules : LinkRules) (P : List UnitPlan) (es : List Event) (l : Link) (waits : l.phase ≡ Waits) (s : Stands rules P es l) where
-  abbrev poll : Event
-  poll = Tended (Polled Quiet)
-
   opened : IsOpened (last_dial es) (since_dial es) l.phase
   opened = opened_of (last_dial es) (since_dial es) l.phase (sym s.link.phase) (ap is_open waits)
 
@@ -78,7 +75,6 @@ module _ (rules : LinkRules) (P : List UnitPlan) (es : List Event) (l : Link) (w
     words = untaken_words rules P es (Tended (Polled Quiet)) silent l (quiet_link l) (λ a. refl) s.link refl;
   }) (λ e. absurd (false≢true (ap is_fresh (sym waits ∙ e))))
       (λ e. ap (λ (n : ℕ). n + 1) (s.waits waits) ∙ one_more l.asked (count is_quiet_wait (since_dial es)))
-     
     where
       one_more : (a q : ℕ) → (a + q) + 1 ≡ a + (q + 1)
       one_more a q = omega arith

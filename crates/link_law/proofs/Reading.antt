@@ -1,20 +1,19 @@
 -- What the frames of a piece do to an open link, by the frames that are looked at.
 use Rattle.std.proofs.Common.{◌≡◌, inl, inr, ℕ, ◌+◌, true, false, List, [], ◌∷◌, ◌++◌, Some, None, refl, sym, ◌∙◌, ap, subst, append_assoc, arith}
 use Rattle.std.specs.Prelude.{Bool, Option, ◌==◌, ◌&&◌, ◌||◌, not, is_some, nat_lt, if◌then◌else◌}
-use Rattle.std.proofs.lemmas.Bool.{cases_Bool, false≢true, both_ways, eqb-true}
+use Rattle.std.proofs.lemmas.Bool.{cases_Bool, both_ways, eqb-true}
 use Rattle.std.proofs.lemmas.List.{append-nil}
-use Rattle.doip_frame.specs.Frame.{Stream, stream_of}
 use Rattle.doip_frame.specs.declared.frame.Bad.{Bad}
 use Rattle.doip_frame.specs.declared.frame.Frame.{Frame}
 use Rattle.doip_frame.specs.declared.frame.Frame.TheVariants.{HeaderNack, Activate, Activated, AliveAsk, AliveSay, Message, Ack, Nack, Other}
 use Rattle.run_model.proofs.Pieces.{kept}
 use Rattle.run_model.proofs.Sees.{stays}
 use Rattle.run_model.proofs.Words.{words_more, from_more}
-use Rattle.run_model.specs.Link.{Link, Phase, Down, Fresh, Waits, Up, Denied, is_open, is_waiting, is_known, drop_link, keep_word, see, see_frame, see_all, see_end}
+use Rattle.run_model.specs.Link.{Link, Phase, Down, Waits, Up, Denied, is_open, is_waiting, is_known, drop_link, keep_word, see, see_frame, see_all, see_end}
 use Rattle.run_model.specs.Ways.{Spoken, Reply, Unheard, words_from, word_in, words_in}
-use Rattle.bay_core.specs.LinkLaws.{refuses_header, first_code, phase_for}
+use Rattle.bay_core.specs.LinkLaws.{refuses_header, phase_for}
 use Rattle.link_law.specs.Happened.{one}
-use Rattle.link_law.specs.Looked.{before_refusal, before_answer, answer_in, is_denial, looked_at, checks_in, is_broken}
+use Rattle.link_law.specs.Looked.{before_refusal, before_answer, answer_in, is_denial, looked_at, checks_in}
 use Rattle.link_law.proofs.Frames.{checks_more}
 
 -- the frames that were looked at, and the phase and the losses behind them
@@ -238,8 +237,8 @@ module _ (tester : ℕ) (units : List ℕ) where
   accepted t entity code oem fs l waits ten =
       let is : see tester units (Activated t entity code oem) l ≡ record l { phase = Up } = answered t entity code oem l waits ∙ ap (λ (b : Bool). record l { phase = if b then Up else Denied code }) ten in
       let both : Reads tester units l (see_all tester units fs (record l { phase = Up })) (Activated t entity code oem ∷ before_refusal fs) (up_phase (refuses_header fs)) (refuses_header fs) =
-          then_reads l (record l { phase = Up }) (see_all tester units fs (record l { phase = Up })) (Activated t entity code oem ∷ []) (before_refusal fs) Up (up_phase (refuses_header fs)) (refuses_header fs)
-          (in_phase l Up (Activated t entity code oem ∷ []) refl (λ a. refl)) (up_reads fs (record l { phase = Up }) refl) in
+      then_reads l (record l { phase = Up }) (see_all tester units fs (record l { phase = Up })) (Activated t entity code oem ∷ []) (before_refusal fs) Up (up_phase (refuses_header fs)) (refuses_header fs)
+      (in_phase l Up (Activated t entity code oem ∷ []) refl (λ a. refl)) (up_reads fs (record l { phase = Up }) refl) in
       subst (By l (see_all tester units (Activated t entity code oem ∷ fs) l) (Activated t entity code oem) fs code) (sym ten)
       (subst (λ (m : Link). Reads tester units l (see_all tester units fs m) (Activated t entity code oem ∷ before_refusal fs) (up_phase (refuses_header fs)) (refuses_header fs)) (sym is) both)
 

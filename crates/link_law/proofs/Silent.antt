@@ -1,23 +1,22 @@
 -- One event more that received no bytes.
-use Rattle.std.proofs.Common.{◌≡◌, inl, inr, ℕ, zero, suc, ◌+◌, ◌≤◌, true, false, List, [], ◌∷◌, ◌++◌, length, drop, Some, None, refl, sym, ◌∙◌, ap, subst, arith}
-use Rattle.std.specs.Prelude.{Bool, Option, ◌==◌, ◌&&◌, ◌||◌, not, nat_le, nat_lt, if◌then◌else◌}
-use Rattle.std.proofs.lemmas.Bool.{le-ltb, false≢true, both_ways}
+use Rattle.std.proofs.Common.{◌≡◌, ℕ, ◌+◌, ◌≤◌, true, false, List, [], ◌∷◌, ◌++◌, Some, None, refl, sym, ◌∙◌, ap, subst, arith}
+use Rattle.std.specs.Prelude.{Bool, Option, ◌&&◌, ◌||◌, not, nat_le, nat_lt, if◌then◌else◌}
+use Rattle.std.proofs.lemmas.Bool.{le-ltb, false≢true}
 use Rattle.std.proofs.lemmas.List.{append-nil}
 use Rattle.doip_frame.specs.Frame.{stream_of}
 use Rattle.flash_plan.specs.declared.unit.LinkRules.{LinkRules}
 use Rattle.flash_plan.specs.declared.unit.UnitPlan.{UnitPlan}
-use Rattle.run_model.specs.Link.{Link, Phase, Down, Fresh, Waits, Up, Denied, is_down, is_fresh, is_waiting, is_known}
-use Rattle.run_model.specs.Ways.{Spoken, words_from}
-use Rattle.bay_core.specs.Core.{addresses_of}
+use Rattle.run_model.specs.Link.{Link, Down, Fresh, Waits, is_down, is_fresh, is_waiting}
+use Rattle.run_model.specs.Ways.{words_from}
 use Rattle.bay_core.specs.LinkLaws.{phase_for}
 use Rattle.bay_core.specs.declared.event.Event.{Event}
-use Rattle.link_law.specs.Happened.{one, has, count, behind_last, to_last, count_after}
+use Rattle.link_law.specs.Happened.{one, has, count, to_last}
 use Rattle.link_law.specs.Kinds.{event_bytes, bytes_in, is_dial, is_ask, is_say, is_quiet, is_quiet_wait, is_failed_call, dial_of}
 use Rattle.link_law.specs.Looked.{answer_in, is_broken, checks_of, words_of}
 use Rattle.link_law.specs.Follows.{last_dial, since_dial, is_ended, is_loss, phase_in, is_owed, takes, taken, IsLinkOf}
-use Rattle.link_law.proofs.Lists.{has_more, has_same, count_more, count_same, behind_same, to_it, to_same, bytes_more, count_after_more, dial_same, or_true, or_false, owed_more, brings}
+use Rattle.link_law.proofs.Lists.{has_more, has_same, count_same, to_it, to_same, bytes_more, or_true, owed_more, brings}
 use Rattle.link_law.proofs.Words.{IsKept, untaken}
-use Rattle.link_law.proofs.Moving.{Stands, WordsMove, Moves, stands}
+use Rattle.link_law.proofs.Moving.{Stands, WordsMove, stands}
 
 pub none_more : (n : ℕ) → n ≡ n + 0
 none_more n = omega arith
@@ -28,7 +27,7 @@ phase_failed None w x failed = refl
 phase_failed (Some true) w x failed = refl
 phase_failed (Some false) w x failed =
     ap (λ (b : Bool). if b || is_broken (stream_of (bytes_in (w ++ (x ∷ [])))) || nat_le 1000 (count is_quiet_wait (w ++ (x ∷ []))) then Down
-        else if has is_ask (w ++ (x ∷ [])) then phase_for (answer_in (stream_of (bytes_in (w ++ (x ∷ [])))).frames) else Fresh)
+    else if has is_ask (w ++ (x ∷ [])) then phase_for (answer_in (stream_of (bytes_in (w ++ (x ∷ [])))).frames) else Fresh)
     (has_more is_failed_call x w ∙ ap (λ (b : Bool). has is_failed_call w || b) failed ∙ or_true (has is_failed_call w))
 
 -- an event that is not a dial, nor received bytes

@@ -1,7 +1,7 @@
 -- What is known of the events since the last dial in each phase.
-use Rattle.std.proofs.Common.{◌≡◌, inl, inr, ℕ, ◌+◌, true, false, List, [], ◌∷◌, ◌++◌, Some, None, refl, sym, ◌∙◌, ap, subst, arith}
+use Rattle.std.proofs.Common.{◌≡◌, ℕ, true, false, List, Some, None, refl, sym, ◌∙◌, ap, subst}
 use Rattle.std.specs.Prelude.{Bool, Option, ◌==◌, ◌&&◌, ◌||◌, not, is_some, nat_le, if◌then◌else◌}
-use Rattle.std.proofs.lemmas.Bool.{cases_Bool, false≢true, both_ways}
+use Rattle.std.proofs.lemmas.Bool.{false≢true, both_ways}
 use Rattle.doip_frame.specs.Frame.{Stream, stream_of}
 use Rattle.doip_frame.specs.declared.frame.Bad.{Bad}
 use Rattle.doip_frame.specs.declared.frame.Frame.{Frame}

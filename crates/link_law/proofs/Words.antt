@@ -1,8 +1,8 @@
 -- Messages in an inbox, by how many of all were taken.
-use Rattle.std.proofs.Common.{◌≡◌, ◌⊎◌, inl, inr, ℕ, zero, suc, ◌+◌, ◌≤◌, true, false, List, [], ◌∷◌, ◌++◌, length, drop, Some, None, refl, sym, ◌∙◌, ap, subst, arith, add-one, length-append, length-drop}
-use Rattle.std.specs.Prelude.{Bool, Option, ◌==◌, nat_lt, is_some}
-use Rattle.std.proofs.lemmas.Bool.{cases_Bool, cases_lt, false≢true, lt-ltb, le-ltb, eqb-true, ne_eqb}
-use Rattle.std.proofs.lemmas.List.{append-nil, drop-append-le}
+use Rattle.std.proofs.Common.{◌≡◌, ◌⊎◌, inl, inr, ℕ, zero, suc, ◌+◌, ◌≤◌, true, false, List, [], ◌∷◌, ◌++◌, length, drop, refl, sym, ◌∙◌, ap, subst, arith, add-one, length-append, length-drop}
+use Rattle.std.specs.Prelude.{Bool, ◌==◌, nat_lt, is_some}
+use Rattle.std.proofs.lemmas.Bool.{cases_Bool, false≢true, lt-ltb, le-ltb}
+use Rattle.std.proofs.lemmas.List.{drop-append-le}
 use Rattle.run_model.specs.Link.{first_word, without_first}
 use Rattle.run_model.specs.Ways.{Spoken, words_from}
 use Rattle.link_law.specs.Happened.{one}

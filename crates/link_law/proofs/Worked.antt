@@ -1,11 +1,11 @@
 -- The connections that were worked out by hand.
-use Rattle.std.proofs.Common.{◌≡◌, ℕ, zero, suc, true, false, List, [], ◌∷◌, ◌++◌, Some, None, refl, ◌∙◌, ap, arith}
+use Rattle.std.proofs.Common.{◌≡◌, ℕ, zero, suc, true, false, [], ◌∷◌, ◌++◌, Some, None, refl, ◌∙◌, ap, arith}
 use Rattle.std.specs.Prelude.{Bool, ◌==◌, ◌&&◌, ◌||◌, ◌+◌, nat_le, if◌then◌else◌}
 use Rattle.doip_frame.specs.Frame.{stream_of}
-use Rattle.run_model.specs.Link.{Phase, Down, Waits, Fresh}
+use Rattle.run_model.specs.Link.{Down, Waits}
 use Rattle.bay_core.specs.LinkLaws.{phase_for}
 use Rattle.bay_core.specs.declared.event.Heard.TheVariants.{Quiet}
-use Rattle.bay_core.specs.declared.event.Tend.TheVariants.{Dialed, Asked, Polled}
+use Rattle.bay_core.specs.declared.event.Tend.TheVariants.{Asked, Polled}
 use Rattle.bay_core.specs.declared.event.Event.{Event}
 use Rattle.bay_core.specs.declared.event.Event.TheVariants.{Tended}
 use Rattle.link_law.specs.Happened.{one, has, count, behind_last}

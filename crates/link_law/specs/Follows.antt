@@ -18,7 +18,7 @@ use Rattle.bay_core.specs.declared.event.Heard.TheVariants.{Kept, Quiet, Piece, 
 use Rattle.bay_core.specs.declared.event.Tend.{Tend}
 use Rattle.bay_core.specs.declared.event.Tend.TheVariants.{Dialed, Asked, Said, Polled}
 use Rattle.bay_core.specs.declared.event.Event.{Event}
-use Rattle.bay_core.specs.declared.event.Event.TheVariants.{Claimed, Began, Sent, Collected, Tended, Completed, DiskFailed, Ended}
+use Rattle.bay_core.specs.declared.event.Event.TheVariants.{Sent, Collected, Tended}
 
 -- ------ since the last dial
 -- whether the last dial failed, if there was one

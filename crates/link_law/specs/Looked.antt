@@ -1,10 +1,9 @@
 -- What the frames of one connection say, and which of them are looked at (ISO 13400-2:2019, sections 7 and 9).
-use Rattle.std.specs.Prelude.{ℕ, ◌+◌, Bool, true, false, ◌&&◌, ◌||◌, ◌==◌, not, is_some, List, [], ◌∷◌, Option, Some, None, if◌then◌else◌}
-use Rattle.bay_core.specs.LinkLaws.{refuses_header, first_code, phase_for}
+use Rattle.std.specs.Prelude.{ℕ, ◌+◌, Bool, false, ◌&&◌, ◌||◌, ◌==◌, not, is_some, List, [], ◌∷◌, Option, Some, None, if◌then◌else◌}
+use Rattle.bay_core.specs.LinkLaws.{refuses_header, first_code}
 use Rattle.doip_frame.specs.Frame.{Stream, stream_of}
 use Rattle.doip_frame.specs.declared.frame.Frame.{Frame}
-use Rattle.doip_frame.specs.declared.frame.Frame.TheVariants.{HeaderNack, Activate, Activated, AliveAsk, AliveSay, Message, Ack, Nack, Other}
-use Rattle.run_model.specs.Link.{Phase, Down}
+use Rattle.doip_frame.specs.declared.frame.Frame.TheVariants.{HeaderNack, Activated, AliveAsk}
 use Rattle.run_model.specs.Ways.{Spoken, words_in}
 
 -- the frames before the first refused header

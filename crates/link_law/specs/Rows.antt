@@ -1,17 +1,16 @@
 -- Connections worked out by hand, byte by byte (ISO 13400-2:2019, section 9): tester 0E80, gateway 4000, a unit with the
 -- address 1001.
-use Rattle.std.specs.Prelude.{◌≡◌, ℕ, zero, suc, Bool, true, false, nat_le, List, [], ◌∷◌, ◌++◌, take, if◌then◌else◌}
+use Rattle.std.specs.Prelude.{◌≡◌, ℕ, zero, suc, true, false, nat_le, List, [], ◌∷◌, ◌++◌, take, if◌then◌else◌}
 use Rattle.flash_plan.specs.declared.unit.UnitPlan.{UnitPlan}
-use Rattle.run_model.specs.Link.{Phase, Down, Fresh, Waits, Up, Denied}
+use Rattle.run_model.specs.Link.{Down, Fresh, Waits, Up, Denied}
 use Rattle.run_model.specs.Ways.{Reply, Unheard}
-use Rattle.bay_core.specs.declared.event.Heard.TheVariants.{Kept, Quiet, Piece, Lost}
+use Rattle.bay_core.specs.declared.event.Heard.TheVariants.{Kept, Quiet, Piece}
 use Rattle.bay_core.specs.declared.event.Tend.TheVariants.{Dialed, Asked, Said, Polled}
 use Rattle.bay_core.specs.declared.event.Event.{Event}
-use Rattle.bay_core.specs.declared.event.Event.TheVariants.{Claimed, Began, Sent, Collected, Tended, Completed, DiskFailed, Ended}
-use Rattle.link_law.specs.Happened.{count, count_after}
-use Rattle.link_law.specs.Kinds.{is_dial}
+use Rattle.bay_core.specs.declared.event.Event.TheVariants.{Sent, Collected, Tended}
+use Rattle.link_law.specs.Happened.{count_after}
 use Rattle.link_law.specs.Looked.{words_of}
-use Rattle.link_law.specs.Follows.{phase_of, is_loss, is_owed, since_dial, bytes_since_dial, taken}
+use Rattle.link_law.specs.Follows.{phase_of, is_loss, is_owed, since_dial, taken}
 
 -- 03 FC 00 06 00 00 00 09 0E 80 40 00 10 00 00 00 00: the activation is accepted
 abbrev pub accepts : List ℕ
