@@ -1,12 +1,12 @@
 -- A dial, and the request for the activation.
 use Rattle.std.proofs.Common.{◌≡◌, ℕ, ◌+◌, ◌≤◌, true, false, List, [], ◌∷◌, ◌++◌, length, drop, Some, refl, sym, ◌∙◌, ap, subst, arith}
-use Rattle.std.specs.Prelude.{Bool, Option, ◌||◌, not, nat_le, if◌then◌else◌}
+use Rattle.std.specs.Prelude.{Bool, Option, ◌||◌, not, nat_le, nat_lt, is_some, if◌then◌else◌}
 use Rattle.std.proofs.lemmas.Bool.{false≢true, both_ways}
 use Rattle.doip_frame.specs.Frame.{stream_of}
 use Rattle.flash_plan.specs.declared.unit.LinkRules.{LinkRules}
 use Rattle.flash_plan.specs.declared.unit.UnitPlan.{UnitPlan}
-use Rattle.run_model.specs.Link.{Link, Phase, Down, Fresh, Waits, is_down, is_fresh, is_waiting, dialed_link, asked_link, fresh_link, drop_link}
-use Rattle.run_model.specs.Ways.{words_from}
+use Rattle.run_model.specs.Link.{Link, Phase, Down, Fresh, Waits, is_down, is_fresh, is_waiting, first_word, dialed_link, asked_link, fresh_link, drop_link}
+use Rattle.run_model.specs.Ways.{Spoken, words_from}
 use Rattle.bay_core.specs.LinkLaws.{phase_for}
 use Rattle.bay_core.specs.declared.event.Event.{Event}
 use Rattle.bay_core.specs.declared.event.Event.TheVariants.{Tended}
@@ -51,6 +51,7 @@ module _ (rules : LinkRules) (P : List UnitPlan) (es : List Event) (lost : Bool)
       unasked = λ none_asked. ap bytes_in now;
       came = λ a known. subst (λ (w : List Event). taken rules.tester P a w ≤ length (words_of rules.tester a (bytes_in w))) (sym now) (omega arith);
       inbox = λ a known. ap (words_from a) d.inbox ∙ ap (λ (w : List Event). drop (taken rules.tester P a w) (words_of rules.tester a (bytes_in w))) (sym now);
+      kept = λ a known. ap (λ (ms : List (ℕ × Spoken)). is_some (first_word a ms)) d.inbox ∙ ap (λ (w : List Event). nat_lt (taken rules.tester P a w) (length (words_of rules.tester a (bytes_in w)))) (sym now);
       others = λ a unknown. ap (words_from a) d.inbox;
     };
     fresh = λ e. ap (count is_quiet_wait) now;

@@ -259,6 +259,7 @@ starts rules P = record {
     unasked = λ none_asked. refl;
     came = λ a known. omega arith;
     inbox = λ a known. refl;
+    kept = λ a known. refl;
     others = λ a unknown. refl;
   };
   fresh = λ e. absurd (false≢true (ap is_fresh e));

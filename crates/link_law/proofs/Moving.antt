@@ -13,7 +13,7 @@ use Rattle.link_law.specs.Kinds.{event_bytes, bytes_in, is_dial, is_ask, is_quie
 use Rattle.link_law.specs.Looked.{words_of}
 use Rattle.link_law.specs.Follows.{last_dial, since_dial, is_loss, phase_in, is_owed, takes, taken, IsLinkOf}
 use Rattle.link_law.proofs.Lists.{count_more, count_same, behind_same, bytes_more, count_after_more, dial_same}
-use Rattle.link_law.proofs.Words.{IsKept}
+use Rattle.link_law.proofs.Words.{IsKept, more_came}
 
 -- the link by the events, and besides what holds before the first answer to the activation
 pub record Stands (rules : LinkRules) (P : List UnitPlan) (es : List Event) (l : Link) : Type 0 where
@@ -63,9 +63,13 @@ module _ (rules : LinkRules) (P : List UnitPlan) (es : List Event) (x : Event) w
       unasked = λ none_asked. bytes_now ∙ m.unasked (sym (ap (has is_ask) since) ∙ none_asked);
       came = λ a known. subst (λ (n : ℕ). n ≤ length (words_of rules.tester a (bytes_in (since_dial (es ++ (x ∷ [])))))) (sym (taken_now a))
           (subst (λ (bs : List ℕ). taken rules.tester P a (since_dial es) + one (takes rules.tester P a (since_dial es) x) ≤ length (words_of rules.tester a bs)) (sym bytes_now) (m.words.known a known).came);
-      inbox = λ a known. (m.words.known a known).words ∙ (λ i. drop (sym (taken_now a) i) (words_of rules.tester a (sym bytes_now i)));
+      inbox = words_now;
+      kept = λ a known. more_came a (taken rules.tester P a (since_dial (es ++ (x ∷ [])))) (words_of rules.tester a (bytes_in (since_dial (es ++ (x ∷ []))))) l2.inbox (words_now a known);
       others = m.words.others;
     }
+      where
+        words_now : (a : ℕ) → is_known (addresses_of P) a ≡ true → words_from a l2.inbox ≡ drop (taken rules.tester P a (since_dial (es ++ (x ∷ [])))) (words_of rules.tester a (bytes_in (since_dial (es ++ (x ∷ [])))))
+        words_now a known = (m.words.known a known).words ∙ (λ i. drop (sym (taken_now a) i) (words_of rules.tester a (sym bytes_now i)))
 
     pub stands : (l l2 : Link) → Stands rules P es l → Moves l l2 → (l2.phase ≡ Fresh → count is_quiet_wait (since_dial es) + one (is_quiet_wait x) ≡ 0)
         → (l2.phase ≡ Waits → l2.ticks ≡ l2.asked + (count is_quiet_wait (since_dial es) + one (is_quiet_wait x))) → Stands rules P (es ++ (x ∷ [])) l2

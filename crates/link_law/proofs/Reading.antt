@@ -80,9 +80,6 @@ module _ (tester : ℕ) (units : List ℕ) where
 
   -- a message
   module _ (source target : ℕ) (word : Spoken) (l : Link) where
-    abbrev ours : Bool
-    ours = target == tester && is_known units source
-
     record WordKeeps (m : Link) : Type 0 where
       phase : m.phase ≡ l.phase
       losses : m.losses ≡ l.losses

@@ -122,3 +122,20 @@ came_word a k V W ms le none is = by (taken_word a k (W ++ V) ms is)
     by (inr (some, next, long)) =
         let test : nat_lt (length W) (length (W ++ V)) ≡ true = lt-ltb _ _ (omega (arith, full, long)) in
         subst (λ (b : Bool). IsKept (words_from a (without_first a ms)) k b (W ++ V)) (sym test) (record { came = long; words = next })
+
+-- ------ whether there is one to take
+has_first : (a : ℕ) (ms : List (ℕ × Spoken)) → is_some (first_word a ms) ≡ is_cons (words_from a ms)
+has_first a [] = refl
+has_first a (m ∷ ms) = elim (cases_Bool (m.0 == a)) [ inl e ↦ rw e refl | inr e ↦ rw e (has_first a ms) ]
+
+cons_left : (k : ℕ) (W : List Spoken) → is_cons (drop k W) ≡ nat_lt k (length W)
+cons_left k W = by (drop k W) refl
+  where
+    by : (ws : List Spoken) → drop k W ≡ ws → is_cons (drop k W) ≡ nat_lt k (length W)
+    by [] e =
+        let none : length (drop k W) ≡ 0 = ap (length {A = Spoken}) e in
+        ap is_cons e ∙ sym (le-ltb k (length W) (omega (arith, none, length-drop k W)))
+    by (w ∷ ws) e = let next = drop_next k W w ws e in ap is_cons e ∙ sym (lt-ltb k (length W) (omega (arith, next.1)))
+
+pub more_came : (a k : ℕ) (W : List Spoken) (ms : List (ℕ × Spoken)) → words_from a ms ≡ drop k W → is_some (first_word a ms) ≡ nat_lt k (length W)
+more_came a k W ms is = has_first a ms ∙ ap is_cons is ∙ cons_left k W

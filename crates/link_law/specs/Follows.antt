@@ -1,5 +1,5 @@
 -- What a whole list of events says of the link.
-use Rattle.std.specs.Prelude.{◌≡◌, ℕ, ◌+◌, ◌≤◌, Bool, true, false, ◌&&◌, ◌||◌, ◌==◌, not, nat_lt, nat_le, List, [], ◌∷◌, ◌++◌, length, drop, Option, Some, None, if◌then◌else◌}
+use Rattle.std.specs.Prelude.{◌≡◌, ℕ, ◌+◌, ◌≤◌, Bool, true, false, ◌&&◌, ◌||◌, ◌==◌, not, nat_lt, nat_le, is_some, List, [], ◌∷◌, ◌++◌, length, drop, Option, Some, None, if◌then◌else◌}
 use Rattle.bay_core.specs.Core.{addresses_of, core_of, core_start}
 use Rattle.bay_core.specs.Legal.{is_legal}
 use Rattle.bay_core.specs.LinkLaws.{phase_for}
@@ -8,7 +8,7 @@ use Rattle.flash_plan.specs.Plan.{plan_of}
 use Rattle.flash_plan.specs.declared.outcome.Entry.{Entry}
 use Rattle.flash_plan.specs.declared.unit.LinkRules.{LinkRules}
 use Rattle.flash_plan.specs.declared.unit.UnitPlan.{UnitPlan}
-use Rattle.run_model.specs.Link.{Link, Phase, Down, Fresh, is_down, is_known}
+use Rattle.run_model.specs.Link.{Link, Phase, Down, Fresh, is_down, is_known, first_word}
 use Rattle.run_model.specs.Ways.{words_from}
 use Rattle.link_law.specs.Happened.{one, has, count, behind_last, to_last, count_after, some_amid}
 use Rattle.link_law.specs.Kinds.{event_bytes, bytes_in, is_dial, is_ask, is_say, is_quiet, is_quiet_wait, is_failed_call, dial_of}
@@ -99,7 +99,8 @@ taken tester P a since = count_after (takes tester P a) [] since
 -- the last whole frame; the phase by the last dial, what ended the connection and the first answer to the activation; ticks, the tick of the last activation request and
 -- losses by counting events; each dial but the last was lost, and the last where there is no connection; an alive answer is
 -- owed where a check ends in a piece that no answer follows; and each unit's messages are those of its address that
--- are looked at since the last dial, without the first ones, as many as were taken since.
+-- are looked at since the last dial, without the first ones, as many as were taken since; there is one to take where more came
+-- than were taken.
 pub record IsLinkOf (rules : LinkRules) (P : List UnitPlan) (events : List Event) (l : Link) : Type 0 where
   pub bytes : l.got ≡ bytes_since_dial events
   pub rest : l.rest ≡ (stream_of (bytes_since_dial events)).rest
@@ -112,6 +113,7 @@ pub record IsLinkOf (rules : LinkRules) (P : List UnitPlan) (events : List Event
   pub unasked : has is_ask (since_dial events) ≡ false → bytes_since_dial events ≡ []
   pub came : (a : ℕ) → is_known (addresses_of P) a ≡ true → taken rules.tester P a (since_dial events) ≤ length (words_of rules.tester a (bytes_since_dial events))
   pub inbox : (a : ℕ) → is_known (addresses_of P) a ≡ true → words_from a l.inbox ≡ drop (taken rules.tester P a (since_dial events)) (words_of rules.tester a (bytes_since_dial events))
+  pub kept : (a : ℕ) → is_known (addresses_of P) a ≡ true → is_some (first_word a l.inbox) ≡ nat_lt (taken rules.tester P a (since_dial events)) (length (words_of rules.tester a (bytes_since_dial events)))
   pub others : (a : ℕ) → is_known (addresses_of P) a ≡ false → words_from a l.inbox ≡ []
 
 -- the link that a legal list of events gives follows from the list
