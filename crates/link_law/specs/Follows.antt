@@ -95,12 +95,15 @@ abbrev pub taken : ℕ → List UnitPlan → ℕ → List Event → ℕ
 taken tester P a since = count_after (takes tester P a) [] since
 
 -- ------ the link
--- The link by the events: the bytes since the last dial, none before the activation was asked for, and those of them behind
--- the last whole frame; the phase by the last dial, what ended the connection and the first answer to the activation; ticks, the tick of the last activation request and
--- losses by counting events; each dial but the last was lost, and the last where there is no connection; an alive answer is
--- owed where a check ends in a piece that no answer follows; and each unit's messages are those of its address that
--- are looked at since the last dial, without the first ones, as many as were taken since; there is one to take where more came
--- than were taken.
+-- The link by the events.
+-- Its bytes are those since the last dial, of which none came before the activation was asked for; what is left of them is
+-- what stands behind their last whole frame.
+-- The phase is that of the last dial, of what ended the connection, and of the first answer to the activation.
+-- Ticks, the tick of the last activation request and losses count events. Each dial but the last was lost, and the last too
+-- where there is no connection.
+-- An alive answer is owed where a check ends in a piece that no answer follows.
+-- The inbox of a unit is the messages of its address that are looked at since the last dial, without the first ones, as many
+-- as were taken since. There is one to take exactly where more came than were taken. Of no other address there is any.
 pub record IsLinkOf (rules : LinkRules) (P : List UnitPlan) (events : List Event) (l : Link) : Type 0 where
   pub bytes : l.got ≡ bytes_since_dial events
   pub rest : l.rest ≡ (stream_of (bytes_since_dial events)).rest
