@@ -1,0 +1,14 @@
+pub mod Lists
+pub mod Frames
+pub mod Reading
+pub mod Standing
+pub mod Pieces
+pub mod Words
+pub mod Moving
+pub mod Silent
+pub mod Dialing
+pub mod Quieting
+pub mod Piecing
+pub mod Collecting
+pub mod Following
+pub mod Worked

@@ -1,0 +1,5 @@
+pub mod Follows
+pub mod Happened
+pub mod Kinds
+pub mod Looked
+pub mod Rows
