@@ -1,0 +1,98 @@
+-- The causes of outcomes over every legal list of events.
+use Rattle.std.specs.Prelude.{◌≡◌, ◌⊎◌, ℕ, ◌+◌, ◌<◌, ◌≤◌, Bool, true, false, not, List, [], ◌∷◌, ◌++◌, Option, Some, None, IsTrue, Contains, if◌then◌else◌}
+use Rattle.flash_base.specs.Lists.{same_bytes}
+use Rattle.flash_plan.specs.Plan.{IsAccepted, plan_of, count_of}
+use Rattle.flash_plan.specs.declared.outcome.Entry.{Entry}
+use Rattle.flash_plan.specs.declared.outcome.Entry.TheVariants.{Begun}
+use Rattle.flash_plan.specs.declared.outcome.Entry.TheVariants as entry
+use Rattle.flash_plan.specs.declared.outcome.Outcome.{Outcome}
+use Rattle.flash_plan.specs.declared.outcome.Outcome.TheVariants.{Complete, IdentMismatch, Refused, BadAnswer, CheckFailed, Undelivered, NoAnswer, PendingLimit, BusyLimit, LinkLost, LinkRefused, DiskFault, NoMemory, Blocked}
+use Rattle.flash_plan.specs.declared.unit.LinkRules.{LinkRules}
+use Rattle.flash_plan.specs.declared.unit.UnitPlan.{UnitPlan}
+use Rattle.unit_model.specs.Unit.{ControlUnit}
+use Rattle.unit_model.specs.Vehicle.{Gateway, Vehicle, unit_at}
+use Rattle.run_model.specs.Matching.{IsMatching}
+use Rattle.run_model.specs.Places.{is_ended}
+use Rattle.run_model.specs.Script.{Place, AtDone, AtEnd, start_place}
+use Rattle.run_model.specs.Sound.{IsSound}
+use Rattle.run_model.specs.Troubles.{AreCalm}
+use Rattle.unit_session.specs.Left.{requests_left}
+use Rattle.bay_core.specs.Core.{Core, core_start, core_after, core_of}
+use Rattle.bay_core.specs.Joint.{IsJoint}
+use Rattle.bay_core.specs.Law.{State, MovesAll}
+use Rattle.bay_core.specs.Legal.{is_allowed, is_legal}
+use Rattle.bay_core.specs.Moves.{Moves}
+use Rattle.bay_core.specs.Stops.{has_failure}
+use Rattle.bay_core.specs.declared.event.Event.{Event}
+use Rattle.bay_core.specs.declared.event.Event.TheVariants.{Claimed, Began, Sent, Collected, Tended, Completed, DiskFailed, Ended}
+use Rattle.bay_core.specs.declared.event.Heard.{Heard}
+use Rattle.bay_core.specs.declared.event.Heard.TheVariants.{Kept, Quiet, Piece, Lost}
+use Rattle.bay_core.specs.declared.event.Tend.{Tend}
+use Rattle.bay_core.specs.declared.event.Tend.TheVariants.{Dialed, Asked, Said, Polled}
+use Rattle.outcome_law.specs.Causes.{Unfit, OtherIdent, IsCaused}
+use Rattle.outcome_law.specs.Counting.{AreUnitsCounted}
+
+-- ------ a run: its events, and the vehicle and records that moved with them
+abbrev pub last_state : State → List State → State
+last_state s [] = s
+last_state s (s2 ∷ states) = last_state s2 states
+
+-- a legal list of events of an accepted plan, from records that fit the vehicle
+pub record IsRun (rules : LinkRules) (P : List UnitPlan) (found : Entry → Bool) (events : List Event) (s : State) (states : List State) (v0 : Vehicle) : Type 0 where
+  pub accepted : IsAccepted P
+  pub sound : IsSound P found s.vehicle v0
+  pub records : s.records ≡ found
+  pub legal : IsTrue (is_legal rules P (core_start P found) events)
+  pub moves : MovesAll rules P (core_start P found) events s states
+
+-- ------ the causes
+-- each conversation that has ended
+abbrev pub EndsCaused : List UnitPlan → Core → Vehicle → Vehicle → Type 0
+EndsCaused P c first now = (n : ℕ) (outcome : Outcome) → n < count_of P → (c.slots n).talk.place ≡ AtEnd outcome
+    → IsCaused (plan_of P n) (c.recorded (Begun n)) (unit_at first.units (plan_of P n).address) (unit_at now.units (plan_of P n).address) outcome
+
+abbrev pub CauseLaw : Type 0
+CauseLaw = (rules : LinkRules) (P : List UnitPlan) (found : Entry → Bool) (events : List Event) (s : State) (states : List State) (v0 : Vehicle)
+    → IsRun rules P found events s states v0 → EndsCaused P (core_of rules P (core_start P found) events) s.vehicle (last_state s states).vehicle
+
+-- what is counted is kept by each allowed event beside the joint state
+abbrev pub CountingLaw : Type 0
+CountingLaw = (rules : LinkRules) (P : List UnitPlan) (found : Entry → Bool) (c : Core) (e : Event) (R R2 : Entry → Bool) (v v2 v0 first : Vehicle) (t0 : ℕ)
+    → IsAccepted P → IsTrue (is_allowed P c e) → Moves rules P c e v v2 R R2 → IsJoint rules P c R v v0 t0
+    → AreUnitsCounted rules P found t0 c first v → AreUnitsCounted rules P found t0 (core_after rules P e c) first v2
+
+-- ------ without a departure
+-- the unit is there and has not departed
+abbrev pub IsCalmUnit : (ControlUnit → Type 0) → Option ControlUnit → Option ControlUnit → Type 0
+IsCalmUnit Is (Some u) (Some w) = Is u × AreCalm u.counts w.counts
+IsCalmUnit Is first now = ⊥
+
+abbrev pub AnyUnit : ControlUnit → Type 0
+AnyUnit u = Unit {0}
+
+-- a unit that does not fit ends its conversation as the table of unfit units says, and otherwise by its identifiers' values
+abbrev pub IsUnfitEnd : UnitPlan → Bool → Option ControlUnit → Outcome → Type 0
+IsUnfitEnd plan begun None outcome = ⊥
+IsUnfitEnd plan begun (Some u) outcome = Unfit plan begun u outcome ⊎ ((did : ℕ) × (outcome ≡ IdentMismatch did) × OtherIdent plan begun u did)
+
+abbrev pub CalmLaw : Type 0
+CalmLaw = (rules : LinkRules) (P : List UnitPlan) (found : Entry → Bool) (events : List Event) (s : State) (states : List State) (v0 : Vehicle) (n : ℕ) (outcome : Outcome)
+    → IsRun rules P found events s states v0 → n < count_of P
+    → (((core_of rules P (core_start P found) events).slots n).talk.place ≡ AtEnd outcome)
+    → IsCalmUnit AnyUnit (unit_at s.vehicle.units (plan_of P n).address) (unit_at (last_state s states).vehicle.units (plan_of P n).address)
+    → IsUnfitEnd (plan_of P n) ((core_of rules P (core_start P found) events).recorded (Begun n)) (unit_at s.vehicle.units (plan_of P n).address) outcome
+
+-- The conversation with a unit that matches and has not departed does not end but at Done: it stands at a place of its script, and
+-- each final answer leaves fewer requests to make. So it is at Done after as many answers as an attempt behind Begun has
+-- requests at most.
+pub record GoesOn (plan : UnitPlan) (begun : Bool) (place : Place) (number : ℕ) : Type 0 where
+  pub goes : is_ended place ≡ false
+  pub left : number + requests_left plan place ≤ requests_left plan (start_place plan begun)
+  pub done : begun ≡ true → requests_left plan (start_place plan begun) ≤ number → place ≡ AtDone
+
+abbrev pub DoneLaw : Type 0
+DoneLaw = (rules : LinkRules) (P : List UnitPlan) (found : Entry → Bool) (events : List Event) (s : State) (states : List State) (v0 : Vehicle) (n : ℕ)
+    → IsRun rules P found events s states v0 → n < count_of P
+    → IsCalmUnit (IsMatching (found (Begun n)) (plan_of P n)) (unit_at s.vehicle.units (plan_of P n).address) (unit_at (last_state s states).vehicle.units (plan_of P n).address)
+    → GoesOn (plan_of P n) ((core_of rules P (core_start P found) events).recorded (Begun n))
+        ((core_of rules P (core_start P found) events).slots n).talk.place ((core_of rules P (core_start P found) events).slots n).talk.number

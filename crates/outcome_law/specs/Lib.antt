@@ -1,0 +1,4 @@
+pub mod Causes
+pub mod Counting
+pub mod Law
+pub mod Rising
