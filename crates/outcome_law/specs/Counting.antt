@@ -16,7 +16,7 @@ use Rattle.unit_model.specs.Step.{Departure, Refuses, Odd, Fails, Mutes, Busies,
 use Rattle.unit_model.specs.Vehicle.{HeldAnswer, Gateway, Vehicle, unit_at}
 use Rattle.run_model.specs.Link.{Link, is_live}
 use Rattle.run_model.specs.Places.{is_ended}
-use Rattle.run_model.specs.Script.{Place, AtIdent, AtDownload, AtEnd, bytes_at, start_place}
+use Rattle.run_model.specs.Script.{Place, AtIdent, AtDownload, AtBlock, AtEnd, bytes_at, start_place}
 use Rattle.run_model.specs.States.{StateAt, HasRoom, Obeyed, Departed}
 use Rattle.run_model.specs.Talk.{Talk}
 use Rattle.run_model.specs.Ways.{Spoken, Reply, Unheard, words_from, words_in, words_later, on_way, is_empty_words, pending_words, final_word}
@@ -46,9 +46,10 @@ KeptIn None (Some w) = ⊥
 KeptIn (Some u) None = ⊥
 KeptIn (Some u) (Some w) = Kept u w
 
--- behind the erase of a segment a download is not refused
+-- behind the erase of a segment a download is not refused; a block is as long as the unit's number says, or shorter
 abbrev pub Takes : Place → ControlUnit → Type 0
 Takes (AtDownload c) u = (is_locked u ≡ false) × HasRoom c.now u
+Takes (AtBlock c b) u = b.limit ≤ u.block
 Takes place u = Unit {0}
 
 abbrev pub TakesIn : Place → Option ControlUnit → Type 0
@@ -101,7 +102,7 @@ pub record IsHeardCounted (plan : UnitPlan) (t : Talk) (first : ControlUnit) (he
   pub step : Obeyed before (bytes_at plan t.place) said u ⊎ ((d : Departed before (bytes_at plan t.place) said u) × IsCounted d.kind t.busies first.counts u.counts)
   pub on_way : way ≡ pending_words (sid_of (bytes_at plan t.place)) pending ++ final_word said
   pub patience : (t.pendings + pending ≤ 200) ⊎ Rose first.counts.stalled u.counts.stalled
-  pub held : (one : HeldAnswer) → held ≡ one ∷ [] → (t.pendings + pending ≤ one.pending) × ((one.pending ≤ 200) ⊎ Rose first.counts.stalled u.counts.stalled)
+  pub holding : (one : HeldAnswer) → held ≡ one ∷ [] → (t.pendings + pending ≤ one.pending) × ((one.pending ≤ 200) ⊎ Rose first.counts.stalled u.counts.stalled)
 
 -- the gateway refused to deliver it, which was counted
 pub record IsMissedCounted (first : ControlUnit) (way : List Spoken) (u : ControlUnit) : Type 0 where
