@@ -1,3 +1,4 @@
 pub mod Fair
 pub mod Growing
 pub mod Talking
+pub mod Waiting
