@@ -1,3 +1,4 @@
+pub mod Clock
 pub mod Fair
 pub mod Growing
 pub mod Talking
