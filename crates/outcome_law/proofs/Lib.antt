@@ -1,3 +1,4 @@
+pub mod Asking
 pub mod Clock
 pub mod Fair
 pub mod Growing
