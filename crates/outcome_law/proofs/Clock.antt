@@ -41,7 +41,7 @@ some_cons {T} x xs e = false≢true (sym (ap is_cons e))
 abbrev pub turned : ℕ → HeldAnswer → HeldAnswer
 turned tick h = if is_turn tick h then record h { pending = h.pending + 1 } else h
 
-turned_unit : (tick : ℕ) (h : HeldAnswer) → (turned tick h).unit ≡ h.unit
+pub turned_unit : (tick : ℕ) (h : HeldAnswer) → (turned tick h).unit ≡ h.unit
 turned_unit tick h = elim (cases_Bool (is_turn tick h)) [ inl e ↦ rw e refl | inr e ↦ rw e refl ]
 
 on_none : (a tick : ℕ) (held : List HeldAnswer) → held_of a held ≡ [] → held_of a (held_on tick held) ≡ []
@@ -61,7 +61,7 @@ abbrev tail_of : List HeldAnswer → List HeldAnswer
 tail_of [] = []
 tail_of (x ∷ xs) = xs
 
-on_one : (a tick : ℕ) (held : List HeldAnswer) (one : HeldAnswer) → held_of a held ≡ one ∷ [] → held_of a (held_on tick held) ≡ turned tick one ∷ []
+pub on_one : (a tick : ℕ) (held : List HeldAnswer) (one : HeldAnswer) → held_of a held ≡ one ∷ [] → held_of a (held_on tick held) ≡ turned tick one ∷ []
 on_one a tick [] one e = absurd (some_cons one [] (sym e))
 on_one a tick (h ∷ hs) one e = elim (cases_Bool (h.unit == a)) [
   | inl f ↦
@@ -73,7 +73,7 @@ on_one a tick (h ∷ hs) one e = elim (cases_Bool (h.unit == a)) [
       rw g (on_one a tick hs one (rw f at e))
 ]
 
-one_is : (a : ℕ) (held : List HeldAnswer) (x y : HeldAnswer) → held_of a held ≡ x ∷ [] → held_of a held ≡ y ∷ [] → y ≡ x
+pub one_is : (a : ℕ) (held : List HeldAnswer) (x y : HeldAnswer) → held_of a held ≡ x ∷ [] → held_of a held ≡ y ∷ [] → y ≡ x
 one_is a held x y e f = ap (head_of x) (sym f ∙ e)
 
 -- ------ what a tick raises

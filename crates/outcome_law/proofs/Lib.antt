@@ -2,5 +2,6 @@ pub mod Asking
 pub mod Clock
 pub mod Fair
 pub mod Growing
+pub mod Silence
 pub mod Talking
 pub mod Waiting
