@@ -328,7 +328,7 @@ gateway_up v w denied silent units = record {
   units = units;
 }
 
-moved_up : (v w x : Vehicle) → x ≡ w → VehicleGrows v w → VehicleGrows v x
+pub moved_up : (v w x : Vehicle) → x ≡ w → VehicleGrows v w → VehicleGrows v x
 moved_up v w x is up = subst (λ (y : Vehicle). VehicleGrows v y) (sym is) up
 
 nothing_up : (old new : Vehicle) (out : List Word) → Nothing old new out → VehicleGrows old new
