@@ -2,6 +2,7 @@ pub mod Asking
 pub mod Clock
 pub mod Fair
 pub mod Growing
+pub mod Runs
 pub mod Silence
 pub mod Steps
 pub mod Talking

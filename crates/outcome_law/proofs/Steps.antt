@@ -577,10 +577,10 @@ module _ (rules : LinkRules) (P : List UnitPlan) (found : Entry → Bool) (c : C
 
   -- no answer is awaited while the link is not up
   idle_awaits : (step : Tend) (n : ℕ) (w : Vehicle) → n < count_of P → is_up c.link.phase ≡ false → AwaitedAfter (Tended step) n w
-  idle_awaits step n w lt down losses live o a = absurd (both_ways _ (joint.sane.down down n lt o) a)
+  idle_awaits step n w lt down losses lives o a = absurd (both_ways _ (joint.sane.down down n lt o) a)
 
   said_awaits : (n : ℕ) (w : Vehicle) → n < count_of P → may_tend c (Said false) ≡ true → FeedsOr false (alive_say_bytes rules.tester) v w → VehicleGrows v w → SameUnits v.units w.units → AwaitedAfter (Tended (Said false)) n w
-  said_awaits n w lt may did grows same losses live o a =
+  said_awaits n w lt may did grows same losses alive o a =
       let up = (and_parts _ _ may).0 in
       let lives = open_live c.link.phase (up_open c.link.phase up) in
       let s = alive_sends rules.tester v w (between rules c.link v.gateway (joint.connected lives)) did in

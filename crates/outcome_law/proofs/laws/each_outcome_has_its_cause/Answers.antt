@@ -1,5 +1,5 @@
-use Rattle.outcome_law.proofs.Steps.{unit_step}
+use Rattle.outcome_law.proofs.Runs.{cause_law}
 use Rattle.outcome_law.proofs.laws.each_outcome_has_its_cause.Goals as goal
 
 pub returns : goal.returns
-returns c = ?
+returns c = record { causes = cause_law }
