@@ -1,6 +1,7 @@
 pub mod Asking
 pub mod Clock
 pub mod Fair
+pub mod Fairness
 pub mod Growing
 pub mod Runs
 pub mod Silence

@@ -1,4 +1,5 @@
 pub mod Causes
 pub mod Counting
 pub mod Law
+pub mod LinkCounting
 pub mod Rising
