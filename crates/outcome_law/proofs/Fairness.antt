@@ -82,13 +82,13 @@ module _ (old new : ℕ → ℕ) where
   for_none = record { whole = whole_none; all = tt }
 
   for_message : (unit t : ℕ) (body : List ℕ) → CanSend body → IsFor (message_bytes unit t body)
-  for_message unit t body can = record { whole = message_whole unit t body can; all = by_frames _ _ (message_frames unit t body can) (tt, tt) }
+  for_message unit t body can = record { whole = message_whole unit t body can; all = by_frames (message_bytes unit t body) _ (message_frames unit t body can) (tt, tt) }
 
   for_nack : (t tester code : ℕ) → IsFor (nack_bytes t tester code)
-  for_nack t tester code = record { whole = nack_whole t tester code; all = by_frames _ _ (nack_frames t tester code) (tt, tt) }
+  for_nack t tester code = record { whole = nack_whole t tester code; all = by_frames (nack_bytes t tester code) _ (nack_frames t tester code) (tt, tt) }
 
   for_ack : (t tester : ℕ) → IsFor (ack_bytes t tester)
-  for_ack t tester = record { whole = ack_whole t tester; all = by_frames _ _ (ack_frames t tester) (tt, tt) }
+  for_ack t tester = record { whole = ack_whole t tester; all = by_frames (ack_bytes t tester) _ (ack_frames t tester) (tt, tt) }
 
   for_released : (tester : ℕ) (hs : List HeldAnswer) → Each (λ h. CanSend h.body) hs → IsFor (released_bytes tester hs)
   for_released tester [] all = for_none
@@ -97,7 +97,7 @@ module _ (old new : ℕ → ℕ) where
   for_answer : (tester entity code : ℕ) → (code ≡ 16) ⊎ Rose (old code) (new code) → IsFor (activated_bytes tester entity code)
   for_answer tester entity code how =
       let one = stream_one 6 (payload_of (Activated tester entity code None)) (omega arith) refl in
-      record { whole = record { rest = λ i. (one i).rest; bad = λ i. (one i).bad }; all = by_frames _ _ (λ i. (one i).frames) (how, tt) }
+      record { whole = record { rest = λ i. (one i).rest; bad = λ i. (one i).bad }; all = by_frames (activated_bytes tester entity code) _ (λ i. (one i).frames) (how, tt) }
 
   pub record Keeps (got : List ℕ) (g : Gateway) : Type 0 where
     pub ready : IsFor (got ++ g.ready)

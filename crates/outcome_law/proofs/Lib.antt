@@ -3,6 +3,8 @@ pub mod Clock
 pub mod Fair
 pub mod Fairness
 pub mod Growing
+pub mod Linking
+pub mod Losing
 pub mod Runs
 pub mod Silence
 pub mod Steps

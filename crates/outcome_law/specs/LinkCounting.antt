@@ -14,7 +14,7 @@ use Rattle.bay_core.specs.declared.event.Heard.{Heard}
 use Rattle.bay_core.specs.declared.event.Heard.TheVariants.{Kept, Quiet, Piece, Lost}
 use Rattle.bay_core.specs.declared.event.Tend.{Tend}
 use Rattle.bay_core.specs.declared.event.Tend.TheVariants.{Dialed, Asked, Said, Polled}
-use Rattle.outcome_law.specs.Rising.{RoseBy, Rose}
+use Rattle.outcome_law.specs.Rising.{RoseBy, Rose, Grows}
 
 -- ------ faults of the link
 -- the bytes of a receive are not the next ones due: they were garbled on the way
@@ -96,5 +96,6 @@ IsPhaseCounted old new (Denied code) = Rose (old code) (new code)
 -- the link, after so many faults
 pub record IsLinkCounted (l : Link) (faults : ℕ) (first now : Vehicle) : Type 0 where
   pub losses : AreLossesCounted l faults first now
+  pub denials : (code : ℕ) → Grows (first.gateway.denied code) (now.gateway.denied code)
   pub denied : IsPhaseCounted first.gateway.denied now.gateway.denied l.phase
   pub fair : is_live l.phase ≡ true → AreFair first.gateway.denied now.gateway.denied l now.gateway
