@@ -1,5 +1,6 @@
 pub mod Asking
 pub mod Clock
+pub mod Ending
 pub mod Fair
 pub mod Fairness
 pub mod Growing

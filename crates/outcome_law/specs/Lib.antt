@@ -2,4 +2,5 @@ pub mod Causes
 pub mod Counting
 pub mod Law
 pub mod LinkCounting
+pub mod Outcomes
 pub mod Rising
