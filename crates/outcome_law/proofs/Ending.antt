@@ -185,10 +185,6 @@ module _ (rules : LinkRules) (P : List UnitPlan) (c : Core) (accepted : IsAccept
   end_after : (n : ℕ) (o : Outcome) → (slots_own rules P e c n).talk.place ≡ AtEnd o → ((core_after rules P e c).slots n).talk.place ≡ AtEnd o
   end_after n o is = by_loss (λ s. s.talk.place ≡ AtEnd o) n is (lost_end (plan_of P n) (recorded_after e c.recorded (entry.Begun n)) (slots_own rules P e c n).talk o is)
 
--- the event's own unit had no outcome
-pub own_none : (P : List UnitPlan) (c : Core) (e : Event) (u : ℕ) → Type 0
-own_none P c e u = (c.slots u).outcome ≡ None
-
 none_some : (o : Outcome) (s : Slot) → s.outcome ≡ None → s.outcome ≡ Some o → ⊥
 none_some o s a b = false≢true (ap (is_some {T = Outcome}) (sym a ∙ b))
 
@@ -201,3 +197,172 @@ with_own u n s slots e = rw e refl
 is_none_of : (o : Option Outcome) → is_none o ≡ true → o ≡ None
 is_none_of None e = refl
 is_none_of (Some x) e = absurd (false≢true e)
+
+-- ------ an event
+module _ (rules : LinkRules) (P : List UnitPlan) (c : Core) (accepted : IsAccepted P) where
+  own_some : (u n : ℕ) (s : Slot) → (is_some (c.slots u).outcome ≡ true → is_some s.outcome ≡ true) → is_some (c.slots n).outcome ≡ true → is_some (with_slot u s c.slots n).outcome ≡ true
+  own_some u n s own some = elim (cases_Bool (n == u)) [
+    | inl e ↦ rw e (own (ap (λ (k : ℕ). is_some (c.slots k).outcome) (sym (eqb-true n u e)) ∙ some))
+    | inr e ↦ rw e some
+  ]
+
+  own_outcome : (e : Event) (n : ℕ) → is_some (c.slots n).outcome ≡ true → is_some (slots_own rules P e c n).outcome ≡ true
+  own_outcome (Claimed u) n some = own_some u n _ (λ x. x) some
+  own_outcome (Began u) n some = own_some u n _ (λ x. x) some
+  own_outcome (Sent u place lost) n some = own_some u n _ (λ x. x) some
+  own_outcome (Collected u h) n some = own_some u n _ (λ x. x) some
+  own_outcome (Tended step) n some = some
+  own_outcome (Completed u) n some = own_some u n _ (λ x. refl) some
+  own_outcome (DiskFailed u entry) n some = own_some u n _ (λ x. x) some
+  own_outcome (Ended u why) n some = own_some u n _ (λ x. refl) some
+
+  -- a unit that has an outcome is not recorded complete any more
+  complete_same : (e : Event) → is_allowed P c e ≡ true → (n : ℕ) → is_some (c.slots n).outcome ≡ true → recorded_after e c.recorded (entry.Complete n) ≡ c.recorded (entry.Complete n)
+  complete_same (Claimed u) ok n some = refl
+  complete_same (Began u) ok n some = refl
+  complete_same (Sent u place lost) ok n some = refl
+  complete_same (Collected u h) ok n some = refl
+  complete_same (Tended step) ok n some = refl
+  complete_same (DiskFailed u entry) ok n some = refl
+  complete_same (Ended u why) ok n some = refl
+  complete_same (Completed u) ok n some = elim (cases_Bool (n == u)) [
+    | inl e ↦ absurd (false≢true (ap (is_some {T = Outcome}) (sym (open_none P c u (finish_facts P c u ok).opened)) ∙ ap (λ (k : ℕ). is_some (c.slots k).outcome) (sym (eqb-true n u e)) ∙ some))
+    | inr e ↦ rw e refl
+  ]
+
+  -- what an outcome rests on stays
+  rest_on : (e : Event) → is_allowed P c e ≡ true → (n : ℕ) (o : Outcome) → ((c.slots n).talk.place ≡ AtEnd o → (slots_own rules P e c n).talk.place ≡ AtEnd o) → ((c.slots n).faulted ≡ true → (slots_own rules P e c n).faulted ≡ true) → Rests P c n o → Rests P (core_after rules P e c) n o
+  rest_on e ok n o place fault (inl at) = inl (end_after rules P c accepted e ok n o (place at))
+  rest_on e ok n o place fault (inr (inl (f, is))) = inr (inl (same_fault_after rules P c accepted e ok n ∙ fault f, is))
+  rest_on e ok n o place fault (inr (inr (inl stop))) = inr (inr (inl (stop_stays c.stop o e rules (link_after rules P e c.link) stop)))
+  rest_on e ok n o place fault (inr (inr (inr (inl none)))) = inr (inr (inr (inl none)))
+  rest_on e ok n o place fault (inr (inr (inr (inr (inl (by, is, b)))))) = inr (inr (inr (inr (inl (by, is, record {
+    listed = b.listed;
+    incomplete = complete_same e ok by b.ended ∙ b.incomplete;
+    lowest = λ w has lt. more_recorded e c.recorded (entry.Complete w) (b.lowest w has lt);
+    ended = ap (is_some {T = Outcome}) (same_outcome_after rules P c accepted e ok by) ∙ own_outcome e by b.ended;
+  })))))
+  rest_on e ok n o place fault (inr (inr (inr (inr (inr (is, done)))))) = inr (inr (inr (inr (inr (is, more_recorded e c.recorded (entry.Complete n) done)))))
+
+  some_of : (a b : Outcome) → Some a ≡ Some b → a ≡ b
+  some_of a b e = ap (λ (x : Option Outcome). unwrap_or x a) e
+
+  -- by whose slot it is: the own unit had no outcome, so that none stands
+  by_none : (e : Event) → is_allowed P c e ≡ true → (u n : ℕ) (s : Slot) (o : Outcome) → slots_own rules P e c n ≡ with_slot u s c.slots n → s.outcome ≡ (c.slots u).outcome → (c.slots u).outcome ≡ None
+      → ((core_after rules P e c).slots n).outcome ≡ Some o → ((c.slots n).outcome ≡ Some o → Rests P c n o) → Rests P (core_after rules P e c) n o
+  by_none e ok u n s o is same none at old = elim (cases_Bool (n == u)) [
+    | inl x ↦ absurd (none_some o s (same ∙ none) (ap (λ (y : Slot). y.outcome) (sym (is ∙ with_own u n s c.slots x)) ∙ sym (same_outcome_after rules P c accepted e ok n) ∙ at))
+    | inr x ↦
+        let slot : slots_own rules P e c n ≡ c.slots n = is ∙ with_other u n s c.slots x in
+        rest_on e ok n o (λ p. ap (λ (y : Slot). y.talk.place) slot ∙ p) (λ f. ap (λ (y : Slot). y.faulted) slot ∙ f) (old (ap (λ (y : Slot). y.outcome) (sym slot) ∙ sym (same_outcome_after rules P c accepted e ok n) ∙ at))
+  ]
+
+  record_none : (u : ℕ) (x : Entry) → may_record P c u x ≡ true → (c.slots u).outcome ≡ None
+  record_none u (entry.Begun w) ok = open_none P c u (begin_facts P c u (and_parts _ _ ok).1).opened
+  record_none u (entry.Complete w) ok = open_none P c u (finish_facts P c u (and_parts _ _ ok).1).opened
+
+  ended_rests : (u : ℕ) (why : Outcome) → u < count_of P → is_allowed P c (Ended u why) ≡ true → Rests P c u why
+  ended_rests u why lt ok = elim (or_cases _ _ (and_parts _ _ ok).1) [
+        | inr blocked ↦ inr (inr (inr (inr (inl (blocked_is P c u why (accepted.each u lt).ascend blocked)))))
+        | inl three ↦ elim (or_cases _ _ three) [
+          | inr memory ↦ inr (inr (inr (inl (memory_is why memory))))
+          | inl two ↦ elim (or_cases _ _ two) [
+            | inl end ↦ inl (end_is (c.slots u).talk.place why (and_parts _ _ end).1)
+            | inr stop ↦ stopped (c.slots u).faulted refl stop
+          ]
+        ]
+      ]
+    where
+      stopped : (f : Bool) → (c.slots u).faulted ≡ f → (if f then same_outcome DiskFault why else is_stop c.stop why) ≡ true → Rests P c u why
+      stopped true f e = inr (inl (f, sym (same_is DiskFault why e)))
+      stopped false f e = inr (inr (inl (stop_is c.stop why e)))
+
+  pub rests_step : (e : Event) → is_allowed P c e ≡ true → (n : ℕ) (o : Outcome) → n < count_of P → ((core_after rules P e c).slots n).outcome ≡ Some o → ((c.slots n).outcome ≡ Some o → Rests P c n o) → Rests P (core_after rules P e c) n o
+  rests_step (Claimed u) ok n o lt at old = by_none (Claimed u) ok u n _ o refl refl (claim_facts P c u (and_parts _ _ (and_parts _ _ ok).0).1).none at old
+  rests_step (Began u) ok n o lt at old = by_none (Began u) ok u n _ o refl refl (open_none P c u (begin_facts P c u ok).opened) at old
+  rests_step (Sent u place lost) ok n o lt at old = by_none (Sent u place lost) ok u n _ o refl refl (sent_facts P c u place lost ok).none at old
+  rests_step (Collected u h) ok n o lt at old = by_none (Collected u h) ok u n _ o refl refl (collected_facts P c u h ok).none at old
+  rests_step (Tended step) ok n o lt at old = rest_on (Tended step) ok n o (λ p. p) (λ f. f) (old (sym (same_outcome_after rules P c accepted (Tended step) ok n) ∙ at))
+  rests_step (DiskFailed u x) ok n o lt at old = by_none (DiskFailed u x) ok u n _ o refl refl (record_none u x ok) at old
+  rests_step (Completed u) ok n o lt at old = elim (cases_Bool (n == u)) [
+    | inl e ↦
+        let is : o ≡ Complete = sym (some_of Complete o (ap (λ (y : Slot). y.outcome) (sym (with_own u n (record (c.slots u) { outcome = Some Complete }) c.slots e)) ∙ sym (same_outcome_after rules P c accepted (Completed u) ok n) ∙ at)) in
+        inr (inr (inr (inr (inr (is, ap (λ (b : Bool). b || c.recorded (entry.Complete n)) e)))))
+    | inr e ↦
+        let slot : slots_own rules P (Completed u) c n ≡ c.slots n = with_other u n _ c.slots e in
+        rest_on (Completed u) ok n o (λ p. ap (λ (y : Slot). y.talk.place) slot ∙ p) (λ f. ap (λ (y : Slot). y.faulted) slot ∙ f) (old (ap (λ (y : Slot). y.outcome) (sym slot) ∙ sym (same_outcome_after rules P c accepted (Completed u) ok n) ∙ at))
+  ]
+  rests_step (Ended u why) ok n o lt at old = elim (cases_Bool (n == u)) [
+    | inl e ↦
+        let here : n ≡ u = eqb-true n u e in
+        let slot : slots_own rules P (Ended u why) c n ≡ record (c.slots u) { outcome = Some why } = with_own u n (record (c.slots u) { outcome = Some why }) c.slots e in
+        let is : why ≡ o = some_of why o (ap (λ (y : Slot). y.outcome) (sym slot) ∙ sym (same_outcome_after rules P c accepted (Ended u why) ok n) ∙ at) in
+        let rests : Rests P c n o = subst (λ (x : ℕ × Outcome). Rests P c x.0 x.1) (λ i. (sym here i, is i)) (ended_rests u why (subst (λ (k : ℕ). k < count_of P) here lt) ok) in
+        rest_on (Ended u why) ok n o (λ p. ap (λ (y : Slot). y.talk.place) slot ∙ ap (λ (k : ℕ). (c.slots k).talk.place) (sym here) ∙ p) (λ f. ap (λ (y : Slot). y.faulted) slot ∙ ap (λ (k : ℕ). (c.slots k).faulted) (sym here) ∙ f) rests
+    | inr e ↦
+        let slot : slots_own rules P (Ended u why) c n ≡ c.slots n = with_other u n _ c.slots e in
+        rest_on (Ended u why) ok n o (λ p. ap (λ (y : Slot). y.talk.place) slot ∙ p) (λ f. ap (λ (y : Slot). y.faulted) slot ∙ f) (old (ap (λ (y : Slot). y.outcome) (sym slot) ∙ sym (same_outcome_after rules P c accepted (Ended u why) ok n) ∙ at))
+  ]
+
+  -- a unit is faulted only where an append failed
+  own_fault : (u n : ℕ) (s : Slot) → (s.faulted ≡ (c.slots u).faulted) → (with_slot u s c.slots n).faulted ≡ (c.slots n).faulted
+  own_fault u n s same = elim (cases_Bool (n == u)) [
+    | inl e ↦ rw e (same ∙ ap (λ (k : ℕ). (c.slots k).faulted) (sym (eqb-true n u e)))
+    | inr e ↦ rw e refl
+  ]
+
+  fault_own : (e : Event) (n : ℕ) → (slots_own rules P e c n).faulted ≡ true → ((c.slots n).faulted ≡ true) ⊎ (is_disk_failure e ≡ true)
+  fault_own (Claimed u) n f = inl (sym (own_fault u n _ refl) ∙ f)
+  fault_own (Began u) n f = inl (sym (own_fault u n _ refl) ∙ f)
+  fault_own (Sent u place lost) n f = inl (sym (own_fault u n _ refl) ∙ f)
+  fault_own (Collected u h) n f = inl (sym (own_fault u n _ refl) ∙ f)
+  fault_own (Tended step) n f = inl f
+  fault_own (Completed u) n f = inl (sym (own_fault u n _ refl) ∙ f)
+  fault_own (DiskFailed u entry) n f = inr refl
+  fault_own (Ended u why) n f = inl (sym (own_fault u n _ refl) ∙ f)
+
+  pub fault_step : (e : Event) → is_allowed P c e ≡ true → (n : ℕ) → ((core_after rules P e c).slots n).faulted ≡ true → ((c.slots n).faulted ≡ true) ⊎ (is_disk_failure e ≡ true)
+  fault_step e ok n f = fault_own e n (sym (same_fault_after rules P c accepted e ok n) ∙ f)
+
+-- ------ what stopped the run
+abbrev pub IsStopCounted : ℕ → Vehicle → Vehicle → Outcome → Type 0
+IsStopCounted faults first now (LinkLost times) = IsLostBy times faults first now
+IsStopCounted faults first now (LinkRefused code) = Rose (first.gateway.denied code) (now.gateway.denied code)
+IsStopCounted faults first now outcome = Unit {0}
+
+abbrev pub StopCounted : ℕ → Vehicle → Vehicle → Option Outcome → Type 0
+StopCounted faults first now None = Unit {0}
+StopCounted faults first now (Some o) = IsStopCounted faults first now o
+
+stop_on : (faults more : ℕ) (first v w : Vehicle) (o : Outcome) → VehicleGrows v w → IsStopCounted faults first v o → IsStopCounted (faults + more) first w o
+stop_on faults more first v w (LinkLost times) grow (k, losses, count) = (k, omega (arith, losses), rose_then _ _ _ _ count grow.silent)
+stop_on faults more first v w (LinkRefused code) grow rose = rose_then _ _ _ _ rose (grow.denied code)
+stop_on faults more first v w Complete grow is = tt
+stop_on faults more first v w (IdentMismatch a) grow is = tt
+stop_on faults more first v w (Refused a b) grow is = tt
+stop_on faults more first v w (BadAnswer a) grow is = tt
+stop_on faults more first v w (CheckFailed a b c) grow is = tt
+stop_on faults more first v w (Undelivered a) grow is = tt
+stop_on faults more first v w (NoAnswer a) grow is = tt
+stop_on faults more first v w (PendingLimit a) grow is = tt
+stop_on faults more first v w (BusyLimit a) grow is = tt
+stop_on faults more first v w (Blocked a) grow is = tt
+stop_on faults more first v w DiskFault grow is = tt
+stop_on faults more first v w NoMemory grow is = tt
+
+refused_counted : (faults : ℕ) (first w : Vehicle) (p : Phase) → IsPhaseCounted first.gateway.denied w.gateway.denied p → StopCounted faults first w (refused_stop p)
+refused_counted faults first w Down is = tt
+refused_counted faults first w Fresh is = tt
+refused_counted faults first w Waits is = tt
+refused_counted faults first w Up is = tt
+refused_counted faults first w (Denied code) is = is
+
+pub stop_step : (rules : LinkRules) (e : Event) (l : Link) (s : Option Outcome) (faults more : ℕ) (first v w : Vehicle) → VehicleGrows v w → StopCounted faults first v s → IsLinkCounted l (faults + more) first w → StopCounted (faults + more) first w (stop_after s e rules l)
+stop_step rules e l (Some o) faults more first v w grow is link = stop_on faults more first v w o grow is
+stop_step rules e l None faults more first v w grow is link = elim (cases_Bool (is_disk_failure e)) [
+  | inl f ↦ rw f tt
+  | inr f ↦ rw f (elim (cases_Bool (nat_lt rules.relinks l.losses)) [
+    | inl many ↦ rw many (link.losses.silent, link.losses.losses, link.losses.count)
+    | inr few ↦ rw few (refused_counted (faults + more) first w l.phase link.denied)
+  ])
+]

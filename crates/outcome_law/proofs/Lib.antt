@@ -6,6 +6,7 @@ pub mod Fairness
 pub mod Growing
 pub mod Linking
 pub mod Losing
+pub mod Recorded
 pub mod Runs
 pub mod Silence
 pub mod Steps

@@ -95,7 +95,7 @@ cause_law rules P found events s states v0 run n o lt at =
     ((counted_run rules P found events s states v0 run).units n lt).talk.ended
 
 -- ------ without a departure
-calm_not : (n old new : ℕ) → 1 ≤ n → RoseBy n old new → IsCalm old new → ⊥
+pub calm_not : (n old new : ℕ) → 1 ≤ n → RoseBy n old new → IsCalm old new → ⊥
 calm_not n old new some rose calm = elim (cases_Bool (nat_le new old)) [
   | inr e ↦ let lt : old < new = leb-false new old e in let none : new - old ≡ 0 = rw e at calm in omega (arith, none, lt)
   | inl e ↦
@@ -126,7 +126,7 @@ calm_caused plan begun u now (outcome.Blocked by) calm never = absurd never
 calm_caused plan begun u now outcome.DiskFault calm never = absurd never
 calm_caused plan begun u now outcome.NoMemory calm never = absurd never
 
-calm_end : (Is : ControlUnit → Type 0) (plan : UnitPlan) (begun : Bool) (first now : Option ControlUnit) (o : Outcome) → IsCalmUnit Is first now → IsCaused plan begun first now o → IsUnfitEnd plan begun first o
+pub calm_end : (Is : ControlUnit → Type 0) (plan : UnitPlan) (begun : Bool) (first now : Option ControlUnit) (o : Outcome) → IsCalmUnit Is first now → IsCaused plan begun first now o → IsUnfitEnd plan begun first o
 calm_end Is plan begun None None o calm is = absurd calm
 calm_end Is plan begun None (Some w) o calm is = absurd is
 calm_end Is plan begun (Some u) None o calm is = absurd is
@@ -172,7 +172,7 @@ other_not plan begun found u did fresh m other =
     let value : ident_of u.idents other.wanted.did ≡ Some other.value = ap (ident_of u.idents) (sym other.did_is) ∙ other.value_is in
     other.other (subst (λ (x : Option (List ℕ)). MatchOption x ⊥ (λ (v : List ℕ). Contains other.wanted.values v)) value has)
 
-matching_end : (plan : UnitPlan) (begun found : Bool) (first now : Option ControlUnit) (o : Outcome) → (begun ≡ false → found ≡ false) → IsCalmUnit (IsMatching found plan) first now → IsUnfitEnd plan begun first o → ⊥
+pub matching_end : (plan : UnitPlan) (begun found : Bool) (first now : Option ControlUnit) (o : Outcome) → (begun ≡ false → found ≡ false) → IsCalmUnit (IsMatching found plan) first now → IsUnfitEnd plan begun first o → ⊥
 matching_end plan begun found None now o fresh calm is = is
 matching_end plan begun found (Some u) None o fresh calm is = calm
 matching_end plan begun found (Some u) (Some w) o fresh calm (inl unfit) = unfit_not plan begun found u o fresh calm.0 unfit
