@@ -23,12 +23,12 @@ use Rattle.bay_core.specs.Stops.{has_failure, IsStopCause}
 use Rattle.bay_core.specs.declared.event.Event.{Event}
 use Rattle.outcome_law.proofs.Ending.{Rests, rests_step, fault_step, IsStopCounted, StopCounted, stop_step}
 use Rattle.outcome_law.proofs.Linking.{link_step}
-use Rattle.outcome_law.proofs.Runs.{cause_law, counted_run, calm_end, calm_not, matching_end}
+use Rattle.outcome_law.proofs.Runs.{cause_law, calm_not, no_cause}
 use Rattle.outcome_law.proofs.Steps.{moves_grow}
 use Rattle.outcome_law.specs.Causes.{IsCaused}
 use Rattle.outcome_law.specs.Law.{IsRun, last_state, IsCalmUnit}
 use Rattle.outcome_law.specs.LinkCounting.{is_fault, fault_of, faults_of, IsLostBy, IsLinkCounted}
-use Rattle.outcome_law.specs.Outcomes.{IsBlockedBy, IsOutcomeCaused, OutcomeLaw, LinkCountingLaw, IsUntroubled, MatchesAt, UntroubledLaw}
+use Rattle.outcome_law.specs.Outcomes.{IsBlockedBy, IsOutcomeCaused, OutcomeLaw, LinkCountingLaw, IsUntroubled, MatchesAt, IsOfRun, RecordedLaw, UntroubledLaw}
 use Rattle.outcome_law.specs.Rising.{RoseBy, Rose}
 
 pub link_counting_law : LinkCountingLaw
@@ -170,9 +170,6 @@ by_stop rules plan c n failed faults first now NoMemory cause counted = absurd c
 pub outcome_law : OutcomeLaw
 outcome_law rules P found events s states v0 n o run lt at = go ((ended_run rules P found events s states v0 run).rests n o lt at)
   where
-    Goal : Outcome → Type 0
-    Goal x = IsOutcomeCaused rules (plan_of P n) (core_of rules P (core_start P found) events) n (has_failure events) (faults_of events s states) s.vehicle (last_state s states).vehicle x
-
     go : Rests P (core_of rules P (core_start P found) events) n o → IsOutcomeCaused rules (plan_of P n) (core_of rules P (core_start P found) events) n (has_failure events) (faults_of events s states) s.vehicle (last_state s states).vehicle o
     go (inl place) =
         let is = cause_law rules P found events s states v0 run n o lt place in
@@ -189,23 +186,13 @@ outcome_law rules P found events s states v0 n o run lt at = go ((ended_run rule
 -- ------ nothing failed
 module _ (rules : LinkRules) (P : List UnitPlan) (found : Entry → Bool) (events : List Event) (s : State) (states : List State) (v0 : Vehicle) (n : ℕ) (run : IsRun rules P found events s states v0) (failed : has_failure events ≡ false) (faults : faults_of events s states ≡ 0)
     (calm : IsVehicleCalm s.vehicle (last_state s states).vehicle) (matching : MatchesAt (found (entry.Begun n)) (plan_of P n) (unit_at s.vehicle.units (plan_of P n).address)) where
-  abbrev c : Core
-  c = core_of rules P (core_start P found) events
-
   calm_unit : (plan : UnitPlan) (begun : Bool) (fo wo : Option ControlUnit) → MatchesAt begun plan fo → IsUnitCalm fo wo → IsCalmUnit (IsMatching begun plan) fo wo
   calm_unit plan begun None wo m is = absurd m
   calm_unit plan begun (Some u) None m is = absurd is
   calm_unit plan begun (Some u) (Some w) m is = (m, is)
 
   never : (o : Outcome) → IsCaused (plan_of P n) ((core_of rules P (core_start P found) events).recorded (entry.Begun n)) (unit_at s.vehicle.units (plan_of P n).address) (unit_at (last_state s states).vehicle.units (plan_of P n).address) o → ⊥
-  never o is =
-      let unit = calm_unit (plan_of P n) (found (entry.Begun n)) (unit_at s.vehicle.units (plan_of P n).address) (unit_at (last_state s states).vehicle.units (plan_of P n).address) matching (calm.units (plan_of P n).address) in
-      matching_end (plan_of P n) ((core_of rules P (core_start P found) events).recorded (entry.Begun n)) (found (entry.Begun n)) (unit_at s.vehicle.units (plan_of P n).address) (unit_at (last_state s states).vehicle.units (plan_of P n).address) o
-      (λ none. fresh none (cases_Bool (found (entry.Begun n)))) unit (calm_end (IsMatching (found (entry.Begun n)) (plan_of P n)) (plan_of P n) _ _ _ o unit is)
-    where
-      fresh : (core_of rules P (core_start P found) events).recorded (entry.Begun n) ≡ false → (found (entry.Begun n) ≡ true) ⊎ (found (entry.Begun n) ≡ false) → found (entry.Begun n) ≡ false
-      fresh none (inr e) = e
-      fresh none (inl e) = absurd (both_ways _ none ((counted_run rules P found events s states v0 run).more (entry.Begun n) e))
+  never o is = no_cause rules P found events s states v0 n o run (calm_unit (plan_of P n) (found (entry.Begun n)) (unit_at s.vehicle.units (plan_of P n).address) (unit_at (last_state s states).vehicle.units (plan_of P n).address) matching (calm.units (plan_of P n).address)) is
 
   untroubled : (o : Outcome) → IsOutcomeCaused rules (plan_of P n) (core_of rules P (core_start P found) events) n (has_failure events) (faults_of events s states) s.vehicle (last_state s states).vehicle o → IsUntroubled o
   untroubled Complete is = tt
@@ -225,3 +212,23 @@ module _ (rules : LinkRules) (P : List UnitPlan) (found : Entry → Bool) (event
 
 pub untroubled_law : UntroubledLaw
 untroubled_law rules P found events s states v0 n o run lt at failed faults calm matching = untroubled rules P found events s states v0 n run failed faults calm matching o (outcome_law rules P found events s states v0 n o run lt at)
+
+-- ------ of a unit that matches and is calm
+pub recorded_law : RecordedLaw
+recorded_law rules P found events s states v0 n o run lt at calm = go o (outcome_law rules P found events s states v0 n o run lt at)
+  where
+    go : (o : Outcome) → IsOutcomeCaused rules (plan_of P n) (core_of rules P (core_start P found) events) n (has_failure events) (faults_of events s states) s.vehicle (last_state s states).vehicle o → IsOfRun o
+    go Complete is = tt
+    go NoMemory is = tt
+    go (Blocked by) is = tt
+    go DiskFault is = tt
+    go (LinkLost times) is = tt
+    go (LinkRefused code) is = tt
+    go (Refused sid nrc) is = no_cause rules P found events s states v0 n (Refused sid nrc) run calm is
+    go (BadAnswer sid) is = no_cause rules P found events s states v0 n (BadAnswer sid) run calm is
+    go (CheckFailed routine segment status) is = no_cause rules P found events s states v0 n (CheckFailed routine segment status) run calm is
+    go (NoAnswer sid) is = no_cause rules P found events s states v0 n (NoAnswer sid) run calm is
+    go (PendingLimit sid) is = no_cause rules P found events s states v0 n (PendingLimit sid) run calm is
+    go (BusyLimit sid) is = no_cause rules P found events s states v0 n (BusyLimit sid) run calm is
+    go (Undelivered code) is = no_cause rules P found events s states v0 n (Undelivered code) run calm is
+    go (IdentMismatch did) is = no_cause rules P found events s states v0 n (IdentMismatch did) run calm is

@@ -14,15 +14,17 @@ use Rattle.flash_plan.specs.declared.unit.LinkRules.{LinkRules}
 use Rattle.flash_plan.specs.declared.unit.Segment.{Segment}
 use Rattle.flash_plan.specs.declared.unit.UnitPlan.{UnitPlan}
 use Rattle.flash_plan.specs.declared.unit.Wanted.{Wanted}
+use Rattle.uds_codec.specs.Answer.{Verdict, Later, Again, Refusal, Good, Bad_status, Strange, judge}
 use Rattle.uds_codec.specs.Key.{all_zero, level_of}
-use Rattle.unit_model.specs.Unit.{ControlUnit, Counts, has_key, ident_of, LAST_COUNT}
+use Rattle.unit_model.specs.Unit.{ControlUnit, Counts, has_key, ident_of, LAST_COUNT, obedient}
 use Rattle.unit_model.specs.Vehicle.{Vehicle, unit_at}
 use Rattle.run_model.specs.Entries.{with_entry}
 use Rattle.run_model.specs.Matching.{IsMatching, IsFitting, HasIdent, HasValue}
 use Rattle.run_model.specs.Places.{is_ended}
-use Rattle.run_model.specs.Script.{Place, AtIdent, AtBegin, AtProgram, AtSeed, AtKey, AtErase, AtDownload, AtBlock, AtExit, AtCheck, AtFinish, AtReset, AtDone, AtEnd, start_place}
+use Rattle.run_model.specs.Script.{Place, AtIdent, AtBegin, AtProgram, AtSeed, AtKey, AtErase, AtDownload, AtBlock, AtExit, AtCheck, AtFinish, AtReset, AtDone, AtEnd, bytes_at, place_next, start_place}
 use Rattle.run_model.specs.States.{HasRoom}
 use Rattle.run_model.specs.Troubles.{IsCalm, AreCalm, trouble}
+use Rattle.unit_session.proofs.Keeps.{left_judged}
 use Rattle.unit_session.specs.Left.{requests_left, left_for}
 use Rattle.bay_core.proofs.OneStep.{step_law, core_law}
 use Rattle.bay_core.specs.Core.{Core, core_start, core_after, core_of, recorded_after}
@@ -32,11 +34,12 @@ use Rattle.bay_core.specs.Legal.{is_allowed, is_legal}
 use Rattle.bay_core.specs.Moves.{Moves}
 use Rattle.bay_core.specs.declared.event.Event.TheVariants.{Claimed, Began, Sent, Collected, Tended, Completed, DiskFailed, Ended}
 use Rattle.bay_core.specs.declared.event.Event.{Event}
-use Rattle.outcome_law.proofs.Growing.{unit_up_same}
+use Rattle.outcome_law.proofs.Fair.{IsFair, IsFairEnd, fair}
+use Rattle.outcome_law.proofs.Growing.{unit_up_same, make_same}
 use Rattle.outcome_law.proofs.Steps.{start_counted, unit_step}
 use Rattle.outcome_law.specs.Causes.{Unfit, lacks_ident, lacks_level, other_key, stays_locked, lacks_room, other_check, odd_seed, odd_block, OtherIdent, IsCaused, IsCausedBy}
 use Rattle.outcome_law.specs.Counting.{IsEndCaused, AreUnitsCounted}
-use Rattle.outcome_law.specs.Law.{last_state, IsRun, EndsCaused, CauseLaw, CountingLaw, IsCalmUnit, AnyUnit, IsUnfitEnd, CalmLaw, GoesOn, DoneLaw}
+use Rattle.outcome_law.specs.Law.{last_state, IsRun, EndsCaused, CauseLaw, CountingLaw, IsCalmUnit, AnyUnit, IsUnfitEnd, CalmLaw, MatchingLaw, AnswersWell, ObedientLaw, GoesOn, DoneLaw}
 use Rattle.outcome_law.specs.Rising.{RoseBy, Rose}
 
 -- ------ records only grow
@@ -210,6 +213,21 @@ none_left plan (AtCheck c) e z = absurd (omega (arith, z))
 none_left plan AtFinish e z = absurd (omega (arith, z))
 none_left plan AtReset e z = absurd (omega (arith, z))
 
+pub fresh_found : (rules : LinkRules) (P : List UnitPlan) (found : Entry → Bool) (events : List Event) (s : State) (states : List State) (v0 : Vehicle) (n : ℕ) → IsRun rules P found events s states v0
+    → (core_of rules P (core_start P found) events).recorded (Begun n) ≡ false → found (Begun n) ≡ false
+fresh_found rules P found events s states v0 n run none = elim (cases_Bool (found (Begun n))) [ inr e ↦ e | inl e ↦ absurd (both_ways _ none ((counted_run rules P found events s states v0 run).more (Begun n) e)) ]
+
+-- a cause has no place where it matches and is calm
+pub no_cause : (rules : LinkRules) (P : List UnitPlan) (found : Entry → Bool) (events : List Event) (s : State) (states : List State) (v0 : Vehicle) (n : ℕ) (o : Outcome) → IsRun rules P found events s states v0
+    → IsCalmUnit (IsMatching (found (Begun n)) (plan_of P n)) (unit_at s.vehicle.units (plan_of P n).address) (unit_at (last_state s states).vehicle.units (plan_of P n).address)
+    → IsCaused (plan_of P n) ((core_of rules P (core_start P found) events).recorded (Begun n)) (unit_at s.vehicle.units (plan_of P n).address) (unit_at (last_state s states).vehicle.units (plan_of P n).address) o → ⊥
+no_cause rules P found events s states v0 n o run calm is =
+    matching_end (plan_of P n) ((core_of rules P (core_start P found) events).recorded (Begun n)) (found (Begun n)) (unit_at s.vehicle.units (plan_of P n).address) (unit_at (last_state s states).vehicle.units (plan_of P n).address) o
+    (fresh_found rules P found events s states v0 n run) calm (calm_end (IsMatching (found (Begun n)) (plan_of P n)) (plan_of P n) _ _ _ o calm is)
+
+pub matching_law : MatchingLaw
+matching_law rules P found events s states v0 n o run lt calm at = no_cause rules P found events s states v0 n o run calm (cause_law rules P found events s states v0 run n o lt at)
+
 pub done_law : DoneLaw
 done_law rules P found events s states v0 n run lt calm = record {
   goes = goes;
@@ -220,15 +238,44 @@ done_law rules P found events s states v0 n run lt calm = record {
     goes : is_ended ((core_of rules P (core_start P found) events).slots n).talk.place ≡ false
     goes = elim (cases_Bool (is_ended ((core_of rules P (core_start P found) events).slots n).talk.place)) [
       | inr e ↦ e
-      | inl e ↦
-          let end = ended_is _ e in
-          absurd (matching_end (plan_of P n) _ (found (Begun n)) _ _ end.0 fresh calm
-          (calm_end (IsMatching (found (Begun n)) (plan_of P n)) (plan_of P n) _ _ _ end.0 calm (cause_law rules P found events s states v0 run n end.0 lt end.1)))
+      | inl e ↦ let end = ended_is _ e in absurd (matching_law rules P found events s states v0 n end.0 run lt calm end.1)
     ]
-      where
-        fresh : (core_of rules P (core_start P found) events).recorded (Begun n) ≡ false → found (Begun n) ≡ false
-        fresh none = elim (cases_Bool (found (Begun n))) [ inr e ↦ e | inl e ↦ absurd (both_ways _ none ((counted_run rules P found events s states v0 run).more (Begun n) e)) ]
 
     left : ((core_of rules P (core_start P found) events).slots n).talk.number + requests_left (plan_of P n) ((core_of rules P (core_start P found) events).slots n).talk.place
         ≤ requests_left (plan_of P n) (start_place (plan_of P n) ((core_of rules P (core_start P found) events).recorded (Begun n)))
     left = ((counted_run rules P found events s states v0 run).units n lt).talk.left goes
+
+-- ------ the obedient answers of a unit that matches
+not_end : (plan : UnitPlan) (begun : Bool) (u : ControlUnit) (place : Place) → IsMatching begun plan u → IsFairEnd plan begun u place → is_ended place ≡ false
+not_end plan begun u place m fair_end = elim (cases_Bool (is_ended place)) [
+  | inr e ↦ e
+  | inl e ↦ let end = ended_is place e in absurd (other_end end.0 (subst (λ (p : Place). IsFairEnd plan begun u p) end.1 fair_end))
+]
+  where
+    other_end : (o : Outcome) → IsFairEnd plan begun u (AtEnd o) → ⊥
+    other_end (IdentMismatch did) other = other_not plan begun begun u did (λ e. e) m other
+    other_end outcome.Complete never = never
+    other_end (Refused sid nrc) never = never
+    other_end (BadAnswer sid) never = never
+    other_end (CheckFailed routine segment status) never = never
+    other_end (Undelivered code) never = never
+    other_end (NoAnswer sid) never = never
+    other_end (PendingLimit sid) never = never
+    other_end (BusyLimit sid) never = never
+    other_end (outcome.LinkLost times) never = never
+    other_end (outcome.LinkRefused code) never = never
+    other_end (outcome.Blocked by) never = never
+    other_end outcome.DiskFault never = never
+    other_end outcome.NoMemory never = never
+
+pub obedient_law : ObedientLaw
+obedient_law plan begun place u ok is asked ident needs state takes m =
+    go (judge (bytes_at plan place) (obedient u (bytes_at plan place)).1) refl (fair plan ok begun u u (make_same u) place is asked ident needs state takes)
+  where
+    go : (v : Verdict) → judge (bytes_at plan place) (obedient u (bytes_at plan place)).1 ≡ v → IsFair plan begun u place (obedient u (bytes_at plan place)).0 v → AnswersWell plan place u
+    go Later e f = absurd f
+    go Again e f = absurd f
+    go (Refusal nrc) e f = absurd (unfit_not plan begun begun u _ (λ x. x) m f)
+    go (Good rest) e f = record { rest = rest; good = e; on = not_end plan begun u (place_next plan place rest) m f.0; fewer = left_judged plan place (Good rest) (record { place_is = is; asked = asked }) needs tt }
+    go (Bad_status status) e f = absurd f
+    go Strange e f = absurd (unfit_not plan begun begun u _ (λ x. x) m f)

@@ -1,7 +1,7 @@
 -- The causes of outcomes over every legal list of events.
 use Rattle.std.specs.Prelude.{◌≡◌, ◌⊎◌, ℕ, ◌+◌, ◌<◌, ◌≤◌, Bool, true, false, not, List, [], ◌∷◌, ◌++◌, Option, Some, None, IsTrue, Contains, if◌then◌else◌}
 use Rattle.flash_base.specs.Lists.{same_bytes}
-use Rattle.flash_plan.specs.Plan.{IsAccepted, plan_of, count_of}
+use Rattle.flash_plan.specs.Plan.{IsAccepted, IsAcceptedUnit, plan_of, count_of}
 use Rattle.flash_plan.specs.declared.outcome.Entry.{Entry}
 use Rattle.flash_plan.specs.declared.outcome.Entry.TheVariants.{Begun}
 use Rattle.flash_plan.specs.declared.outcome.Entry.TheVariants as entry
@@ -9,12 +9,14 @@ use Rattle.flash_plan.specs.declared.outcome.Outcome.{Outcome}
 use Rattle.flash_plan.specs.declared.outcome.Outcome.TheVariants.{Complete, IdentMismatch, Refused, BadAnswer, CheckFailed, Undelivered, NoAnswer, PendingLimit, BusyLimit, LinkLost, LinkRefused, DiskFault, NoMemory, Blocked}
 use Rattle.flash_plan.specs.declared.unit.LinkRules.{LinkRules}
 use Rattle.flash_plan.specs.declared.unit.UnitPlan.{UnitPlan}
-use Rattle.unit_model.specs.Unit.{ControlUnit}
+use Rattle.uds_codec.specs.Answer.{Good, judge}
+use Rattle.unit_model.specs.Unit.{ControlUnit, obedient}
 use Rattle.unit_model.specs.Vehicle.{Gateway, Vehicle, unit_at}
 use Rattle.run_model.specs.Matching.{IsMatching}
-use Rattle.run_model.specs.Places.{is_ended}
-use Rattle.run_model.specs.Script.{Place, AtDone, AtEnd, start_place}
+use Rattle.run_model.specs.Places.{IsPlace, IsAsked, is_ended, needs_request}
+use Rattle.run_model.specs.Script.{Place, AtDone, AtEnd, bytes_at, place_next, start_place}
 use Rattle.run_model.specs.Sound.{IsSound}
+use Rattle.run_model.specs.States.{StateAt}
 use Rattle.run_model.specs.Troubles.{AreCalm}
 use Rattle.unit_session.specs.Left.{requests_left}
 use Rattle.bay_core.specs.Core.{Core, core_start, core_after, core_of}
@@ -30,7 +32,7 @@ use Rattle.bay_core.specs.declared.event.Heard.TheVariants.{Kept, Quiet, Piece, 
 use Rattle.bay_core.specs.declared.event.Tend.{Tend}
 use Rattle.bay_core.specs.declared.event.Tend.TheVariants.{Dialed, Asked, Said, Polled}
 use Rattle.outcome_law.specs.Causes.{Unfit, OtherIdent, IsCaused}
-use Rattle.outcome_law.specs.Counting.{AreUnitsCounted}
+use Rattle.outcome_law.specs.Counting.{Takes, IsIdentPlace, AreUnitsCounted}
 
 -- ------ a run: its events, and the vehicle and records that moved with them
 abbrev pub last_state : State → List State → State
@@ -81,6 +83,26 @@ CalmLaw = (rules : LinkRules) (P : List UnitPlan) (found : Entry → Bool) (even
     → (((core_of rules P (core_start P found) events).slots n).talk.place ≡ AtEnd outcome)
     → IsCalmUnit AnyUnit (unit_at s.vehicle.units (plan_of P n).address) (unit_at (last_state s states).vehicle.units (plan_of P n).address)
     → IsUnfitEnd (plan_of P n) ((core_of rules P (core_start P found) events).recorded (Begun n)) (unit_at s.vehicle.units (plan_of P n).address) outcome
+
+-- a unit that matches ends it with no outcome
+abbrev pub MatchingLaw : Type 0
+MatchingLaw = (rules : LinkRules) (P : List UnitPlan) (found : Entry → Bool) (events : List Event) (s : State) (states : List State) (v0 : Vehicle) (n : ℕ) (outcome : Outcome)
+    → IsRun rules P found events s states v0 → n < count_of P
+    → IsCalmUnit (IsMatching (found (Begun n)) (plan_of P n)) (unit_at s.vehicle.units (plan_of P n).address) (unit_at (last_state s states).vehicle.units (plan_of P n).address)
+    → (((core_of rules P (core_start P found) events).slots n).talk.place ≡ AtEnd outcome) → ⊥
+
+-- ------ to the end of the script
+-- the obedient answer at a place is positive and in the form, and leads to another place of the script, with fewer requests left
+pub record AnswersWell (plan : UnitPlan) (place : Place) (u : ControlUnit) : Type 0 where
+  pub rest : List ℕ
+  pub good : judge (bytes_at plan place) (obedient u (bytes_at plan place)).1 ≡ Good rest
+  pub on : is_ended (place_next plan place rest) ≡ false
+  pub fewer : requests_left plan (place_next plan place rest) + 1 ≤ requests_left plan place
+
+-- so it is at each place with a request, of a unit that matches and is in the state that the answers so far have led to
+abbrev pub ObedientLaw : Type 0
+ObedientLaw = (plan : UnitPlan) (begun : Bool) (place : Place) (u : ControlUnit) → IsAcceptedUnit plan → IsPlace plan place → IsAsked plan place → IsIdentPlace plan begun place → needs_request place ≡ true
+    → StateAt plan place u → Takes place u → IsMatching begun plan u → AnswersWell plan place u
 
 -- The conversation with a unit that matches and has not departed does not end but at Done: it stands at a place of its script, and
 -- each final answer leaves fewer requests to make. So it is at Done after as many answers as an attempt behind Begun has

@@ -19,7 +19,7 @@ use Rattle.bay_core.specs.Moves.{Moves}
 use Rattle.bay_core.specs.Stops.{has_failure}
 use Rattle.bay_core.specs.declared.event.Event.{Event}
 use Rattle.outcome_law.specs.Causes.{IsCaused}
-use Rattle.outcome_law.specs.Law.{IsRun, last_state}
+use Rattle.outcome_law.specs.Law.{IsRun, last_state, IsCalmUnit}
 use Rattle.outcome_law.specs.LinkCounting.{is_fault, fault_of, faults_of, IsLostBy, IsLinkCounted}
 use Rattle.outcome_law.specs.Rising.{Rose}
 
@@ -59,6 +59,23 @@ IsUntroubled Complete = Unit {0}
 IsUntroubled NoMemory = Unit {0}
 IsUntroubled (Blocked by) = Unit {0}
 IsUntroubled outcome = ⊥
+
+-- not an outcome of the unit's own conversation
+abbrev pub IsOfRun : Outcome → Type 0
+IsOfRun Complete = Unit {0}
+IsOfRun NoMemory = Unit {0}
+IsOfRun (Blocked by) = Unit {0}
+IsOfRun DiskFault = Unit {0}
+IsOfRun (LinkLost times) = Unit {0}
+IsOfRun (LinkRefused code) = Unit {0}
+IsOfRun outcome = ⊥
+
+-- of a unit that matches and has not departed, complete is recorded, or what came of the run and not of the unit
+abbrev pub RecordedLaw : Type 0
+RecordedLaw = (rules : LinkRules) (P : List UnitPlan) (found : Entry → Bool) (events : List Event) (s : State) (states : List State) (v0 : Vehicle) (n : ℕ) (outcome : Outcome)
+    → IsRun rules P found events s states v0 → n < count_of P → (((core_of rules P (core_start P found) events).slots n).outcome ≡ Some outcome)
+    → IsCalmUnit (IsMatching (found (entry.Begun n)) (plan_of P n)) (unit_at s.vehicle.units (plan_of P n).address) (unit_at (last_state s states).vehicle.units (plan_of P n).address)
+    → IsOfRun outcome
 
 abbrev pub MatchesAt : Bool → UnitPlan → Option ControlUnit → Type 0
 MatchesAt begun plan None = ⊥
