@@ -5,52 +5,37 @@ use Rattle.outcome_law.proofs.Clock.{dues_none}
 use Rattle.std.proofs.Math.Nat.{zero-mod}
 use Rattle.std.proofs.Common.{◌≡◌, ◌⊎◌, inl, inr, ℕ, ◌+◌, ◌-◌, ◌%◌, ◌<◌, ◌≤◌, true, false, List, [], ◌∷◌, ◌++◌, length, Some, None, refl, sym, ◌∙◌, ap, subst, arith, append_assoc}
 use Rattle.std.specs.Prelude.{Bool, Option, ◌==◌, ◌&&◌, ◌||◌, not, nat_le, nat_lt, filter, if◌then◌else◌, unwrap_or}
-use Rattle.std.proofs.lemmas.Bool.{cases_Bool, cases_eq, false≢true, both_ways, eqb-true, eq-eqb, ne_eqb, and_parts, leb-true, leb-false, ltb-false}
+use Rattle.std.proofs.lemmas.Bool.{cases_Bool, cases_eq, false≢true, eq-eqb, ne_eqb, and_parts, leb-true, leb-false, ltb-false}
 use Rattle.std.proofs.lemmas.List.{append-nil}
-use Rattle.bay_core.proofs.Allowed.{SentFacts, sent_facts, asks_needs}
-use Rattle.bay_core.proofs.Joined.{up_open, open_live}
-use Rattle.bay_core.proofs.Queueing.{said_other, queue_more, released_bytes, release_is, filter_can, released_whole, released_words, held_filter, words_front, nack_words, ack_words, Alike, alike_way, alike_ready, alike_words, own_order, none_below, timely_held}
-use Rattle.bay_core.proofs.Slots.{unit_after}
+use Rattle.bay_core.proofs.Queueing.{said_other, queue_more, released_bytes, release_is, filter_can, released_whole, released_words, held_filter, words_front, nack_words, ack_words, Alike, alike_way, alike_ready, alike_words, timely_held}
 use Rattle.bay_core.proofs.Ticking.{left_nil, right_nil, bodies, held_bodies, way_holds_none, up_tester, up_active}
-use Rattle.bay_core.proofs.Ticks.{between, sent_can}
-use Rattle.bay_core.specs.Core.{Slot, Core, core_after, with_slot, with_talk, link_after}
 use Rattle.bay_core.specs.Joint.{HoldsAtMost, held_of}
-use Rattle.bay_core.specs.Legal.{is_allowed}
-use Rattle.bay_core.specs.Moves.{FeedsOr, request_frame}
-use Rattle.bay_core.specs.declared.event.Event.TheVariants.{Sent}
 use Rattle.flash_base.specs.Lists.{Each}
 use Rattle.doip_frame.specs.Frame.{stream_of, message_bytes, ack_bytes, nack_bytes}
 use Rattle.doip_frame.specs.declared.frame.Frame.TheVariants.{Message}
-use Rattle.flash_plan.specs.Plan.{IsAccepted, plan_of, count_of}
-use Rattle.flash_plan.specs.declared.outcome.Entry.{Entry}
-use Rattle.flash_plan.specs.declared.unit.LinkRules.{LinkRules}
 use Rattle.flash_plan.specs.declared.unit.UnitPlan.{UnitPlan}
-use Rattle.run_model.proofs.Alike.{state_in_same, awaits_same}
 use Rattle.run_model.proofs.Hearing.{found_address}
 use Rattle.run_model.proofs.Replies.{Timely, said_words, replies_way, timely_of, said_of}
-use Rattle.run_model.proofs.Sends.{message_sends}
 use Rattle.run_model.proofs.Whole.{whole_append, ack_whole, nack_whole, message_frames}
 use Rattle.run_model.specs.Connected.{IsConnected}
 use Rattle.run_model.specs.Link.{Link, is_up}
-use Rattle.run_model.specs.Places.{is_ended, needs_request}
 use Rattle.run_model.specs.Script.{bytes_at}
 use Rattle.run_model.specs.States.{StateAt, StateIn, SameButCounts}
 use Rattle.run_model.specs.Talk.{Talk, talk_sent}
-use Rattle.run_model.specs.Ways.{Spoken, Reply, Unheard, IsWhole, words_from, words_in, words_later, words_held, on_way, ascends_for, is_empty_words, pending_words, final_word}
+use Rattle.run_model.specs.Ways.{Spoken, Reply, Unheard, IsWhole, words_from, words_in, words_later, words_held, on_way, is_empty_words, pending_words, final_word}
 use Rattle.uds_codec.specs.Request.{sid_of}
 use Rattle.unit_model.proofs.Feeding.{Handled}
 use Rattle.unit_model.proofs.Steps.{step_frames}
 use Rattle.unit_model.proofs.Units.{SameState, SameIn, SameUnits, same_self, with_same, with_other}
-use Rattle.unit_model.specs.Feed.{Feeds, Word, with_unit, queue_word, queue_words, tester_of, waits_for, released, words_of, HandlesMessage, HandlesAt, Nacks, Hears, Refuses}
+use Rattle.unit_model.specs.Feed.{Word, with_unit, queue_word, queue_words, tester_of, waits_for, released, words_of, HandlesMessage, HandlesAt, Nacks, Hears, Refuses}
 use Rattle.unit_model.specs.Step.{CanSend, UnitStep, Obeys, Holds, Departs, Departure, Refuses as declines, Odd, Fails, Mutes, Busies, pendings, last_replies, last_tick, said_by, ascends, is_late, is_stalled, raise_if, raise_code, raised}
 use Rattle.unit_model.specs.Unit.{ControlUnit, Counts, obedient, one_more, heard_one}
 use Rattle.unit_model.specs.Vehicle.{HeldAnswer, Gateway, Vehicle, unit_at}
 use Rattle.unit_model.specs.declared.reply.Due.TheVariants.{At, Held}
 use Rattle.unit_model.specs.declared.reply.Due.{Due}
 use Rattle.unit_model.specs.declared.reply.UnitReply.{UnitReply}
-
 use Rattle.outcome_law.proofs.Waiting.{IsStillOn, IsAwaited}
-use Rattle.outcome_law.specs.Counting.{dues, come, Kept, KeptIn, Takes, TakesIn, BusyBy, IsCounted, IsHeardCounted, IsMissedCounted, IsAwaitCounted, IsHeldTimed, IsOnTime, IsTimed}
+use Rattle.outcome_law.specs.Counting.{dues, come, Kept, KeptIn, Takes, TakesIn, BusyBy, IsCounted, IsHeardCounted, IsAwaitCounted, IsHeldTimed, IsOnTime, IsTimed}
 
 -- the count of a refusal to deliver rose, or the unit is not there
 abbrev pub IsNacked : ℕ → Option ControlUnit → Option ControlUnit → Type 0
@@ -627,12 +612,12 @@ module _ (tester : ℕ) (plan : UnitPlan) (talk : Talk) (l : Link) (v w first : 
               (λ one e. subst (λ (x : HeldAnswer). (0 + 0 ≤ x.pending) × ((x.pending ≤ 200) ⊎ Rose f.counts.stalled new.counts.stalled)) (head_is (sym it.held ∙ e)) (omega arith, inl (omega arith)));
           timed = inr (begins (t0 + l.ticks) refl it.tick [] (dues_none tester plan.address w.gateway.later it.later) refl refl
               (λ one e. subst (λ (x : HeldAnswer). IsHeldTimed v.gateway.tick w.gateway.tick x) (head_is (sym it.held ∙ e)) (record {
-            some = holds.some;
-            from = omega arith;
-            turn = (let z : v.gateway.tick - v.gateway.tick ≡ 0 = omega arith in ap (λ (n : ℕ). n % holds.every) z) ∙ zero-mod holds.every;
-            next = let s : 1 ≤ holds.every = holds.some in omega (arith, s, it.tick);
-            early = inr (omega (arith, it.tick));
-          })));
+                some = holds.some;
+                from = omega arith;
+                turn = (let z : v.gateway.tick - v.gateway.tick ≡ 0 = omega arith in ap (λ (n : ℕ). n % holds.every) z) ∙ zero-mod holds.every;
+                next = let s : 1 ≤ holds.every = holds.some in omega (arith, s, it.tick);
+                early = inr (omega (arith, it.tick));
+              })));
         }
       where
         head_of : HeldAnswer → List HeldAnswer → HeldAnswer
@@ -658,8 +643,10 @@ module _ (tester : ℕ) (plan : UnitPlan) (talk : Talk) (l : Link) (v w first : 
             state = state;
             takes = takes;
             make = kept.make;
-            step = inr (record { kind = d.kind; mid = d.mid; is = d.is; leaves = d.leaves; said_is = refl; state = counts_too d.mid _ _ d.becomes },
-                raised_counts d.kind d.mid.counts (is_late v.gateway.tick (d.ticks ++ last_tick (said_by d.kind (sid_of asked)) d.due)) (is_stalled d.ticks) mid_grows (subst (λ (x : Counts). RoseBy talk.busies f.counts.busy x.busy) (sym is_counts) busy) (ap (λ (x : ControlUnit). x.counts) d.becomes));
+            step = inr (
+              record { kind = d.kind; mid = d.mid; is = d.is; leaves = d.leaves; said_is = refl; state = counts_too d.mid _ _ d.becomes },
+              raised_counts d.kind d.mid.counts (is_late v.gateway.tick (d.ticks ++ last_tick (said_by d.kind (sid_of asked)) d.due)) (is_stalled d.ticks) mid_grows (subst (λ (x : Counts). RoseBy talk.busies f.counts.busy x.busy) (sym is_counts) busy) (ap (λ (x : ControlUnit). x.counts) d.becomes),
+            );
             on_way = it.way ∙ ap said_words d.gives ∙ said_of (sid_of asked) d.ticks (said_by d.kind (sid_of asked)) d.due;
             patience = patience (length d.ticks) d.ticks (raised d.kind d.mid.counts).stalled grows.stalled (ap (λ (x : ControlUnit). x.counts.stalled) d.becomes) refl;
             holding = λ one e. absurd (cons_nil one [] (sym e ∙ it.held));

@@ -1,10 +1,10 @@
 -- A tick, for a unit whose answer is awaited.
 use Rattle.std.proofs.Common.{◌≡◌, ◌⊎◌, inl, inr, ℕ, zero, suc, ◌+◌, ◌-◌, ◌%◌, ◌<◌, ◌≤◌, true, false, List, [], ◌∷◌, ◌++◌, length, Some, None, refl, sym, ◌∙◌, ap, subst, arith, append_assoc, length-append}
-use Rattle.std.specs.Prelude.{Bool, Option, ◌==◌, ◌&&◌, ◌||◌, not, nat_le, map, filter, if◌then◌else◌, unwrap_or}
+use Rattle.std.specs.Prelude.{Bool, Option, ◌==◌, ◌&&◌, ◌||◌, nat_le, map, if◌then◌else◌, unwrap_or}
 use Rattle.std.proofs.lemmas.Bool.{cases_Bool, cases_lt, false≢true, both_ways, eq-eqb, ne_eqb, eqb-true, and_parts, and_from, leb-true, leb-false, le-leb, lt-leb}
 use Rattle.std.proofs.lemmas.List.{append-nil}
 use Rattle.std.proofs.Math.Nat.{add-mod_right}
-use Rattle.bay_core.proofs.Ticking.{left_nil, right_nil, bodies, held_bodies, turn_word, way_none, way_lone, way_holds_none}
+use Rattle.bay_core.proofs.Ticking.{left_nil, right_nil, bodies, held_bodies, turn_word, way_none, way_lone}
 use Rattle.bay_core.specs.Joint.{HoldsAtMost, IsLoneHeld, held_of}
 use Rattle.doip_frame.specs.Frame.{Stream, stream_of}
 use Rattle.flash_base.specs.Lists.{Each}
@@ -14,21 +14,21 @@ use Rattle.run_model.proofs.Moving.{due_words}
 use Rattle.run_model.proofs.Whole.{stream_more}
 use Rattle.run_model.proofs.Words.{words_more}
 use Rattle.run_model.specs.Connected.{IsConnected}
-use Rattle.run_model.specs.Link.{Link, is_live, quiet_link}
+use Rattle.run_model.specs.Link.{Link, quiet_link}
 use Rattle.run_model.specs.Script.{bytes_at}
 use Rattle.run_model.specs.Talk.{Talk}
 use Rattle.run_model.specs.Ways.{Spoken, Reply, Unheard, IsWhole, words_from, words_in, words_later, words_held, on_way, ascends_for, is_empty_words, pending_words, final_word}
 use Rattle.uds_codec.specs.Request.{sid_of}
-use Rattle.unit_model.proofs.Units.{SameState, SameIn, raised_same, hit, miss}
+use Rattle.unit_model.proofs.Units.{SameState, SameIn, raised_same}
 use Rattle.unit_model.specs.Feed.{tester_of}
-use Rattle.unit_model.specs.Poll.{bytes_due, not_due, is_turn, held_on, raises, raised_by, ticked_gateway, ticked}
+use Rattle.unit_model.specs.Poll.{bytes_due, not_due, is_turn, held_on, raises, raised_by, ticked}
 use Rattle.unit_model.specs.Step.{is_late, raise_if, pending_bytes}
 use Rattle.unit_model.specs.Unit.{ControlUnit, one_more}
 use Rattle.unit_model.specs.Vehicle.{HeldAnswer, Gateway, Vehicle, unit_at}
-use Rattle.outcome_law.proofs.Growing.{VehicleGrows, ticks_up, raises_at, rose_then, then_rose}
-use Rattle.outcome_law.proofs.Waiting.{IsAwaited, awaits_on, timed_on, heard_on, but_counts}
-use Rattle.outcome_law.specs.Counting.{Kept, KeptIn, IsHeardCounted, IsMissedCounted, IsAwaitCounted, dues, come, IsHeldTimed, IsOnTime, IsTimed}
-use Rattle.outcome_law.specs.Rising.{RoseBy, Rose, Grows, CountsGrow}
+use Rattle.outcome_law.proofs.Growing.{VehicleGrows, ticks_up, raises_at}
+use Rattle.outcome_law.proofs.Waiting.{IsAwaited, awaits_on, timed_on, heard_on}
+use Rattle.outcome_law.specs.Counting.{Kept, KeptIn, IsHeardCounted, IsAwaitCounted, dues, come, IsHeldTimed, IsOnTime}
+use Rattle.outcome_law.specs.Rising.{Rose, Grows}
 
 some_cons : {T : Type 0} (x : T) (xs : List T) → x ∷ xs ≡ [] → ⊥
 some_cons {T} x xs e = false≢true (sym (ap is_cons e))

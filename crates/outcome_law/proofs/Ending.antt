@@ -1,7 +1,7 @@
 -- Each recorded outcome has its cause.
-use Rattle.std.proofs.Common.{◌≡◌, ◌⊎◌, inl, inr, ℕ, zero, suc, ◌+◌, ◌<◌, ◌≤◌, true, false, List, [], ◌∷◌, length, Some, None, refl, sym, ◌∙◌, ap, subst, arith}
-use Rattle.std.specs.Prelude.{Bool, Option, ◌==◌, ◌&&◌, ◌||◌, not, nat_lt, is_some, is_none, Contains, slice_index_or, MatchOption, unwrap_or, if◌then◌else◌}
-use Rattle.std.proofs.lemmas.Bool.{cases_Bool, false≢true, both_ways, and_parts, eqb-true, eq-eqb, ltb-true}
+use Rattle.std.proofs.Common.{◌≡◌, ◌⊎◌, inl, inr, ℕ, zero, suc, ◌+◌, ◌<◌, true, false, List, [], ◌∷◌, length, Some, None, refl, sym, ◌∙◌, ap, subst, arith}
+use Rattle.std.specs.Prelude.{Bool, Option, ◌==◌, ◌&&◌, ◌||◌, nat_lt, is_some, is_none, Contains, slice_index_or, unwrap_or, if◌then◌else◌}
+use Rattle.std.proofs.lemmas.Bool.{cases_Bool, false≢true, and_parts, eqb-true}
 use Rattle.flash_base.specs.Lists.{Each}
 use Rattle.flash_plan.specs.Outcomes.{same_outcome}
 use Rattle.flash_plan.specs.Plan.{IsAccepted, Ascend, plan_of, count_of}
@@ -16,14 +16,14 @@ use Rattle.run_model.specs.Script.{Place, AtIdent, AtBegin, AtProgram, AtSeed, A
 use Rattle.run_model.specs.Talk.{Talk, talk_lost, keeps_on_loss}
 use Rattle.unit_model.specs.Vehicle.{Vehicle}
 use Rattle.bay_core.proofs.Allowed.{sent_facts, collected_facts, begin_facts, finish_facts, claim_facts, open_none}
-use Rattle.bay_core.specs.Core.{Slot, Core, core_after, with_slot, with_talk, slots_own, slots_lost, recorded_after, link_after, stop_after, link_stop, refused_stop, is_disk_failure}
-use Rattle.bay_core.specs.Legal.{is_allowed, may_end, is_end, is_stop, is_memory, is_blocked, is_blocker, may_record}
+use Rattle.bay_core.specs.Core.{Slot, Core, core_after, with_slot, with_talk, slots_own, recorded_after, link_after, stop_after, refused_stop, is_disk_failure}
+use Rattle.bay_core.specs.Legal.{is_allowed, is_end, is_stop, is_memory, is_blocked, is_blocker, may_record}
 use Rattle.bay_core.specs.declared.event.Event.{Event}
 use Rattle.bay_core.specs.declared.event.Event.TheVariants.{Claimed, Began, Sent, Collected, Tended, Completed, DiskFailed, Ended}
 use Rattle.outcome_law.proofs.Growing.{VehicleGrows, rose_then}
-use Rattle.outcome_law.specs.LinkCounting.{fault_of, IsLostBy, IsPhaseCounted, IsLinkCounted}
+use Rattle.outcome_law.specs.LinkCounting.{IsLostBy, IsPhaseCounted, IsLinkCounted}
 use Rattle.outcome_law.specs.Outcomes.{IsBlockedBy}
-use Rattle.outcome_law.specs.Rising.{RoseBy, Rose}
+use Rattle.outcome_law.specs.Rising.{Rose}
 
 -- ------ outcomes that compare as equal are
 same_is : (a b : Outcome) → same_outcome a b ≡ true → a ≡ b
@@ -236,12 +236,16 @@ module _ (rules : LinkRules) (P : List UnitPlan) (c : Core) (accepted : IsAccept
   rest_on e ok n o place fault (inr (inl (f, is))) = inr (inl (same_fault_after rules P c accepted e ok n ∙ fault f, is))
   rest_on e ok n o place fault (inr (inr (inl stop))) = inr (inr (inl (stop_stays c.stop o e rules (link_after rules P e c.link) stop)))
   rest_on e ok n o place fault (inr (inr (inr (inl none)))) = inr (inr (inr (inl none)))
-  rest_on e ok n o place fault (inr (inr (inr (inr (inl (by, is, b)))))) = inr (inr (inr (inr (inl (by, is, record {
-    listed = b.listed;
-    incomplete = complete_same e ok by b.ended ∙ b.incomplete;
-    lowest = λ w has lt. more_recorded e c.recorded (entry.Complete w) (b.lowest w has lt);
-    ended = ap (is_some {T = Outcome}) (same_outcome_after rules P c accepted e ok by) ∙ own_outcome e by b.ended;
-  })))))
+  rest_on e ok n o place fault (inr (inr (inr (inr (inl (by, is, b)))))) = inr (inr (inr (inr (inl (
+    by,
+    is,
+    record {
+      listed = b.listed;
+      incomplete = complete_same e ok by b.ended ∙ b.incomplete;
+      lowest = λ w has lt. more_recorded e c.recorded (entry.Complete w) (b.lowest w has lt);
+      ended = ap (is_some {T = Outcome}) (same_outcome_after rules P c accepted e ok by) ∙ own_outcome e by b.ended;
+    },
+  )))))
   rest_on e ok n o place fault (inr (inr (inr (inr (inr (is, done)))))) = inr (inr (inr (inr (inr (is, more_recorded e c.recorded (entry.Complete n) done)))))
 
   some_of : (a b : Outcome) → Some a ≡ Some b → a ≡ b
@@ -263,15 +267,15 @@ module _ (rules : LinkRules) (P : List UnitPlan) (c : Core) (accepted : IsAccept
 
   ended_rests : (u : ℕ) (why : Outcome) → u < count_of P → is_allowed P c (Ended u why) ≡ true → Rests P c u why
   ended_rests u why lt ok = elim (or_cases _ _ (and_parts _ _ ok).1) [
-        | inr blocked ↦ inr (inr (inr (inr (inl (blocked_is P c u why (accepted.each u lt).ascend blocked)))))
-        | inl three ↦ elim (or_cases _ _ three) [
-          | inr memory ↦ inr (inr (inr (inl (memory_is why memory))))
-          | inl two ↦ elim (or_cases _ _ two) [
-            | inl end ↦ inl (end_is (c.slots u).talk.place why (and_parts _ _ end).1)
-            | inr stop ↦ stopped (c.slots u).faulted refl stop
-          ]
-        ]
+    | inr blocked ↦ inr (inr (inr (inr (inl (blocked_is P c u why (accepted.each u lt).ascend blocked)))))
+    | inl three ↦ elim (or_cases _ _ three) [
+      | inr memory ↦ inr (inr (inr (inl (memory_is why memory))))
+      | inl two ↦ elim (or_cases _ _ two) [
+        | inl end ↦ inl (end_is (c.slots u).talk.place why (and_parts _ _ end).1)
+        | inr stop ↦ stopped (c.slots u).faulted refl stop
       ]
+    ]
+  ]
     where
       stopped : (f : Bool) → (c.slots u).faulted ≡ f → (if f then same_outcome DiskFault why else is_stop c.stop why) ≡ true → Rests P c u why
       stopped true f e = inr (inl (f, sym (same_is DiskFault why e)))

@@ -1,14 +1,14 @@
 -- What an obedient unit answers at each place of the script: well, or as the table of unfit units says.
-use Rattle.std.proofs.Common.{◌≡◌, ◌⊎◌, inl, inr, ℕ, zero, suc, ◌+◌, ◌-◌, ◌/◌, ◌%◌, ◌^◌, ◌<◌, ◌≤◌, true, false, List, [], ◌∷◌, ◌++◌, length, take, drop, Some, None, refl, sym, ◌∙◌, ap, subst, arith, length-take}
+use Rattle.std.proofs.Common.{◌≡◌, ◌⊎◌, inl, inr, ℕ, zero, suc, ◌+◌, ◌-◌, ◌/◌, ◌%◌, ◌^◌, ◌<◌, ◌≤◌, true, false, List, [], ◌∷◌, ◌++◌, length, Some, None, refl, sym, ◌∙◌, ap, subst, arith, length-take}
 use Rattle.std.specs.Prelude.{Bool, Option, ◌==◌, ◌&&◌, ◌||◌, not, is_some, nat_lt, nat_le, min, replicate, if◌then◌else◌, Contains, slice_index_or, unwrap_or}
-use Rattle.std.proofs.lemmas.Bool.{cases_Bool, both_ways, and_from, and_parts, and_left, and_right, eqb-true, eq-eqb, ne_eqb, le-ltb, le-leb, ltb-true, leb-true, lt-leb, cases_lt, false≢true}
+use Rattle.std.proofs.lemmas.Bool.{cases_Bool, both_ways, and_from, and_parts, eqb-true, eq-eqb, ne_eqb, le-ltb, ltb-true, cases_lt, false≢true}
 use Rattle.std.proofs.lemmas.List.{append-nil}
 use Rattle.std.proofs.lemmas.List.Elements.{Contains-append_right}
 use Rattle.sha2.proofs.Facts256.{length-sha256}
 use Rattle.sha2.specs.Sha256.{sha256}
 use Rattle.flash_base.specs.ByteMaps.{ByteMap, byte_at, byte_or_0, has_each, bytes_of}
 use Rattle.flash_base.specs.Lists.{Each, same_bytes}
-use Rattle.flash_base.specs.Numbers.{big_endian, number_of, number2, pow256}
+use Rattle.flash_base.specs.Numbers.{big_endian, number_of, number2}
 use Rattle.flash_base.specs.declared.unit.KeyRule.{KeyRule}
 use Rattle.flash_base.specs.declared.unit.KeyRule.TheVariants.{Free, Xor, Digest}
 use Rattle.flash_plan.specs.Plan.{IsAcceptedUnit, IsFit}
@@ -18,18 +18,18 @@ use Rattle.flash_plan.specs.declared.unit.Segment.{Segment}
 use Rattle.flash_plan.specs.declared.unit.UnitPlan.{UnitPlan}
 use Rattle.flash_plan.specs.declared.unit.Wanted.{Wanted}
 use Rattle.uds_codec.proofs.Numbers.{big_number}
-use Rattle.uds_codec.specs.Answer.{Verdict, Later, Again, Refusal, Good, Bad_status, Strange, judge, form_of, form_in, seed_form, block_form, routine_form}
+use Rattle.uds_codec.specs.Answer.{Verdict, Later, Again, Refusal, Good, Bad_status, Strange, judge, form_of, form_in, seed_form, block_form}
 use Rattle.uds_codec.specs.Key.{key_of, level_of, all_zero}
 use Rattle.uds_codec.specs.Request.{Range, range_of, request_of, sid_of}
 use Rattle.uds_codec.specs.declared.request.Request.{Request}
 use Rattle.uds_codec.specs.declared.request.Request.TheVariants.{Session, Reset, ReadId, Seed, Key, Routine, Download, Transfer, Exit}
-use Rattle.unit_model.specs.Unit.{ControlUnit, OpenTransfer, obey, obey_in, obedient, answer, refuse, programming, has_key, has_level, is_locked, ident_of, read_in, key_in, give_seed, seed_given, routine, erase_in, erased, check_in, finish_in, download, downloading, block_bytes, receive_in, receive, written, exit_in, in_session, next_counter}
+use Rattle.unit_model.specs.Unit.{ControlUnit, OpenTransfer, obey, obey_in, obedient, answer, refuse, programming, has_key, has_level, is_locked, ident_of, read_in, key_in, give_seed, seed_given, erase_in, erased, check_in, finish_in, downloading, block_bytes, receive_in, written, exit_in, in_session, next_counter}
 use Rattle.run_model.proofs.Along.{says}
 use Rattle.run_model.proofs.Ranges.{cursor_reads, each_at}
-use Rattle.run_model.specs.Places.{IsPlace, IsAsked, IsCursor, IsBlocks, needs_request, is_ended}
-use Rattle.run_model.specs.Script.{Cursor, Blocks, Place, AtIdent, AtBegin, AtProgram, AtSeed, AtKey, AtErase, AtDownload, AtBlock, AtExit, AtCheck, AtFinish, AtReset, AtDone, AtEnd, request_at, bytes_at, range_record, block_of, is_empty, place_next, after_block, more_blocks, segments_from, idents_from, after_program, has_value}
+use Rattle.run_model.specs.Places.{IsPlace, IsAsked, IsCursor, IsBlocks, needs_request}
+use Rattle.run_model.specs.Script.{Cursor, Blocks, Place, AtIdent, AtBegin, AtProgram, AtSeed, AtKey, AtErase, AtDownload, AtBlock, AtExit, AtCheck, AtFinish, AtReset, AtDone, AtEnd, bytes_at, range_record, block_of, is_empty, place_next, after_block, more_blocks, segments_from, idents_from, after_program, has_value}
 use Rattle.run_model.specs.Sound.{HoldsBytes, HasSegment, has_range}
-use Rattle.run_model.specs.States.{StateAt, HasRoom, HasTransfer, HasFilled, Programs, Opened}
+use Rattle.run_model.specs.States.{StateAt, HasRoom, Opened}
 use Rattle.outcome_law.specs.Causes.{Unfit, lacks_ident, lacks_level, other_key, stays_locked, lacks_room, other_check, odd_seed, odd_block, OtherIdent}
 use Rattle.outcome_law.proofs.Growing.{fill_domain}
 use Rattle.outcome_law.specs.Counting.{SameMake, Takes, IsIdentPlace}

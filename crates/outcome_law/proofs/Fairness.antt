@@ -1,24 +1,23 @@
 -- What the gateway has said and queued stays fair: no header refused, and each denial counted.
-use Rattle.std.proofs.Common.{◌≡◌, ◌⊎◌, inl, inr, ℕ, zero, suc, ◌+◌, ◌<◌, true, false, List, [], ◌∷◌, ◌++◌, length, Some, None, refl, sym, ◌∙◌, ap, subst, arith, append_assoc}
-use Rattle.std.specs.Prelude.{Bool, Option, ◌==◌, ◌&&◌, nat_le, filter, is_some}
-use Rattle.std.proofs.lemmas.Bool.{cases_Bool, false≢true}
+use Rattle.std.proofs.Common.{◌≡◌, ◌⊎◌, inl, inr, ℕ, ◌+◌, List, [], ◌∷◌, ◌++◌, None, refl, sym, ◌∙◌, ap, subst, arith, append_assoc}
+use Rattle.std.specs.Prelude.{Bool, ◌&&◌, nat_le, filter, is_some}
+use Rattle.std.proofs.lemmas.Bool.{cases_Bool}
 use Rattle.std.proofs.lemmas.List.{append-nil}
 use Rattle.bay_core.proofs.Addressed.{got_whole}
 use Rattle.bay_core.proofs.Queueing.{released_bytes, filter_can}
 use Rattle.doip_frame.specs.Frame.{Stream, stream_of, message_bytes, ack_bytes, nack_bytes, activated_bytes, payload_of}
 use Rattle.doip_frame.specs.declared.frame.Frame.TheVariants.{HeaderNack, Activate, Activated, AliveAsk, AliveSay, Message, Ack, Nack, Other}
 use Rattle.doip_frame.specs.declared.frame.Frame.{Frame}
-use Rattle.flash_base.specs.Lists.{Each, BeginsWith}
+use Rattle.flash_base.specs.Lists.{Each}
 use Rattle.run_model.proofs.Connected.{FreshParts, pending_can}
 use Rattle.run_model.proofs.Gateway.{all_append}
 use Rattle.run_model.proofs.Whole.{stream_one, stream_more, whole_append, whole_none, message_whole, message_frames, ack_whole, ack_frames, nack_whole, nack_frames}
 use Rattle.run_model.specs.Connected.{IsConnected}
 use Rattle.run_model.specs.Link.{Link, quiet_link}
 use Rattle.run_model.specs.Ways.{IsWhole}
-use Rattle.unit_model.specs.Feed.{Word, Activation, Accepts, Denies, Delays, Ignores, activation, queue_word, queue_words, tester_of, words_of}
+use Rattle.unit_model.specs.Feed.{Activation, Accepts, Denies, Delays, Ignores, activation, queue_word, queue_words, tester_of, words_of}
 use Rattle.unit_model.specs.Poll.{bytes_due, not_due, alive_bytes, has_tick, is_turn, pending_of, ticked_gateway}
 use Rattle.unit_model.specs.Step.{CanSend, pending_bytes}
-use Rattle.unit_model.specs.Unit.{one_more}
 use Rattle.unit_model.specs.Vehicle.{HeldAnswer, Gateway, Vehicle}
 use Rattle.unit_model.specs.declared.reply.Due.TheVariants.{At, Held}
 use Rattle.unit_model.specs.declared.reply.Due.{Due}

@@ -25,7 +25,7 @@ use Rattle.unit_model.specs.declared.reply.UnitReply.{UnitReply}
 use Rattle.run_model.proofs.Hearing.{found_address}
 use Rattle.run_model.specs.States.{SameButCounts}
 use Rattle.outcome_law.specs.Counting.{SameMake, Kept, KeptIn}
-use Rattle.outcome_law.specs.Rising.{RoseBy, Rose, Grows, CountsGrow}
+use Rattle.outcome_law.specs.Rising.{RoseBy, Grows, CountsGrow}
 
 pub up_same : (n : ℕ) → Grows n n
 up_same n = omega arith
@@ -82,7 +82,6 @@ timed_up a b c = record { refused = λ code. up_same _; odd = up_same _; failed 
 
 nacked_up : (code : ℕ) (c : Counts) → CountsGrow c (record c { nacked = raise_code code c.nacked })
 nacked_up code c = record { refused = λ n. up_same _; odd = up_same _; failed = up_same _; muted = up_same _; late = up_same _; stalled = up_same _; busy = up_same _; nacked = up_code code c.nacked }
-
 
 -- a count that rose, and then did not fall
 pub rose_then : (n a b c : ℕ) → RoseBy n a b → Grows b c → RoseBy n a c
@@ -159,7 +158,6 @@ step_up u w bytes tick replies step = go step.how
     go (inr (inr d)) = subst (λ (x : ControlUnit). CountsGrow u.counts x.counts) (sym d.becomes)
         (counts_then u.counts d.mid.counts _ (counts_is _ _ (leaves_counts u d.mid bytes d.leaves))
         (counts_then d.mid.counts (raised d.kind d.mid.counts) _ (raised_up d.kind d.mid.counts) (timed_up _ _ (raised d.kind d.mid.counts))))
-
 
 -- ------ what a unit is made of
 frame : (u w : ControlUnit) → w.idents ≡ u.idents → w.key ≡ u.key → w.check ≡ u.check → w.block ≡ u.block → w.seed ≡ u.seed → ((a : ℕ) → is_some (byte_at w.memory a) ≡ is_some (byte_at u.memory a)) → SameMake u w

@@ -1,14 +1,13 @@
 -- Each event keeps what is counted of the link.
-use Rattle.std.proofs.Common.{◌≡◌, ◌⊎◌, inl, inr, ℕ, ◌+◌, ◌≤◌, true, false, List, [], ◌∷◌, ◌++◌, Some, None, refl, sym, ◌∙◌, ap, subst, arith}
-use Rattle.std.specs.Prelude.{Bool, Option, ◌==◌, is_some, if◌then◌else◌}
-use Rattle.std.proofs.lemmas.Bool.{cases_Bool, false≢true, both_ways, and_parts, eq-eqb}
+use Rattle.std.proofs.Common.{◌≡◌, ◌⊎◌, inl, inr, ℕ, ◌+◌, ◌≤◌, true, false, List, [], ◌++◌, None, refl, sym, ◌∙◌, ap, subst, arith}
+use Rattle.std.specs.Prelude.{Bool, ◌==◌}
+use Rattle.std.proofs.lemmas.Bool.{false≢true, both_ways, and_parts, eq-eqb}
 use Rattle.bay_core.proofs.Allowed.{SentFacts, sent_facts, collected_facts}
 use Rattle.bay_core.proofs.Joined.{up_open, open_live, waiting_open, fresh_live}
 use Rattle.bay_core.proofs.Ticks.{between, sent_can}
-use Rattle.bay_core.specs.Core.{Core, link_after, heard_link, taken_link, tended_link, addresses_of}
+use Rattle.bay_core.specs.Core.{Core, link_after, heard_link, taken_link, tended_link}
 use Rattle.bay_core.specs.Joint.{IsJoint}
 use Rattle.bay_core.specs.Legal.{is_allowed, may_tend}
-use Rattle.bay_core.specs.LinkLaws.{first_code}
 use Rattle.bay_core.specs.Moves.{Moves, Receives, Tends, FeedsOr, request_frame}
 use Rattle.bay_core.specs.declared.event.Event.TheVariants.{Claimed, Began, Sent, Collected, Tended, Completed, DiskFailed, Ended}
 use Rattle.bay_core.specs.declared.event.Event.{Event}
@@ -16,32 +15,30 @@ use Rattle.bay_core.specs.declared.event.Heard.TheVariants.{Kept, Quiet, Piece, 
 use Rattle.bay_core.specs.declared.event.Heard.{Heard}
 use Rattle.bay_core.specs.declared.event.Tend.TheVariants.{Dialed, Asked, Said, Polled}
 use Rattle.bay_core.specs.declared.event.Tend.{Tend}
-use Rattle.doip_frame.specs.Frame.{stream_of, activate_bytes, alive_say_bytes, activated_bytes, payload_of}
+use Rattle.doip_frame.specs.Frame.{stream_of, activated_bytes, payload_of}
 use Rattle.doip_frame.specs.declared.frame.Frame.TheVariants.{Activated}
-use Rattle.doip_frame.specs.declared.frame.Frame.{Frame}
 use Rattle.flash_base.specs.Lists.{Each}
-use Rattle.flash_plan.specs.Plan.{IsAccepted, plan_of, count_of}
+use Rattle.flash_plan.specs.Plan.{IsAccepted, plan_of}
 use Rattle.flash_plan.specs.declared.outcome.Entry.{Entry}
 use Rattle.flash_plan.specs.declared.unit.LinkRules.{LinkRules}
 use Rattle.flash_plan.specs.declared.unit.UnitPlan.{UnitPlan}
 use Rattle.run_model.proofs.Connected.{FreshParts, fresh_parts}
 use Rattle.run_model.proofs.Sends.{message_sends, activate_sends, alive_sends}
 use Rattle.run_model.proofs.Whole.{stream_one}
-use Rattle.run_model.specs.Connected.{IsConnected}
-use Rattle.run_model.specs.Link.{Link, Phase, Down, Fresh, Waits, Up, Denied, is_live, is_up, is_open, is_waiting, hear_piece, drop_link, fresh_link, take_word}
+use Rattle.run_model.specs.Link.{Link, Phase, Down, Fresh, Waits, Up, Denied, is_live, is_up, is_open, is_waiting, drop_link, fresh_link, take_word}
 use Rattle.run_model.specs.Script.{bytes_at}
 use Rattle.uds_codec.specs.Request.{sid_of}
 use Rattle.unit_model.specs.Feed.{Activation, Accepts, Denies, Delays, Ignores, activation, Activates, Nothing, queue_words}
-use Rattle.unit_model.specs.Poll.{Ticks, ticked}
+use Rattle.unit_model.specs.Poll.{ticked}
 use Rattle.unit_model.specs.Step.{raise_code}
 use Rattle.unit_model.specs.Unit.{one_more}
-use Rattle.unit_model.specs.Vehicle.{Gateway, Vehicle, redialed}
+use Rattle.unit_model.specs.Vehicle.{Gateway, Vehicle}
 use Rattle.outcome_law.proofs.Asking.{came_out, Refused as refused_request, Heard as heard_request}
 use Rattle.outcome_law.proofs.Fairness.{fair_on, nacked_fair, heard_fair, asked_fair}
 use Rattle.outcome_law.proofs.Growing.{VehicleGrows, rose_then, up_then, ticks_up}
 use Rattle.outcome_law.proofs.Losing.{phase_on, piece_counted, quiet_counted}
 use Rattle.outcome_law.proofs.Steps.{moves_grow}
-use Rattle.outcome_law.specs.LinkCounting.{is_fault, is_heard_fault, is_garbled, fault_of, has_answer, AreLossesCounted, IsFairFrame, AreFair, IsPhaseCounted, IsLinkCounted}
+use Rattle.outcome_law.specs.LinkCounting.{is_fault, is_heard_fault, fault_of, has_answer, IsFairFrame, AreFair, IsPhaseCounted, IsLinkCounted}
 use Rattle.outcome_law.specs.Rising.{RoseBy, Rose, Grows}
 
 not_waiting : (p : Phase) → is_up p ≡ true → is_waiting p ≡ false

@@ -1,17 +1,16 @@
 -- Losses of the link are covered by faults and by activations that were not answered in time; a denial was counted.
 use Rattle.std.proofs.Common.{◌≡◌, ◌⊎◌, inl, inr, ℕ, zero, suc, ◌+◌, ◌<◌, ◌≤◌, true, false, List, [], ◌∷◌, ◌++◌, length, Some, None, refl, sym, ◌∙◌, ap, subst, arith, append_assoc, length-append}
-use Rattle.std.specs.Prelude.{Bool, Option, ◌==◌, ◌&&◌, not, nat_le, nat_lt, is_some, if◌then◌else◌, unwrap_or}
+use Rattle.std.specs.Prelude.{Option, ◌==◌, is_some, unwrap_or}
 use Rattle.std.proofs.lemmas.Bool.{cases_Bool, false≢true, both_ways, and_parts, eqb-true, eq-eqb}
 use Rattle.std.proofs.lemmas.List.{append-nil}
 use Rattle.bay_core.proofs.Joined.{open_live}
 use Rattle.bay_core.proofs.LinkLaws.{link_laws}
 use Rattle.bay_core.proofs.Links.{heard_steps}
 use Rattle.bay_core.proofs.Piecing.{frames_first}
-use Rattle.bay_core.specs.Core.{addresses_of, heard_link}
-use Rattle.bay_core.specs.LinkLaws.{refuses_header, first_code, phase_for, LosesAtMostOne, IsLoss, IsHeardLoss}
+use Rattle.bay_core.specs.Core.{addresses_of}
+use Rattle.bay_core.specs.LinkLaws.{refuses_header, first_code, phase_for}
 use Rattle.bay_core.specs.declared.event.Event.TheVariants.{Tended}
-use Rattle.bay_core.specs.declared.event.Heard.TheVariants.{Kept, Quiet, Piece, Lost}
-use Rattle.bay_core.specs.declared.event.Heard.{Heard}
+use Rattle.bay_core.specs.declared.event.Heard.TheVariants.{Piece}
 use Rattle.bay_core.specs.declared.event.Tend.TheVariants.{Polled}
 use Rattle.doip_frame.proofs.Streams.{Shortens, shortens, Grows as CutGrows, grows, enough, split}
 use Rattle.doip_frame.specs.Frame.{Cut, Partial, Wrong, Whole, cut_frame, frame_of, Stream, stream_of, stream_in, stream_after, with_frame}
@@ -23,12 +22,12 @@ use Rattle.flash_plan.specs.declared.unit.LinkRules.{LinkRules}
 use Rattle.flash_plan.specs.declared.unit.UnitPlan.{UnitPlan}
 use Rattle.run_model.proofs.Sees.{piece_keeps, piece_lives}
 use Rattle.run_model.specs.Connected.{IsConnected, accepts}
-use Rattle.run_model.specs.Link.{Link, Phase, Down, Fresh, Waits, Up, Denied, is_live, is_open, is_up, is_waiting, see_all, see_end, hear_piece, quiet_link, polled_quiet, unanswered, drop_link}
-use Rattle.unit_model.specs.Poll.{IsShown, IsPlain, IsSeen, Ticks, ticked}
-use Rattle.unit_model.specs.Vehicle.{Gateway, Vehicle}
+use Rattle.run_model.specs.Link.{Link, Phase, Down, Fresh, Waits, Up, Denied, is_live, is_open, is_up, is_waiting, see_all, see_end, hear_piece, quiet_link, polled_quiet, unanswered}
+use Rattle.unit_model.specs.Poll.{IsShown, IsPlain, IsSeen, ticked}
+use Rattle.unit_model.specs.Vehicle.{Vehicle}
 use Rattle.outcome_law.proofs.Fairness.{fair_front, fair_back, fair_on, ticked_fair}
 use Rattle.outcome_law.proofs.Growing.{VehicleGrows, rose_then, up_then}
-use Rattle.outcome_law.specs.LinkCounting.{is_garbled, fault_of, has_answer, AreLossesCounted, IsFairFrame, AreFair, IsPhaseCounted, IsLinkCounted}
+use Rattle.outcome_law.specs.LinkCounting.{is_garbled, fault_of, has_answer, IsFairFrame, AreFair, IsPhaseCounted, IsLinkCounted}
 use Rattle.outcome_law.specs.Rising.{RoseBy, Rose, Grows}
 
 -- ------ bytes

@@ -1,6 +1,6 @@
 -- The laws of recorded outcomes, over every legal list of events.
-use Rattle.std.proofs.Common.{◌≡◌, ◌⊎◌, inl, inr, ℕ, zero, suc, ◌+◌, ◌<◌, ◌≤◌, true, false, List, [], ◌∷◌, Some, None, refl, sym, ◌∙◌, ap, subst, arith}
-use Rattle.std.specs.Prelude.{Bool, Option, ◌==◌, ◌&&◌, ◌||◌, is_some, MatchOption, unwrap_or}
+use Rattle.std.proofs.Common.{◌≡◌, inl, inr, ℕ, ◌+◌, ◌<◌, true, false, List, [], ◌∷◌, Some, None, refl, sym, ap, subst, arith}
+use Rattle.std.specs.Prelude.{Bool, Option, ◌||◌, is_some, MatchOption, unwrap_or}
 use Rattle.std.proofs.lemmas.Bool.{cases_Bool, false≢true, both_ways, and_parts}
 use Rattle.flash_plan.specs.Plan.{IsAccepted, plan_of, count_of}
 use Rattle.flash_plan.specs.declared.outcome.Entry.{Entry}
@@ -12,7 +12,7 @@ use Rattle.flash_plan.specs.declared.unit.UnitPlan.{UnitPlan}
 use Rattle.unit_model.specs.Unit.{ControlUnit}
 use Rattle.unit_model.specs.Vehicle.{Vehicle, unit_at}
 use Rattle.run_model.specs.Matching.{IsMatching}
-use Rattle.run_model.specs.Troubles.{IsCalm, AreCalm, IsUnitCalm, IsVehicleCalm}
+use Rattle.run_model.specs.Troubles.{IsUnitCalm, IsVehicleCalm}
 use Rattle.bay_core.proofs.OneStep.{step_law, core_law}
 use Rattle.bay_core.proofs.Stops.{stop_law}
 use Rattle.bay_core.specs.Core.{Core, core_start, core_after, core_of, is_disk_failure}
@@ -27,9 +27,8 @@ use Rattle.outcome_law.proofs.Runs.{cause_law, calm_not, no_cause}
 use Rattle.outcome_law.proofs.Steps.{moves_grow}
 use Rattle.outcome_law.specs.Causes.{IsCaused}
 use Rattle.outcome_law.specs.Law.{IsRun, last_state, IsCalmUnit}
-use Rattle.outcome_law.specs.LinkCounting.{is_fault, fault_of, faults_of, IsLostBy, IsLinkCounted}
-use Rattle.outcome_law.specs.Outcomes.{IsBlockedBy, IsOutcomeCaused, OutcomeLaw, LinkCountingLaw, IsUntroubled, MatchesAt, IsOfRun, RecordedLaw, UntroubledLaw}
-use Rattle.outcome_law.specs.Rising.{RoseBy, Rose}
+use Rattle.outcome_law.specs.LinkCounting.{is_fault, fault_of, faults_of, IsLinkCounted}
+use Rattle.outcome_law.specs.Outcomes.{IsOutcomeCaused, OutcomeLaw, LinkCountingLaw, IsUntroubled, MatchesAt, IsOfRun, RecordedLaw, UntroubledLaw}
 
 pub link_counting_law : LinkCountingLaw
 link_counting_law rules P c e R R2 v v2 v0 first t0 faults accepted ok did joint is = link_step rules P c R v v0 first t0 faults accepted joint is e v2 R2 ok did

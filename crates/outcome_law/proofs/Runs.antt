@@ -1,37 +1,32 @@
 -- The laws over every legal list of events.
-use Rattle.std.proofs.Common.{◌≡◌, ◌⊎◌, inl, inr, ℕ, zero, suc, ◌+◌, ◌-◌, ◌<◌, ◌≤◌, true, false, List, [], ◌∷◌, length, Some, None, refl, sym, ◌∙◌, ap, subst, arith}
-use Rattle.std.specs.Prelude.{Bool, Option, ◌==◌, ◌&&◌, ◌||◌, nat_le, MatchOption, Contains, slice_index_or, is_some, unwrap_or, if◌then◌else◌}
+use Rattle.std.proofs.Common.{◌≡◌, inl, inr, ℕ, zero, suc, ◌+◌, ◌-◌, ◌<◌, ◌≤◌, true, false, List, [], ◌∷◌, length, Some, None, refl, sym, ◌∙◌, ap, subst, arith}
+use Rattle.std.specs.Prelude.{Bool, Option, ◌==◌, ◌||◌, nat_le, MatchOption, Contains, slice_index_or, if◌then◌else◌}
 use Rattle.std.proofs.lemmas.Bool.{cases_Bool, false≢true, both_ways, and_parts, eqb-true, leb-true, leb-false}
 use Rattle.flash_base.specs.Lists.{Each}
-use Rattle.flash_base.specs.declared.unit.KeyRule.{KeyRule}
-use Rattle.flash_plan.specs.Plan.{IsAccepted, plan_of, count_of}
+use Rattle.flash_plan.specs.Plan.{IsAccepted, plan_of}
 use Rattle.flash_plan.specs.declared.outcome.Entry.TheVariants.{Begun}
 use Rattle.flash_plan.specs.declared.outcome.Entry.{Entry}
 use Rattle.flash_plan.specs.declared.outcome.Outcome.{Outcome}
 use Rattle.flash_plan.specs.declared.outcome.Outcome.TheVariants as outcome
 use Rattle.flash_plan.specs.declared.outcome.Outcome.TheVariants.{Refused, BadAnswer, CheckFailed, IdentMismatch, Undelivered, NoAnswer, PendingLimit, BusyLimit}
 use Rattle.flash_plan.specs.declared.unit.LinkRules.{LinkRules}
-use Rattle.flash_plan.specs.declared.unit.Segment.{Segment}
 use Rattle.flash_plan.specs.declared.unit.UnitPlan.{UnitPlan}
-use Rattle.flash_plan.specs.declared.unit.Wanted.{Wanted}
 use Rattle.uds_codec.specs.Answer.{Verdict, Later, Again, Refusal, Good, Bad_status, Strange, judge}
 use Rattle.uds_codec.specs.Key.{all_zero, level_of}
 use Rattle.unit_model.specs.Unit.{ControlUnit, Counts, has_key, ident_of, LAST_COUNT, obedient}
 use Rattle.unit_model.specs.Vehicle.{Vehicle, unit_at}
-use Rattle.run_model.specs.Entries.{with_entry}
-use Rattle.run_model.specs.Matching.{IsMatching, IsFitting, HasIdent, HasValue}
+use Rattle.run_model.specs.Matching.{IsMatching, HasIdent, HasValue}
 use Rattle.run_model.specs.Places.{is_ended}
 use Rattle.run_model.specs.Script.{Place, AtIdent, AtBegin, AtProgram, AtSeed, AtKey, AtErase, AtDownload, AtBlock, AtExit, AtCheck, AtFinish, AtReset, AtDone, AtEnd, bytes_at, place_next, start_place}
 use Rattle.run_model.specs.States.{HasRoom}
-use Rattle.run_model.specs.Troubles.{IsCalm, AreCalm, trouble}
+use Rattle.run_model.specs.Troubles.{IsCalm, AreCalm}
 use Rattle.unit_session.proofs.Keeps.{left_judged}
-use Rattle.unit_session.specs.Left.{requests_left, left_for}
+use Rattle.unit_session.specs.Left.{requests_left}
 use Rattle.bay_core.proofs.OneStep.{step_law, core_law}
 use Rattle.bay_core.specs.Core.{Core, core_start, core_after, core_of, recorded_after}
 use Rattle.bay_core.specs.Joint.{IsJoint}
 use Rattle.bay_core.specs.Law.{State, MovesAll}
-use Rattle.bay_core.specs.Legal.{is_allowed, is_legal}
-use Rattle.bay_core.specs.Moves.{Moves}
+use Rattle.bay_core.specs.Legal.{is_legal}
 use Rattle.bay_core.specs.declared.event.Event.TheVariants.{Claimed, Began, Sent, Collected, Tended, Completed, DiskFailed, Ended}
 use Rattle.bay_core.specs.declared.event.Event.{Event}
 use Rattle.outcome_law.proofs.Fair.{IsFair, IsFairEnd, fair}
@@ -39,8 +34,8 @@ use Rattle.outcome_law.proofs.Growing.{unit_up_same, make_same}
 use Rattle.outcome_law.proofs.Steps.{start_counted, unit_step}
 use Rattle.outcome_law.specs.Causes.{Unfit, lacks_ident, lacks_level, other_key, stays_locked, lacks_room, other_check, odd_seed, odd_block, OtherIdent, IsCaused, IsCausedBy}
 use Rattle.outcome_law.specs.Counting.{IsEndCaused, AreUnitsCounted}
-use Rattle.outcome_law.specs.Law.{last_state, IsRun, EndsCaused, CauseLaw, CountingLaw, IsCalmUnit, AnyUnit, IsUnfitEnd, CalmLaw, MatchingLaw, AnswersWell, ObedientLaw, GoesOn, DoneLaw}
-use Rattle.outcome_law.specs.Rising.{RoseBy, Rose}
+use Rattle.outcome_law.specs.Law.{last_state, IsRun, CauseLaw, CountingLaw, IsCalmUnit, AnyUnit, IsUnfitEnd, CalmLaw, MatchingLaw, AnswersWell, ObedientLaw, DoneLaw}
+use Rattle.outcome_law.specs.Rising.{RoseBy}
 
 -- ------ records only grow
 or_right : (a b : Bool) → b ≡ true → (a || b) ≡ true

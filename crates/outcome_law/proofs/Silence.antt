@@ -1,7 +1,7 @@
 -- 1,000 ticks without an answer: the unit was mute or late, which was counted.
-use Rattle.std.proofs.Common.{◌≡◌, ◌⊎◌, inl, inr, ℕ, zero, suc, ◌+◌, ◌<◌, ◌≤◌, true, false, List, [], ◌∷◌, ◌++◌, length, Some, None, refl, sym, ◌∙◌, ap, subst, arith, length-append}
-use Rattle.std.specs.Prelude.{Bool, Option, ◌==◌, ◌||◌, nat_le, is_some, is_none}
-use Rattle.std.proofs.lemmas.Bool.{cases_Bool, false≢true, both_ways, leb-false}
+use Rattle.std.proofs.Common.{◌≡◌, ◌⊎◌, inl, inr, ℕ, zero, suc, ◌+◌, ◌<◌, ◌≤◌, true, false, List, [], ◌∷◌, ◌++◌, length, Some, None, refl, sym, ◌∙◌, ap, arith, length-append}
+use Rattle.std.specs.Prelude.{Bool, Option, ◌==◌, ◌||◌, is_some}
+use Rattle.std.proofs.lemmas.Bool.{cases_Bool, false≢true, leb-false}
 use Rattle.std.proofs.lemmas.List.{append-nil}
 use Rattle.bay_core.proofs.Ticking.{bodies, held_bodies}
 use Rattle.bay_core.specs.Joint.{HoldsAtMost, IsLoneHeld, held_of}
@@ -11,23 +11,22 @@ use Rattle.doip_frame.specs.declared.frame.Frame.{Frame}
 use Rattle.flash_base.specs.Lists.{Each}
 use Rattle.flash_plan.specs.declared.unit.UnitPlan.{UnitPlan}
 use Rattle.run_model.specs.Connected.{IsConnected}
-use Rattle.run_model.specs.Link.{Link, first_word, quiet_link}
+use Rattle.run_model.specs.Link.{Link, first_word}
 use Rattle.run_model.specs.Script.{bytes_at}
 use Rattle.run_model.specs.States.{Obeyed, Departed}
 use Rattle.run_model.specs.Talk.{Talk}
-use Rattle.run_model.specs.Ways.{Spoken, Reply, Unheard, words_from, words_in, words_later, words_held, on_way, pending_words, final_word}
+use Rattle.run_model.specs.Ways.{Spoken, Reply, Unheard, words_from, words_in, words_later, on_way, pending_words, final_word}
 use Rattle.uds_codec.specs.Request.{sid_of}
 use Rattle.unit_model.specs.Poll.{is_turn, ticked}
 use Rattle.unit_model.specs.Step.{Departure, Refuses, Odd, Fails, Mutes, Busies, said_by, is_late}
-use Rattle.unit_model.specs.Unit.{ControlUnit, Counts, obedient}
-use Rattle.unit_model.specs.Vehicle.{HeldAnswer, Gateway, Vehicle, unit_at}
+use Rattle.unit_model.specs.Unit.{ControlUnit, Counts}
+use Rattle.unit_model.specs.Vehicle.{HeldAnswer, Gateway, Vehicle}
 use Rattle.flash_plan.specs.declared.outcome.Outcome.TheVariants.{NoAnswer}
-use Rattle.outcome_law.proofs.Clock.{turned, on_one, one_is, none_dues}
+use Rattle.outcome_law.proofs.Clock.{turned, on_one, none_dues}
 use Rattle.outcome_law.proofs.Growing.{rose_then}
-use Rattle.outcome_law.proofs.Waiting.{IsAwaited}
-use Rattle.outcome_law.specs.Causes.{IsCaused, IsCausedBy}
-use Rattle.outcome_law.specs.Counting.{Kept, KeptIn, IsCounted, IsHeardCounted, IsMissedCounted, IsAwaitCounted, dues, come, IsHeldTimed, IsOnTime, IsTimed}
-use Rattle.outcome_law.specs.Rising.{RoseBy, Rose}
+use Rattle.outcome_law.specs.Causes.{IsCaused}
+use Rattle.outcome_law.specs.Counting.{KeptIn, IsCounted, IsHeardCounted, IsMissedCounted, IsAwaitCounted, dues, come, IsHeldTimed, IsOnTime, IsTimed}
+use Rattle.outcome_law.specs.Rising.{Rose}
 
 -- no word of the unit is in the inbox
 pub no_word : (a : ℕ) (ms : List (ℕ × Spoken)) → is_some (first_word a ms) ≡ false → words_from a ms ≡ []

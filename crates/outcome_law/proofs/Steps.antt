@@ -1,19 +1,19 @@
 -- Each event keeps what is counted of each unit.
 use Rattle.std.proofs.Common.{◌≡◌, ◌⊎◌, inl, inr, ℕ, ◌+◌, ◌<◌, ◌≤◌, true, false, List, [], ◌∷◌, ◌++◌, Some, None, refl, sym, ◌∙◌, ap, subst, arith}
-use Rattle.std.specs.Prelude.{Bool, Option, ◌==◌, ◌&&◌, ◌||◌, not, nat_le, nat_lt, is_some, MatchBool, unwrap_or}
-use Rattle.std.proofs.lemmas.Bool.{cases_Bool, false≢true, both_ways, eqb-true, eq-eqb, le-ltb, lt-ltb, leb-true, and_parts, and_right}
-use Rattle.bay_core.proofs.Allowed.{SentFacts, sent_facts, CollectedFacts, collected_facts, begin_facts, claim_facts, open_claimed, asks_needs, not_true}
+use Rattle.std.specs.Prelude.{Bool, Option, ◌==◌, ◌&&◌, ◌||◌, nat_le, nat_lt, is_some}
+use Rattle.std.proofs.lemmas.Bool.{cases_Bool, false≢true, both_ways, eqb-true, eq-eqb, le-ltb, lt-ltb, leb-true, and_parts}
+use Rattle.bay_core.proofs.Allowed.{SentFacts, sent_facts, collected_facts, asks_needs, not_true}
 use Rattle.bay_core.proofs.Joined.{up_open, open_live}
 use Rattle.bay_core.proofs.Links.{Steps}
 use Rattle.bay_core.proofs.Piecing.{piece_first, known_address}
 use Rattle.bay_core.proofs.Sane.{event_steps}
-use Rattle.bay_core.proofs.Sounds.{units_received, units_tended, fresh_live, up_live}
+use Rattle.bay_core.proofs.Sounds.{units_received, units_tended}
 use Rattle.bay_core.proofs.Takes.{first_is, take_none}
 use Rattle.bay_core.proofs.Ticking.{up_tester}
 use Rattle.bay_core.proofs.Ticks.{between, sent_can}
-use Rattle.bay_core.specs.Core.{Slot, Core, core_after, with_slot, with_talk, slots_own, collects, recorded_after, link_after, heard_link, addresses_of}
-use Rattle.bay_core.specs.Joint.{IsJoint, IsUnitJoint, IsTalk, HoldsAtMost, held_of, is_open_slot}
-use Rattle.bay_core.specs.Legal.{is_allowed, may_tend, has_word, fits_inbox}
+use Rattle.bay_core.specs.Core.{Slot, Core, core_after, with_slot, with_talk, slots_own, recorded_after, link_after, addresses_of}
+use Rattle.bay_core.specs.Joint.{IsJoint, held_of, is_open_slot}
+use Rattle.bay_core.specs.Legal.{is_allowed, may_tend}
 use Rattle.bay_core.specs.Moves.{Moves, Receives, Tends, FeedsOr, DialsOr, request_frame}
 use Rattle.bay_core.specs.declared.event.Event.TheVariants.{Claimed, Began, Sent, Collected, Tended, Completed, DiskFailed, Ended}
 use Rattle.bay_core.specs.declared.event.Event.{Event}
@@ -21,11 +21,10 @@ use Rattle.bay_core.specs.declared.event.Heard.TheVariants.{Kept as kept_word, Q
 use Rattle.bay_core.specs.declared.event.Heard.{Heard}
 use Rattle.bay_core.specs.declared.event.Tend.TheVariants.{Dialed, Asked, Said, Polled}
 use Rattle.bay_core.specs.declared.event.Tend.{Tend}
-use Rattle.doip_frame.specs.Frame.{activate_bytes, alive_say_bytes, message_bytes}
-use Rattle.doip_frame.specs.declared.frame.Frame.TheVariants.{Message, AliveSay}
+use Rattle.doip_frame.specs.Frame.{alive_say_bytes}
 use Rattle.flash_base.specs.Lists.{BeginsWith}
-use Rattle.flash_plan.specs.Plan.{IsAccepted, IsAcceptedUnit, plan_of, count_of}
-use Rattle.flash_plan.specs.declared.outcome.Entry.TheVariants.{Begun, Complete}
+use Rattle.flash_plan.specs.Plan.{IsAccepted, plan_of, count_of}
+use Rattle.flash_plan.specs.declared.outcome.Entry.TheVariants.{Begun}
 use Rattle.flash_plan.specs.declared.outcome.Entry.{Entry}
 use Rattle.flash_plan.specs.declared.outcome.Outcome.{Outcome}
 use Rattle.flash_plan.specs.declared.outcome.Outcome.TheVariants as outcome
@@ -38,30 +37,29 @@ use Rattle.run_model.proofs.Hearing.{HeardAtMost, sent_heard}
 use Rattle.run_model.proofs.Sends.{message_sends, alive_sends}
 use Rattle.run_model.specs.Connected.{IsConnected}
 use Rattle.run_model.specs.Entries.{with_entry}
-use Rattle.run_model.specs.Link.{Link, Phase, Down, Fresh, Waits, Up, Denied, is_up, is_live, is_open, is_down, is_fresh, is_waiting, hear_piece, take_word, first_word, without_first, quiet_link, polled_quiet, unanswered}
+use Rattle.run_model.specs.Link.{Link, Phase, Down, Fresh, Waits, Up, Denied, is_up, is_live, is_down, is_fresh, is_waiting, hear_piece, take_word, first_word, without_first, quiet_link, polled_quiet}
 use Rattle.run_model.specs.Places.{is_ended, needs_request}
 use Rattle.run_model.specs.Script.{Place, AtIdent, AtBegin, AtProgram, AtSeed, AtKey, AtErase, AtDownload, AtBlock, AtExit, AtCheck, AtFinish, AtReset, AtDone, AtEnd, bytes_at, start_place, idents_from}
 use Rattle.run_model.specs.States.{StateIn}
-use Rattle.run_model.specs.Talk.{Talk, talk_start, talk_lost, talk_sent, talk_hears, talk_judged, talk_takes, talk_quiet, keeps_on_loss, end_talk, sid_at}
+use Rattle.run_model.specs.Talk.{Talk, talk_start, talk_lost, talk_sent, talk_hears, talk_judged, talk_takes, talk_quiet, keeps_on_loss, sid_at}
 use Rattle.run_model.specs.Ways.{Spoken, Reply, Unheard, words_from, words_in, words_later, words_held, on_way}
 use Rattle.doip_frame.specs.Frame.{stream_of}
 use Rattle.uds_codec.specs.Answer.{Verdict, Later, Again, Refusal, Good, Bad_status, Strange, judge}
 use Rattle.uds_codec.specs.Request.{sid_of}
-use Rattle.unit_model.proofs.Units.{SameState, SameIn, SameUnits, same_self}
+use Rattle.unit_model.proofs.Units.{SameIn, SameUnits, same_self}
 use Rattle.unit_model.specs.Feed.{Nothing, queue_words}
 use Rattle.unit_model.specs.Poll.{Ticks, IsShown, ticked}
 use Rattle.unit_model.specs.Unit.{ControlUnit, Counts}
-use Rattle.unit_model.specs.Vehicle.{HeldAnswer, Gateway, Vehicle, unit_at, redialed}
-use Rattle.unit_session.specs.Left.{requests_left}
+use Rattle.unit_model.specs.Vehicle.{Gateway, Vehicle, unit_at}
 use Rattle.outcome_law.proofs.Asking.{came_out, others_on, refused_awaited, heard_awaited, Refused as refused_request, Heard as heard_request}
 use Rattle.outcome_law.proofs.Clock.{tick_awaited}
-use Rattle.outcome_law.proofs.Growing.{VehicleGrows, vehicle_same, moved_up, feeds_up, part_up, redialed_up, ticks_up, carries_up, misses_up, rose_then, kept_then, unit_up_then, unit_up_same}
+use Rattle.outcome_law.proofs.Growing.{VehicleGrows, vehicle_same, moved_up, feeds_up, part_up, redialed_up, ticks_up, carries_up, misses_up, rose_then, unit_up_then, unit_up_same}
 use Rattle.outcome_law.proofs.Silence.{silence}
-use Rattle.outcome_law.proofs.Talking.{Goes, word_goes, ended_counted, takes_counts}
+use Rattle.outcome_law.proofs.Talking.{word_goes, ended_counted, takes_counts}
 use Rattle.outcome_law.proofs.Waiting.{IsAwaited, IsStillOn, still_awaited, other_taken, piece_on, own_taken}
 use Rattle.outcome_law.specs.Causes.{IsCaused, IsCausedBy}
-use Rattle.outcome_law.specs.Counting.{Kept, KeptIn, Takes, TakesIn, IsIdentPlace, IsEndCaused, BusyBy, IsTalkCounted, IsAwaitCounted, IsTimed, IsUnitCounted, AreUnitsCounted}
-use Rattle.outcome_law.specs.Rising.{RoseBy, Rose, CountsGrow}
+use Rattle.outcome_law.specs.Counting.{KeptIn, Takes, TakesIn, IsIdentPlace, IsEndCaused, BusyBy, IsTalkCounted, IsAwaitCounted, IsTimed, IsUnitCounted, AreUnitsCounted}
+use Rattle.outcome_law.specs.Rising.{CountsGrow}
 
 -- ------ what the vehicle's counts do
 feeds_or : (lost : Bool) (frame : List ℕ) (v w : Vehicle) → FeedsOr lost frame v w → VehicleGrows v w
@@ -326,7 +324,7 @@ module _ (rules : LinkRules) (P : List UnitPlan) (found : Entry → Bool) (c : C
   began_step u n w ok is grows lt = after (Began u) n w ok lt grows
       (by_talk u n _ w (with_entry (Begun u) c.recorded) lt
       (λ lu. let b : with_entry (Begun u) c.recorded (Begun u) ≡ true = ap (λ (x : Bool). x || c.recorded (Begun u)) (eq-eqb u u refl) in
-          subst (λ (x : Bool). IsTalkCounted (plan_of P u) x (First u) (unit_at w.units (plan_of P u).address) (talk_start (plan_of P u) true)) (sym b) (start_counted (plan_of P u) true (First u) _ (kept_of u w lu grows)))
+      subst (λ (x : Bool). IsTalkCounted (plan_of P u) x (First u) (unit_at w.units (plan_of P u).address) (talk_start (plan_of P u) true)) (sym b) (start_counted (plan_of P u) true (First u) _ (kept_of u w lu grows)))
       (λ e. subst (λ (x : Bool). IsTalkCounted (plan_of P n) x (First n) (unit_at w.units (plan_of P n).address) (c.slots n).talk) (sym (other_begun u n e)) (moved n w is lt (counted.units n lt).talk)))
       (λ losses live. by_awaited u n _ c.link w lt (λ lu o a. absurd (false≢true a)) (λ e o a. still_awaits n w is lt live o a))
 
@@ -484,13 +482,13 @@ module _ (rules : LinkRules) (P : List UnitPlan) (found : Entry → Bool) (c : C
     kept_step n w ok is grows lt = after (Collected u kept_word) n w ok lt grows
         (by_talk u n _ w c.recorded lt
         (λ x. subst (λ (y : Vehicle). IsTalkCounted (plan_of P u) (c.recorded (Begun u)) (First u) (unit_at y.units (plan_of P u).address) (talk_takes (plan_of P u) c.link.ticks (first_word (plan_of P u).address c.link.inbox) (c.slots u).talk)) (sym is)
-            (word_talk (first_word (plan_of P u).address c.link.inbox) c.link.inbox refl (words_in rules.tester (plan_of P u).address (stream_of (c.link.rest ++ v.gateway.ready)).frames ++ (words_later rules.tester (plan_of P u).address v.gateway.later ++ words_held (plan_of P u).address v.gateway.held), refl)))
+        (word_talk (first_word (plan_of P u).address c.link.inbox) c.link.inbox refl (words_in rules.tester (plan_of P u).address (stream_of (c.link.rest ++ v.gateway.ready)).frames ++ (words_later rules.tester (plan_of P u).address v.gateway.later ++ words_held (plan_of P u).address v.gateway.held), refl)))
         (λ e. moved n w is lt (counted.units n lt).talk))
         (λ losses x. by_awaited u n _ (take_word (plan_of P u).address c.link) w lt
         (λ y o a. subst (λ (z : Vehicle). IsAwaited rules.tester (plan_of P u) t0 (talk_takes (plan_of P u) c.link.ticks (first_word (plan_of P u).address c.link.inbox) (c.slots u).talk) (take_word (plan_of P u).address c.link) first z) (sym is)
-            (take_own (first_word (plan_of P u).address c.link.inbox) c.link v refl (let e : v.gateway.tick ≡ t0 + c.link.ticks = joint.ticks in omega (arith, e)) kept_u (unit_up_same (Now u)) talk_u (awaited u lu live opened awaiting) a))
+        (take_own (first_word (plan_of P u).address c.link.inbox) c.link v refl (let e : v.gateway.tick ≡ t0 + c.link.ticks = joint.ticks in omega (arith, e)) kept_u (unit_up_same (Now u)) talk_u (awaited u lu live opened awaiting) a))
         (λ e o a. subst (λ (z : Vehicle). IsAwaited rules.tester (plan_of P n) t0 (c.slots n).talk (take_word (plan_of P u).address c.link) first z) (sym is)
-            (still_awaited rules.tester (plan_of P n) t0 (c.slots n).talk c.link (take_word (plan_of P u).address c.link) first v v (other_taken rules.tester (plan_of P n).address (plan_of P u).address c.link v.gateway (apart u n lt lu e)) (same_self (Now n)) (unit_up_same (Now n)) (awaited n lt live o a))))
+        (still_awaited rules.tester (plan_of P n) t0 (c.slots n).talk c.link (take_word (plan_of P u).address c.link) first v v (other_taken rules.tester (plan_of P n).address (plan_of P u).address c.link v.gateway (apart u n lt lu e)) (same_self (Now n)) (unit_up_same (Now n)) (awaited n lt live o a))))
 
     -- a tick
     ticked_awaited : (n : ℕ) → n < count_of P → v.gateway.ready ≡ [] → is_open_slot (c.slots n) ≡ true → (c.slots n).talk.awaiting ≡ true → IsAwaited rules.tester (plan_of P n) t0 (c.slots n).talk (quiet_link c.link) first (ticked v)
@@ -524,13 +522,13 @@ module _ (rules : LinkRules) (P : List UnitPlan) (found : Entry → Bool) (c : C
     piece_step bytes n w ok shown grows same lt = after (Collected u (Piece bytes)) n w ok lt grows
         (by_talk u n _ w c.recorded lt
         (λ x. moved_talk (plan_of P u) (c.recorded (Begun u)) (First u) (Now u) _ _ (grows.units (plan_of P u).address) (same (plan_of P u).address)
-            (word_talk (first_word (plan_of P u).address (hear_piece rules.tester (addresses_of P) bytes c.link).inbox) (hear_piece rules.tester (addresses_of P) bytes c.link).inbox refl
-            (piece_first rules.tester (addresses_of P) (plan_of P u).address (known_address P u lu) bytes c.link v w connected shown)))
+        (word_talk (first_word (plan_of P u).address (hear_piece rules.tester (addresses_of P) bytes c.link).inbox) (hear_piece rules.tester (addresses_of P) bytes c.link).inbox refl
+        (piece_first rules.tester (addresses_of P) (plan_of P u).address (known_address P u lu) bytes c.link v w connected shown)))
         (λ e. rests n w lt grows (same (plan_of P n).address)))
         (λ losses lives. by_awaited u n _ (take_word (plan_of P u).address (hear_piece rules.tester (addresses_of P) bytes c.link)) w lt
         (λ y o a. take_own (first_word (plan_of P u).address (hear_piece rules.tester (addresses_of P) bytes c.link).inbox) (hear_piece rules.tester (addresses_of P) bytes c.link) w refl tick (kept_of u w lu grows) (unit_up_same _) (rests u w lu grows (same (plan_of P u).address)) (heard lives u lu opened awaiting) a)
         (λ e o a. still_awaited rules.tester (plan_of P n) t0 (c.slots n).talk (hear_piece rules.tester (addresses_of P) bytes c.link) (take_word (plan_of P u).address (hear_piece rules.tester (addresses_of P) bytes c.link)) first w w
-            (other_taken rules.tester (plan_of P n).address (plan_of P u).address (hear_piece rules.tester (addresses_of P) bytes c.link) w.gateway (apart u n lt lu e)) (same_self _) (unit_up_same _) (heard lives n lt o a)))
+        (other_taken rules.tester (plan_of P n).address (plan_of P u).address (hear_piece rules.tester (addresses_of P) bytes c.link) w.gateway (apart u n lt lu e)) (same_self _) (unit_up_same _) (heard lives n lt o a)))
       where
         tick : w.gateway.tick ≤ t0 + c.link.ticks
         tick = let a : w.gateway.tick ≡ v.gateway.tick = ap (λ (x : Vehicle). x.gateway.tick) shown.carries.becomes in let b : v.gateway.tick ≡ t0 + c.link.ticks = joint.ticks in omega (arith, a, b)

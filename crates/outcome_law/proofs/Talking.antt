@@ -3,32 +3,30 @@ use Rattle.std.proofs.Common.{◌≡◌, ◌⊎◌, inl, inr, ℕ, zero, suc, �
 use Rattle.std.specs.Prelude.{Bool, Option, ◌==◌, ◌&&◌, not, is_some, unwrap_or}
 use Rattle.std.proofs.lemmas.Bool.{cases_Bool, false≢true, both_ways, eq-eqb, ne_eqb, eqb-true}
 use Rattle.flash_base.specs.ByteMaps.{byte_at}
-use Rattle.flash_base.specs.declared.unit.KeyRule.{KeyRule}
 use Rattle.flash_plan.specs.Plan.{IsAcceptedUnit}
 use Rattle.flash_plan.specs.declared.outcome.Outcome.{Outcome}
 use Rattle.flash_plan.specs.declared.outcome.Outcome.TheVariants as outcome
 use Rattle.flash_plan.specs.declared.outcome.Outcome.TheVariants.{Refused, BadAnswer, CheckFailed, IdentMismatch, Undelivered, PendingLimit, BusyLimit}
 use Rattle.flash_plan.specs.declared.unit.UnitPlan.{UnitPlan}
-use Rattle.uds_codec.specs.Answer.{Verdict, Later, Again, Refusal, Good, Bad_status, Strange, judge, negative}
+use Rattle.uds_codec.specs.Answer.{Verdict, Later, Again, Refusal, Good, Bad_status, Strange, judge}
 use Rattle.uds_codec.specs.Request.{sid_of}
 use Rattle.unit_model.specs.Step.{Departure, Refuses, Odd, Fails, Mutes, Busies, IsDeparture, Leaves, said_by, pending_bytes}
-use Rattle.unit_model.specs.Unit.{ControlUnit, has_key, is_locked, obedient}
+use Rattle.unit_model.specs.Unit.{ControlUnit, has_key, obedient}
 use Rattle.unit_model.specs.Vehicle.{HeldAnswer}
-use Rattle.run_model.proofs.Along.{IsGoodPlace}
 use Rattle.run_model.specs.Places.{needs_request, is_ended}
 use Rattle.run_model.specs.Script.{Place, AtIdent, AtBegin, AtProgram, AtSeed, AtKey, AtErase, AtDownload, AtBlock, AtExit, AtCheck, AtFinish, AtReset, AtDone, AtEnd, bytes_at, place_next, place_judged, start_place}
 use Rattle.run_model.specs.States.{StateAt, SameButCounts, Obeyed, Departed}
-use Rattle.run_model.specs.Talk.{Talk, talk_hears, talk_judged, talk_takes, talk_final, end_talk}
+use Rattle.run_model.specs.Talk.{Talk, talk_hears, talk_judged, talk_final, end_talk}
 use Rattle.run_model.specs.Ways.{Spoken, Reply, Unheard, pending_words, final_word}
 use Rattle.unit_session.proofs.Keeps.{left_judged}
 use Rattle.unit_session.specs.Left.{requests_left}
 use Rattle.unit_session.specs.Onward.{IsFinalForm}
 use Rattle.bay_core.specs.Joint.{IsTalk}
 use Rattle.outcome_law.proofs.Fair.{IsFair, IsFairEnd, IsFairNext, fair}
-use Rattle.outcome_law.proofs.Growing.{leaves_made, make_counts}
+use Rattle.outcome_law.proofs.Growing.{leaves_made}
 use Rattle.outcome_law.specs.Causes.{IsCaused, IsCausedBy}
 use Rattle.outcome_law.specs.Counting.{SameMake, Kept, KeptIn, Takes, TakesIn, IsIdentPlace, IsEndCaused, BusyBy, IsTalkCounted, IsCounted, IsHeardCounted, IsMissedCounted, IsAwaitCounted}
-use Rattle.outcome_law.specs.Rising.{RoseBy, Rose}
+use Rattle.outcome_law.specs.Rising.{RoseBy}
 
 -- ------ what a place asks of the unit stays where lock, key, block number and addresses stay
 pub takes_kept : (place : Place) (u w : ControlUnit) → w.key ≡ u.key → w.unlocked ≡ u.unlocked → w.block ≡ u.block → ((a : ℕ) → is_some (byte_at w.memory a) ≡ is_some (byte_at u.memory a)) → Takes place u → Takes place w

@@ -1,11 +1,10 @@
 -- A unit whose answer is awaited, where what is on the way from it stays.
-use Rattle.std.proofs.Common.{◌≡◌, ◌⊎◌, inl, inr, ℕ, ◌+◌, ◌<◌, ◌≤◌, true, false, List, [], ◌∷◌, ◌++◌, Some, None, refl, sym, ◌∙◌, ap, subst, arith}
-use Rattle.std.specs.Prelude.{Bool, Option, ◌==◌, is_some}
-use Rattle.std.proofs.lemmas.Bool.{cases_Bool, false≢true, both_ways}
+use Rattle.std.proofs.Common.{◌≡◌, ◌⊎◌, inl, inr, ℕ, ◌+◌, ◌<◌, ◌≤◌, true, List, [], ◌∷◌, ◌++◌, Some, None, refl, sym, ◌∙◌, ap, subst, arith}
+use Rattle.std.specs.Prelude.{Option, is_some}
+use Rattle.std.proofs.lemmas.Bool.{both_ways}
 use Rattle.std.proofs.lemmas.List.{append-nil}
 use Rattle.bay_core.proofs.Piecing.{live_stays_open}
-use Rattle.bay_core.proofs.Takes.{first_is, others_keep}
-use Rattle.bay_core.proofs.Ticking.{left_nil}
+use Rattle.bay_core.proofs.Takes.{others_keep}
 use Rattle.bay_core.specs.Joint.{held_of}
 use Rattle.doip_frame.proofs.Streams.{split}
 use Rattle.doip_frame.specs.Frame.{Stream, stream_of}
@@ -15,9 +14,8 @@ use Rattle.flash_plan.specs.declared.unit.UnitPlan.{UnitPlan}
 use Rattle.run_model.proofs.Pieces.{piece_way}
 use Rattle.run_model.proofs.Sees.{piece_keeps, piece_lives}
 use Rattle.run_model.specs.Connected.{IsConnected}
-use Rattle.run_model.specs.Link.{Link, is_live, is_open, is_known, hear_piece, without_first, take_word}
-use Rattle.run_model.specs.Script.{bytes_at}
-use Rattle.run_model.specs.States.{SameButCounts, Obeyed, Departed}
+use Rattle.run_model.specs.Link.{Link, is_live, is_open, is_known, hear_piece, take_word}
+use Rattle.run_model.specs.States.{SameButCounts}
 use Rattle.run_model.specs.Talk.{Talk}
 use Rattle.run_model.specs.Ways.{Spoken, words_from, words_in, words_later, words_held, on_way}
 use Rattle.unit_model.proofs.Units.{SameState, SameIn}
@@ -26,8 +24,8 @@ use Rattle.unit_model.specs.Step.{is_late, Departure, Refuses, Odd, Fails, Mutes
 use Rattle.unit_model.specs.Unit.{ControlUnit, Counts}
 use Rattle.unit_model.specs.Vehicle.{HeldAnswer, Gateway, Vehicle, unit_at}
 use Rattle.outcome_law.proofs.Growing.{rose_then}
-use Rattle.outcome_law.specs.Counting.{Kept, KeptIn, IsCounted, IsHeardCounted, IsMissedCounted, IsAwaitCounted, dues, come, IsOnTime, IsTimed}
-use Rattle.outcome_law.specs.Rising.{RoseBy, Rose, CountsGrow}
+use Rattle.outcome_law.specs.Counting.{Kept, KeptIn, IsCounted, IsHeardCounted, IsAwaitCounted, dues, come, IsOnTime, IsTimed}
+use Rattle.outcome_law.specs.Rising.{Rose, CountsGrow}
 
 -- ------ only counts rise
 pub but_counts : (old u w : ControlUnit) → SameState u w → SameButCounts old u → SameButCounts old w

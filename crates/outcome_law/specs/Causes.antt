@@ -1,8 +1,7 @@
 -- The causes of outcomes: a departure that was counted, or a unit that does not fit its task.
-use Rattle.std.specs.Prelude.{◌≡◌, ◌⊎◌, ℕ, ◌+◌, ◌<◌, ◌≤◌, ◌^◌, Bool, true, false, List, length, Option, Some, None, is_some, Contains}
-use Rattle.flash_base.specs.ByteMaps.{byte_at}
+use Rattle.std.specs.Prelude.{◌≡◌, ◌⊎◌, ℕ, ◌<◌, ◌≤◌, ◌^◌, Bool, true, false, List, length, Option, Some, None, Contains}
 use Rattle.flash_plan.specs.declared.outcome.Outcome.{Outcome}
-use Rattle.flash_plan.specs.declared.outcome.Outcome.TheVariants.{Complete, IdentMismatch, Refused, BadAnswer, CheckFailed, Undelivered, NoAnswer, PendingLimit, BusyLimit, LinkLost, LinkRefused, DiskFault, NoMemory, Blocked}
+use Rattle.flash_plan.specs.declared.outcome.Outcome.TheVariants.{IdentMismatch, Refused, BadAnswer, CheckFailed, Undelivered, NoAnswer, PendingLimit, BusyLimit}
 use Rattle.flash_plan.specs.declared.unit.Segment.{Segment}
 use Rattle.flash_plan.specs.declared.unit.UnitPlan.{UnitPlan}
 use Rattle.flash_plan.specs.declared.unit.Wanted.{Wanted}

@@ -1,12 +1,11 @@
 -- What the counts of the vehicle say of each conversation: kept beside the joint state by each event.
-use Rattle.std.specs.Prelude.{◌≡◌, ◌⊎◌, ℕ, ◌+◌, ◌<◌, ◌≤◌, ◌%◌, ◌-◌, Bool, true, false, List, [], ◌∷◌, ◌++◌, length, Option, Some, None, is_some, if◌then◌else◌}
+use Rattle.std.specs.Prelude.{◌≡◌, ◌⊎◌, ℕ, ◌+◌, ◌<◌, ◌≤◌, ◌%◌, ◌-◌, Bool, true, false, List, [], ◌∷◌, ◌++◌, Option, Some, None, is_some, if◌then◌else◌}
 use Rattle.flash_base.specs.ByteMaps.{byte_at}
 use Rattle.doip_frame.specs.Frame.{stream_of}
 use Rattle.flash_base.specs.Lists.{Each}
 use Rattle.flash_plan.specs.Plan.{plan_of, count_of}
 use Rattle.flash_plan.specs.declared.outcome.Entry.{Entry}
 use Rattle.flash_plan.specs.declared.outcome.Entry.TheVariants.{Begun}
-use Rattle.flash_plan.specs.declared.outcome.Outcome.{Outcome}
 use Rattle.flash_plan.specs.declared.unit.LinkRules.{LinkRules}
 use Rattle.flash_plan.specs.declared.unit.UnitPlan.{UnitPlan}
 use Rattle.flash_plan.specs.declared.unit.Wanted.{Wanted}
@@ -19,7 +18,7 @@ use Rattle.run_model.specs.Places.{is_ended}
 use Rattle.run_model.specs.Script.{Place, AtIdent, AtDownload, AtBlock, AtEnd, bytes_at, start_place}
 use Rattle.run_model.specs.States.{StateAt, HasRoom, Obeyed, Departed}
 use Rattle.run_model.specs.Talk.{Talk}
-use Rattle.run_model.specs.Ways.{Spoken, Reply, Unheard, words_from, words_in, words_later, on_way, is_empty_words, pending_words, final_word}
+use Rattle.run_model.specs.Ways.{Spoken, Unheard, words_from, words_in, words_later, on_way, is_empty_words, pending_words, final_word}
 use Rattle.unit_session.specs.Left.{requests_left}
 use Rattle.bay_core.specs.Core.{Slot, Core}
 use Rattle.bay_core.specs.Joint.{is_open_slot, held_of}

@@ -1,17 +1,15 @@
 -- The causes of outcomes over every legal list of events.
-use Rattle.std.specs.Prelude.{◌≡◌, ◌⊎◌, ℕ, ◌+◌, ◌<◌, ◌≤◌, Bool, true, false, not, List, [], ◌∷◌, ◌++◌, Option, Some, None, IsTrue, Contains, if◌then◌else◌}
-use Rattle.flash_base.specs.Lists.{same_bytes}
+use Rattle.std.specs.Prelude.{◌≡◌, ◌⊎◌, ℕ, ◌+◌, ◌<◌, ◌≤◌, Bool, true, false, List, [], ◌∷◌, Option, Some, None, IsTrue}
 use Rattle.flash_plan.specs.Plan.{IsAccepted, IsAcceptedUnit, plan_of, count_of}
 use Rattle.flash_plan.specs.declared.outcome.Entry.{Entry}
 use Rattle.flash_plan.specs.declared.outcome.Entry.TheVariants.{Begun}
-use Rattle.flash_plan.specs.declared.outcome.Entry.TheVariants as entry
 use Rattle.flash_plan.specs.declared.outcome.Outcome.{Outcome}
-use Rattle.flash_plan.specs.declared.outcome.Outcome.TheVariants.{Complete, IdentMismatch, Refused, BadAnswer, CheckFailed, Undelivered, NoAnswer, PendingLimit, BusyLimit, LinkLost, LinkRefused, DiskFault, NoMemory, Blocked}
+use Rattle.flash_plan.specs.declared.outcome.Outcome.TheVariants.{IdentMismatch}
 use Rattle.flash_plan.specs.declared.unit.LinkRules.{LinkRules}
 use Rattle.flash_plan.specs.declared.unit.UnitPlan.{UnitPlan}
 use Rattle.uds_codec.specs.Answer.{Good, judge}
 use Rattle.unit_model.specs.Unit.{ControlUnit, obedient}
-use Rattle.unit_model.specs.Vehicle.{Gateway, Vehicle, unit_at}
+use Rattle.unit_model.specs.Vehicle.{Vehicle, unit_at}
 use Rattle.run_model.specs.Matching.{IsMatching}
 use Rattle.run_model.specs.Places.{IsPlace, IsAsked, is_ended, needs_request}
 use Rattle.run_model.specs.Script.{Place, AtDone, AtEnd, bytes_at, place_next, start_place}
@@ -24,13 +22,7 @@ use Rattle.bay_core.specs.Joint.{IsJoint}
 use Rattle.bay_core.specs.Law.{State, MovesAll}
 use Rattle.bay_core.specs.Legal.{is_allowed, is_legal}
 use Rattle.bay_core.specs.Moves.{Moves}
-use Rattle.bay_core.specs.Stops.{has_failure}
 use Rattle.bay_core.specs.declared.event.Event.{Event}
-use Rattle.bay_core.specs.declared.event.Event.TheVariants.{Claimed, Began, Sent, Collected, Tended, Completed, DiskFailed, Ended}
-use Rattle.bay_core.specs.declared.event.Heard.{Heard}
-use Rattle.bay_core.specs.declared.event.Heard.TheVariants.{Kept, Quiet, Piece, Lost}
-use Rattle.bay_core.specs.declared.event.Tend.{Tend}
-use Rattle.bay_core.specs.declared.event.Tend.TheVariants.{Dialed, Asked, Said, Polled}
 use Rattle.outcome_law.specs.Causes.{Unfit, OtherIdent, IsCaused}
 use Rattle.outcome_law.specs.Counting.{Takes, IsIdentPlace, AreUnitsCounted}
 
@@ -117,4 +109,4 @@ DoneLaw = (rules : LinkRules) (P : List UnitPlan) (found : Entry → Bool) (even
     → IsRun rules P found events s states v0 → n < count_of P
     → IsCalmUnit (IsMatching (found (Begun n)) (plan_of P n)) (unit_at s.vehicle.units (plan_of P n).address) (unit_at (last_state s states).vehicle.units (plan_of P n).address)
     → GoesOn (plan_of P n) ((core_of rules P (core_start P found) events).recorded (Begun n))
-        ((core_of rules P (core_start P found) events).slots n).talk.place ((core_of rules P (core_start P found) events).slots n).talk.number
+    ((core_of rules P (core_start P found) events).slots n).talk.place ((core_of rules P (core_start P found) events).slots n).talk.number

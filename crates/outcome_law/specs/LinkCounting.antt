@@ -1,5 +1,5 @@
 -- What the gateway's counts say of the link, and what the calls that failed do: kept by each event.
-use Rattle.std.specs.Prelude.{◌≡◌, ◌⊎◌, ℕ, ◌+◌, ◌≤◌, Bool, true, false, not, List, [], ◌∷◌, ◌++◌, Option, Some, None, is_some, if◌then◌else◌}
+use Rattle.std.specs.Prelude.{◌≡◌, ◌⊎◌, ℕ, ◌+◌, ◌≤◌, Bool, true, false, not, List, [], ◌∷◌, ◌++◌, is_some, if◌then◌else◌}
 use Rattle.doip_frame.specs.Frame.{stream_of}
 use Rattle.doip_frame.specs.declared.frame.Frame.{Frame}
 use Rattle.doip_frame.specs.declared.frame.Frame.TheVariants.{HeaderNack, Activate, Activated, AliveAsk, AliveSay, Message, Ack, Nack, Other}

@@ -1,6 +1,6 @@
 -- Counts that rise and never fall: one that has come to its last value stays there.
-use Rattle.std.specs.Prelude.{ℕ, ◌+◌, ◌≤◌, min, Option, Some, None}
-use Rattle.unit_model.specs.Unit.{ControlUnit, Counts, LAST_COUNT}
+use Rattle.std.specs.Prelude.{ℕ, ◌+◌, ◌≤◌, min}
+use Rattle.unit_model.specs.Unit.{Counts, LAST_COUNT}
 
 -- the count rose by so much at least
 abbrev pub RoseBy : ℕ → ℕ → ℕ → Type 0

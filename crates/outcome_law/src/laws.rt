@@ -1,7 +1,12 @@
 //! The causes of outcomes: functions with nothing to run.
 
 ghost use Rattle.outcome_law.specs.Law.{
-    CalmLaw, CauseLaw, CountingLaw, DoneLaw, MatchingLaw, ObedientLaw
+  CalmLaw,
+  CauseLaw,
+  CountingLaw,
+  DoneLaw,
+  MatchingLaw,
+  ObedientLaw,
 };
 ghost use Rattle.outcome_law.specs.Outcomes.{LinkCountingLaw, OutcomeLaw, RecordedLaw, UntroubledLaw};
 
