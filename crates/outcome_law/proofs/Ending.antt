@@ -1,7 +1,7 @@
 -- Each recorded outcome has its cause.
-use Rattle.std.proofs.Common.{◌≡◌, ◌⊎◌, inl, inr, ℕ, zero, suc, ◌+◌, ◌<◌, true, false, List, [], ◌∷◌, length, Some, None, refl, sym, ◌∙◌, ap, subst, arith}
+use Rattle.std.proofs.Common.{◌≡◌, ◌⊎◌, inl, inr, ℕ, zero, suc, ◌+◌, ◌<◌, ◌≤◌, true, false, List, [], ◌∷◌, length, Some, None, refl, sym, ◌∙◌, ap, subst, arith}
 use Rattle.std.specs.Prelude.{Bool, Option, ◌==◌, ◌&&◌, ◌||◌, nat_lt, is_some, is_none, Contains, slice_index_or, unwrap_or, if◌then◌else◌}
-use Rattle.std.proofs.lemmas.Bool.{cases_Bool, false≢true, and_parts, eqb-true}
+use Rattle.std.proofs.lemmas.Bool.{cases_Bool, false≢true, and_parts, eqb-true, ltb-true, ltb-false}
 use Rattle.flash_base.specs.Lists.{Each}
 use Rattle.flash_plan.specs.Outcomes.{same_outcome}
 use Rattle.flash_plan.specs.Plan.{IsAccepted, Ascend, plan_of, count_of}
@@ -16,12 +16,14 @@ use Rattle.run_model.specs.Script.{Place, AtIdent, AtBegin, AtProgram, AtSeed, A
 use Rattle.run_model.specs.Talk.{Talk, talk_lost, keeps_on_loss}
 use Rattle.unit_model.specs.Vehicle.{Vehicle}
 use Rattle.bay_core.proofs.Allowed.{sent_facts, collected_facts, begin_facts, finish_facts, claim_facts, open_none}
+use Rattle.bay_core.proofs.Links.{Steps}
 use Rattle.bay_core.specs.Core.{Slot, Core, core_after, with_slot, with_talk, slots_own, recorded_after, link_after, stop_after, refused_stop, is_disk_failure}
 use Rattle.bay_core.specs.Legal.{is_allowed, is_end, is_stop, is_memory, is_blocked, is_blocker, may_record}
 use Rattle.bay_core.specs.declared.event.Event.{Event}
 use Rattle.bay_core.specs.declared.event.Event.TheVariants.{Claimed, Began, Sent, Collected, Tended, Completed, DiskFailed, Ended}
 use Rattle.outcome_law.proofs.Growing.{VehicleGrows, rose_then}
 use Rattle.outcome_law.specs.LinkCounting.{IsLostBy, IsPhaseCounted, IsLinkCounted}
+use Rattle.outcome_law.specs.OutcomeCounting.{Rests, IsStopCounted, StopCounted}
 use Rattle.outcome_law.specs.Outcomes.{IsBlockedBy}
 use Rattle.outcome_law.specs.Rising.{Rose}
 
@@ -142,11 +144,6 @@ blocked_is P c u DiskFault up e = absurd (false≢true e)
 blocked_is P c u NoMemory up e = absurd (false≢true e)
 
 -- ------ what an outcome rests on
-abbrev pub Rests : List UnitPlan → Core → ℕ → Outcome → Type 0
-Rests P c n o =
-    ((c.slots n).talk.place ≡ AtEnd o) ⊎ (((c.slots n).faulted ≡ true) × (o ≡ DiskFault)) ⊎ (c.stop ≡ Some o) ⊎ (o ≡ NoMemory)
-    ⊎ ((by : ℕ) × (o ≡ Blocked by) × IsBlockedBy (plan_of P n) c by) ⊎ ((o ≡ Complete) × (c.recorded (entry.Complete n) ≡ true))
-
 or_cases : (x y : Bool) → (x || y) ≡ true → (x ≡ true) ⊎ (y ≡ true)
 or_cases true y e = inl refl
 or_cases false y e = inr e
@@ -329,44 +326,44 @@ module _ (rules : LinkRules) (P : List UnitPlan) (c : Core) (accepted : IsAccept
   fault_step e ok n f = fault_own e n (sym (same_fault_after rules P c accepted e ok n) ∙ f)
 
 -- ------ what stopped the run
-abbrev pub IsStopCounted : ℕ → Vehicle → Vehicle → Outcome → Type 0
-IsStopCounted faults first now (LinkLost times) = IsLostBy times faults first now
-IsStopCounted faults first now (LinkRefused code) = Rose (first.gateway.denied code) (now.gateway.denied code)
-IsStopCounted faults first now outcome = Unit {0}
+stop_on : (rules : LinkRules) (failed failed2 : Bool) (faults more : ℕ) (first v w : Vehicle) (o : Outcome) → (failed ≡ true → failed2 ≡ true) → VehicleGrows v w → IsStopCounted rules failed faults first v o → IsStopCounted rules failed2 (faults + more) first w o
+stop_on rules failed failed2 faults more first v w (LinkLost times) on grow (is, (k, losses, count)) = (is, (k, omega (arith, losses), rose_then _ _ _ _ count grow.silent))
+stop_on rules failed failed2 faults more first v w (LinkRefused code) on grow rose = rose_then _ _ _ _ rose (grow.denied code)
+stop_on rules failed failed2 faults more first v w DiskFault on grow is = on is
+stop_on rules failed failed2 faults more first v w Complete on grow is = absurd is
+stop_on rules failed failed2 faults more first v w (IdentMismatch a) on grow is = absurd is
+stop_on rules failed failed2 faults more first v w (Refused a b) on grow is = absurd is
+stop_on rules failed failed2 faults more first v w (BadAnswer a) on grow is = absurd is
+stop_on rules failed failed2 faults more first v w (CheckFailed a b c) on grow is = absurd is
+stop_on rules failed failed2 faults more first v w (Undelivered a) on grow is = absurd is
+stop_on rules failed failed2 faults more first v w (NoAnswer a) on grow is = absurd is
+stop_on rules failed failed2 faults more first v w (PendingLimit a) on grow is = absurd is
+stop_on rules failed failed2 faults more first v w (BusyLimit a) on grow is = absurd is
+stop_on rules failed failed2 faults more first v w (Blocked a) on grow is = absurd is
+stop_on rules failed failed2 faults more first v w NoMemory on grow is = absurd is
 
-abbrev pub StopCounted : ℕ → Vehicle → Vehicle → Option Outcome → Type 0
-StopCounted faults first now None = Unit {0}
-StopCounted faults first now (Some o) = IsStopCounted faults first now o
+refused_counted : (rules : LinkRules) (failed : Bool) (faults losses : ℕ) (first w : Vehicle) (p : Phase) → losses ≤ rules.relinks → IsPhaseCounted first.gateway.denied w.gateway.denied p → StopCounted rules failed faults first w losses (refused_stop p)
+refused_counted rules failed faults losses first w Down few is = few
+refused_counted rules failed faults losses first w Fresh few is = few
+refused_counted rules failed faults losses first w Waits few is = few
+refused_counted rules failed faults losses first w Up few is = few
+refused_counted rules failed faults losses first w (Denied code) few is = is
 
-stop_on : (faults more : ℕ) (first v w : Vehicle) (o : Outcome) → VehicleGrows v w → IsStopCounted faults first v o → IsStopCounted (faults + more) first w o
-stop_on faults more first v w (LinkLost times) grow (k, losses, count) = (k, omega (arith, losses), rose_then _ _ _ _ count grow.silent)
-stop_on faults more first v w (LinkRefused code) grow rose = rose_then _ _ _ _ rose (grow.denied code)
-stop_on faults more first v w Complete grow is = tt
-stop_on faults more first v w (IdentMismatch a) grow is = tt
-stop_on faults more first v w (Refused a b) grow is = tt
-stop_on faults more first v w (BadAnswer a) grow is = tt
-stop_on faults more first v w (CheckFailed a b c) grow is = tt
-stop_on faults more first v w (Undelivered a) grow is = tt
-stop_on faults more first v w (NoAnswer a) grow is = tt
-stop_on faults more first v w (PendingLimit a) grow is = tt
-stop_on faults more first v w (BusyLimit a) grow is = tt
-stop_on faults more first v w (Blocked a) grow is = tt
-stop_on faults more first v w DiskFault grow is = tt
-stop_on faults more first v w NoMemory grow is = tt
-
-refused_counted : (faults : ℕ) (first w : Vehicle) (p : Phase) → IsPhaseCounted first.gateway.denied w.gateway.denied p → StopCounted faults first w (refused_stop p)
-refused_counted faults first w Down is = tt
-refused_counted faults first w Fresh is = tt
-refused_counted faults first w Waits is = tt
-refused_counted faults first w Up is = tt
-refused_counted faults first w (Denied code) is = is
-
-pub stop_step : (rules : LinkRules) (e : Event) (l : Link) (s : Option Outcome) (faults more : ℕ) (first v w : Vehicle) → VehicleGrows v w → StopCounted faults first v s → IsLinkCounted l (faults + more) first w → StopCounted (faults + more) first w (stop_after s e rules l)
-stop_step rules e l (Some o) faults more first v w grow is link = stop_on faults more first v w o grow is
-stop_step rules e l None faults more first v w grow is link = elim (cases_Bool (is_disk_failure e)) [
-  | inl f ↦ rw f tt
-  | inr f ↦ rw f (elim (cases_Bool (nat_lt rules.relinks l.losses)) [
-    | inl many ↦ rw many (link.losses.silent, link.losses.losses, link.losses.count)
-    | inr few ↦ rw few (refused_counted (faults + more) first w l.phase link.denied)
+pub stop_step : (rules : LinkRules) (e : Event) (l l2 : Link) (s : Option Outcome) (failed failed2 : Bool) (faults more : ℕ) (first v w : Vehicle) → Steps l l2 → VehicleGrows v w → (failed ≡ true → failed2 ≡ true) → (is_disk_failure e ≡ true → failed2 ≡ true)
+    → StopCounted rules failed faults first v l.losses s → IsLinkCounted l2 (faults + more) first w → StopCounted rules failed2 (faults + more) first w l2.losses (stop_after s e rules l2)
+stop_step rules e l l2 (Some o) failed failed2 faults more first v w steps grow on fails is link = stop_on rules failed failed2 faults more first v w o on grow is
+stop_step rules e l l2 None failed failed2 faults more first v w steps grow on fails is link = elim (cases_Bool (is_disk_failure e)) [
+  | inl f ↦ rw f (fails f)
+  | inr f ↦ rw f (elim (cases_Bool (nat_lt rules.relinks l2.losses)) [
+    | inl many ↦
+        let over : rules.relinks < l2.losses = ltb-true rules.relinks l2.losses many in
+        let one : l2.losses ≤ l.losses + 1 = at_most steps in
+        let covered : l2.losses ≤ faults + more + link.losses.silent = link.losses.losses in
+        rw many (omega (arith, over, one, is), (link.losses.silent, omega (arith, over, covered), link.losses.count))
+    | inr few ↦ rw few (refused_counted rules failed2 (faults + more) l2.losses first w l2.phase (ltb-false rules.relinks l2.losses few) link.denied)
   ])
 ]
+  where
+    at_most : Steps l l2 → l2.losses ≤ l.losses + 1
+    at_most (inl d) = let x : l2.losses ≡ l.losses + 1 = d.1 in omega (arith, x)
+    at_most (inr k) = let x : l2.losses ≡ l.losses = k.0 in omega (arith, x)

@@ -14,32 +14,35 @@ use Rattle.unit_model.specs.Vehicle.{Vehicle, unit_at}
 use Rattle.run_model.specs.Matching.{IsMatching}
 use Rattle.run_model.specs.Troubles.{IsUnitCalm, IsVehicleCalm}
 use Rattle.bay_core.proofs.OneStep.{step_law, core_law}
-use Rattle.bay_core.proofs.Stops.{stop_law}
 use Rattle.bay_core.specs.Core.{Core, core_start, core_after, core_of, is_disk_failure}
 use Rattle.bay_core.specs.Joint.{IsJoint}
 use Rattle.bay_core.specs.Law.{State, MovesAll}
 use Rattle.bay_core.specs.Legal.{is_allowed, is_legal}
-use Rattle.bay_core.specs.Stops.{has_failure, IsStopCause}
+use Rattle.bay_core.specs.Stops.{has_failure}
 use Rattle.bay_core.specs.declared.event.Event.{Event}
-use Rattle.outcome_law.proofs.Ending.{Rests, rests_step, fault_step, IsStopCounted, StopCounted, stop_step}
+use Rattle.bay_core.proofs.Sane.{event_steps}
+use Rattle.outcome_law.proofs.Ending.{rests_step, fault_step, stop_step}
 use Rattle.outcome_law.proofs.Linking.{link_step}
-use Rattle.outcome_law.proofs.Runs.{cause_law, calm_not, no_cause}
+use Rattle.outcome_law.proofs.Runs.{start as units_start, end_cause, counted_run, calm_not, no_cause}
 use Rattle.outcome_law.proofs.Steps.{moves_grow}
 use Rattle.outcome_law.specs.Causes.{IsCaused}
 use Rattle.outcome_law.specs.Law.{IsRun, last_state, IsCalmUnit}
-use Rattle.outcome_law.specs.LinkCounting.{is_fault, fault_of, faults_of, IsLinkCounted}
-use Rattle.outcome_law.specs.Outcomes.{IsOutcomeCaused, OutcomeLaw, LinkCountingLaw, IsUntroubled, MatchesAt, IsOfRun, RecordedLaw, UntroubledLaw}
+use Rattle.outcome_law.specs.LinkCounting.{is_fault, fault_of, faults_of, IsLostBy, IsLinkCounted}
+use Rattle.outcome_law.specs.OutcomeCounting.{Rests, IsStopCounted, StopCounted, AreOutcomesCounted, OutcomeCountingLaw, StartLaw, CountedLaw}
+use Rattle.outcome_law.specs.Outcomes.{IsBlockedBy, IsOutcomeCaused, OutcomeLaw, IsUntroubled, MatchesAt, IsOfRun, RecordedLaw, UntroubledLaw}
 
-pub link_counting_law : LinkCountingLaw
-link_counting_law rules P c e R R2 v v2 v0 first t0 faults accepted ok did joint is = link_step rules P c R v v0 first t0 faults accepted joint is e v2 R2 ok did
+-- ------ one event
+pub outcome_counting_law : OutcomeCountingLaw
+outcome_counting_law rules P c e R R2 v v2 v0 first t0 faults failed failed2 accepted ok moves joint on fails is =
+    let link = link_step rules P c R v v0 first t0 faults accepted joint is.link e v2 R2 ok moves in
+    record {
+      link = link;
+      rests = λ n o lt at. rests_step rules P c accepted e ok n o lt at (is.rests n o lt);
+      faulted = λ n f. elim (fault_step rules P c accepted e ok n f) [ inl was ↦ on (is.faulted n was) | inr now ↦ fails now ];
+      stop = stop_step rules e c.link (core_after rules P e c).link c.stop failed failed2 faults (fault_of (is_fault e v v2)) first v v2 (event_steps rules P c accepted joint.sane e ok) (moves_grow rules P c e v v2 R R2 moves) on fails is.stop link;
+    }
 
 -- ------ along a list
-record AreEnded (rules : LinkRules) (P : List UnitPlan) (c : Core) (failed : Bool) (faults : ℕ) (first now : Vehicle) : Type 0 where
-  link : IsLinkCounted c.link faults first now
-  rests : (n : ℕ) (o : Outcome) → n < count_of P → (c.slots n).outcome ≡ Some o → Rests P c n o
-  faulted : (n : ℕ) → (c.slots n).faulted ≡ true → failed ≡ true
-  stop : StopCounted faults first now c.stop
-
 or_left : (a b : Bool) → a ≡ true → (a || b) ≡ true
 or_left true b e = refl
 or_left false b e = absurd (false≢true e)
@@ -48,34 +51,22 @@ or_right : (a b : Bool) → b ≡ true → (a || b) ≡ true
 or_right true b e = refl
 or_right false b e = e
 
-one_step : (rules : LinkRules) (P : List UnitPlan) (c : Core) (e : Event) (s s2 : State) (v0 first : Vehicle) (t0 faults : ℕ) (failed : Bool) → IsAccepted P → is_allowed P c e ≡ true → MovesAll rules P c (e ∷ []) s (s2 ∷ [])
-    → IsJoint rules P c s.records s.vehicle v0 t0 → (is_disk_failure e ≡ true → failed ≡ true) → AreEnded rules P c failed faults first s.vehicle
-    → AreEnded rules P (core_after rules P e c) failed (faults + fault_of (is_fault e s.vehicle s2.vehicle)) first s2.vehicle
-one_step rules P c e s s2 v0 first t0 faults failed accepted ok moves joint fails is =
-    let link = link_step rules P c s.records s.vehicle v0 first t0 faults accepted joint is.link e s2.vehicle s2.records ok moves.0 in
-    record {
-      link = link;
-      rests = λ n o lt at. rests_step rules P c accepted e ok n o lt at (is.rests n o lt);
-      faulted = λ n f. elim (fault_step rules P c accepted e ok n f) [ inl was ↦ is.faulted n was | inr now ↦ fails now ];
-      stop = stop_step rules e (core_after rules P e c).link c.stop faults (fault_of (is_fault e s.vehicle s2.vehicle)) first s.vehicle s2.vehicle (moves_grow rules P c e s.vehicle s2.vehicle s.records s2.records moves.0) is.stop link;
-    }
-
 over : (rules : LinkRules) (P : List UnitPlan) (c : Core) (events : List Event) (s : State) (states : List State) (v0 first : Vehicle) (t0 faults : ℕ) (failed : Bool) → IsAccepted P → is_legal rules P c events ≡ true → MovesAll rules P c events s states
-    → IsJoint rules P c s.records s.vehicle v0 t0 → (has_failure events ≡ true → failed ≡ true) → AreEnded rules P c failed faults first s.vehicle
-    → AreEnded rules P (core_of rules P c events) failed (faults + faults_of events s states) first (last_state s states).vehicle
+    → IsJoint rules P c s.records s.vehicle v0 t0 → (has_failure events ≡ true → failed ≡ true) → AreOutcomesCounted rules P c failed faults first s.vehicle
+    → AreOutcomesCounted rules P (core_of rules P c events) failed (faults + faults_of events s states) first (last_state s states).vehicle
 over rules P c [] s states v0 first t0 faults failed accepted legal moves joint fails is =
     let e : faults ≡ faults + 0 = omega arith in
-    subst (λ (x : List State × ℕ). AreEnded rules P c failed x.1 first (last_state s x.0).vehicle) (λ i. (sym moves i, e i)) is
+    subst (λ (x : List State × ℕ). AreOutcomesCounted rules P c failed x.1 first (last_state s x.0).vehicle) (λ i. (sym moves i, e i)) is
 over rules P c (e ∷ es) s [] v0 first t0 faults failed accepted legal moves joint fails is = absurd moves
 over rules P c (e ∷ es) s (s2 ∷ states) v0 first t0 faults failed accepted legal moves joint fails is =
-    let parts = and_parts _ _ legal in
+    let parts = and_parts (is_allowed P c e) (is_legal rules P (core_after rules P e c) es) legal in
     let sum : faults + fault_of (is_fault e s.vehicle s2.vehicle) + faults_of es s2 states ≡ faults + (fault_of (is_fault e s.vehicle s2.vehicle) + faults_of es s2 states) = omega arith in
-    subst (λ (n : ℕ). AreEnded rules P (core_of rules P (core_after rules P e c) es) failed n first (last_state s2 states).vehicle) sum
+    subst (λ (n : ℕ). AreOutcomesCounted rules P (core_of rules P (core_after rules P e c) es) failed n first (last_state s2 states).vehicle) sum
     (over rules P (core_after rules P e c) es s2 states v0 first t0 (faults + fault_of (is_fault e s.vehicle s2.vehicle)) failed accepted parts.1 moves.1
     (step_law rules P c e s.records s2.records s.vehicle s2.vehicle v0 t0 accepted parts.0 moves.0 joint) (λ f. fails (or_right _ _ f))
-    (one_step rules P c e s s2 v0 first t0 faults failed accepted parts.0 (moves.0, refl) joint (λ f. fails (or_left _ _ f)) is))
+    (outcome_counting_law rules P c e s.records s2.records s.vehicle s2.vehicle v0 first t0 faults failed failed accepted parts.0 moves.0 joint (λ f. f) (λ f. fails (or_left _ _ f)) is))
 
-start : (rules : LinkRules) (P : List UnitPlan) (found : Entry → Bool) (v : Vehicle) (failed : Bool) → AreEnded rules P (core_start P found) failed 0 v v
+start : (rules : LinkRules) (P : List UnitPlan) (found : Entry → Bool) (v : Vehicle) (failed : Bool) → AreOutcomesCounted rules P (core_start P found) failed 0 v v
 start rules P found v failed = record {
   link = record {
     losses = record { silent = 0; losses = omega arith; count = omega arith; awaits = λ x. absurd (false≢true x) };
@@ -85,7 +76,7 @@ start rules P found v failed = record {
   };
   rests = λ n o lt at. found_rests n o at;
   faulted = λ n f. absurd (false≢true f);
-  stop = tt;
+  stop = omega arith;
 }
   where
     none_some : (o : Outcome) → None ≡ Some o → ⊥
@@ -98,10 +89,12 @@ start rules P found v failed = record {
     ]
 
 ended_run : (rules : LinkRules) (P : List UnitPlan) (found : Entry → Bool) (events : List Event) (s : State) (states : List State) (v0 : Vehicle) → IsRun rules P found events s states v0
-    → AreEnded rules P (core_of rules P (core_start P found) events) (has_failure events) (0 + faults_of events s states) s.vehicle (last_state s states).vehicle
+    → AreOutcomesCounted rules P (core_of rules P (core_start P found) events) (has_failure events) (faults_of events s states) s.vehicle (last_state s states).vehicle
 ended_run rules P found events s states v0 run =
-    over rules P (core_start P found) events s states v0 s.vehicle s.vehicle.gateway.tick 0 (has_failure events) run.accepted run.legal run.moves
-    (core_law rules P found [] s [] v0 run.accepted run.sound run.records refl refl) (λ f. f) (start rules P found s.vehicle (has_failure events))
+    let none : 0 + faults_of events s states ≡ faults_of events s states = omega arith in
+    subst (λ (k : ℕ). AreOutcomesCounted rules P (core_of rules P (core_start P found) events) (has_failure events) k s.vehicle (last_state s states).vehicle) none
+    (over rules P (core_start P found) events s states v0 s.vehicle s.vehicle.gateway.tick 0 (has_failure events) run.accepted run.legal run.moves
+    (core_law rules P found [] s [] v0 run.accepted run.sound run.records refl refl) (λ f. f) (start rules P found s.vehicle (has_failure events)))
 
 -- ------ each outcome
 -- no other outcome ends a conversation
@@ -150,37 +143,45 @@ by_talk rules plan c n failed faults first now (Blocked by) is e = absurd (false
 by_talk rules plan c n failed faults first now DiskFault is e = absurd (false≢true e)
 by_talk rules plan c n failed faults first now NoMemory is e = absurd (false≢true e)
 
-by_stop : (rules : LinkRules) (plan : UnitPlan) (c : Core) (n : ℕ) (failed : Bool) (faults : ℕ) (first now : Vehicle) (o : Outcome) → IsStopCause rules failed o → IsStopCounted (0 + faults) first now o → IsOutcomeCaused rules plan c n failed faults first now o
-by_stop rules plan c n failed faults first now DiskFault cause counted = cause
-by_stop rules plan c n failed faults first now (LinkLost times) cause (k, losses, count) = (cause, (k, omega (arith, losses, cause), count))
-by_stop rules plan c n failed faults first now (LinkRefused code) cause counted = counted
-by_stop rules plan c n failed faults first now Complete cause counted = absurd cause
-by_stop rules plan c n failed faults first now (IdentMismatch a) cause counted = absurd cause
-by_stop rules plan c n failed faults first now (Refused a b) cause counted = absurd cause
-by_stop rules plan c n failed faults first now (BadAnswer a) cause counted = absurd cause
-by_stop rules plan c n failed faults first now (CheckFailed a b d) cause counted = absurd cause
-by_stop rules plan c n failed faults first now (Undelivered a) cause counted = absurd cause
-by_stop rules plan c n failed faults first now (NoAnswer a) cause counted = absurd cause
-by_stop rules plan c n failed faults first now (PendingLimit a) cause counted = absurd cause
-by_stop rules plan c n failed faults first now (BusyLimit a) cause counted = absurd cause
-by_stop rules plan c n failed faults first now (Blocked a) cause counted = absurd cause
-by_stop rules plan c n failed faults first now NoMemory cause counted = absurd cause
+by_stop : (rules : LinkRules) (plan : UnitPlan) (c : Core) (n : ℕ) (failed : Bool) (faults : ℕ) (first now : Vehicle) (o : Outcome) → IsStopCounted rules failed faults first now o → IsOutcomeCaused rules plan c n failed faults first now o
+by_stop rules plan c n failed faults first now DiskFault counted = counted
+by_stop rules plan c n failed faults first now (LinkLost times) counted = counted
+by_stop rules plan c n failed faults first now (LinkRefused code) counted = counted
+by_stop rules plan c n failed faults first now Complete counted = absurd counted
+by_stop rules plan c n failed faults first now (IdentMismatch a) counted = absurd counted
+by_stop rules plan c n failed faults first now (Refused a b) counted = absurd counted
+by_stop rules plan c n failed faults first now (BadAnswer a) counted = absurd counted
+by_stop rules plan c n failed faults first now (CheckFailed a b d) counted = absurd counted
+by_stop rules plan c n failed faults first now (Undelivered a) counted = absurd counted
+by_stop rules plan c n failed faults first now (NoAnswer a) counted = absurd counted
+by_stop rules plan c n failed faults first now (PendingLimit a) counted = absurd counted
+by_stop rules plan c n failed faults first now (BusyLimit a) counted = absurd counted
+by_stop rules plan c n failed faults first now (Blocked a) counted = absurd counted
+by_stop rules plan c n failed faults first now NoMemory counted = absurd counted
+
+pub counted_law : CountedLaw
+counted_law rules P found c failed faults first now t0 n o lt units is at = go (is.rests n o lt at)
+  where
+    to : (x : Outcome) → o ≡ x → IsOutcomeCaused rules (plan_of P n) c n failed faults first now x → IsOutcomeCaused rules (plan_of P n) c n failed faults first now o
+    to x same cause = subst (λ (y : Outcome). IsOutcomeCaused rules (plan_of P n) c n failed faults first now y) (sym same) cause
+
+    go : Rests P c n o → IsOutcomeCaused rules (plan_of P n) c n failed faults first now o
+    go (inl place) =
+        let cause = end_cause (plan_of P n) (c.recorded (entry.Begun n)) (unit_at first.units (plan_of P n).address) (unit_at now.units (plan_of P n).address) (c.slots n).talk.place o place (units.units n lt).talk.ended in
+        by_talk rules (plan_of P n) c n failed faults first now o cause (spoken (plan_of P n) (c.recorded (entry.Begun n)) (unit_at first.units (plan_of P n).address) (unit_at now.units (plan_of P n).address) o cause)
+    go (inr (inl (f, same))) = to DiskFault same (is.faulted n f)
+    go (inr (inr (inl stop))) = by_stop rules (plan_of P n) c n failed faults first now o (subst (λ (x : Option Outcome). StopCounted rules failed faults first now c.link.losses x) stop is.stop)
+    go (inr (inr (inr (inl same)))) = to NoMemory same tt
+    go (inr (inr (inr (inr (inl (by, same, b)))))) = to (Blocked by) same b
+    go (inr (inr (inr (inr (inr (same, done)))))) = to Complete same done
 
 pub outcome_law : OutcomeLaw
-outcome_law rules P found events s states v0 n o run lt at = go ((ended_run rules P found events s states v0 run).rests n o lt at)
-  where
-    go : Rests P (core_of rules P (core_start P found) events) n o → IsOutcomeCaused rules (plan_of P n) (core_of rules P (core_start P found) events) n (has_failure events) (faults_of events s states) s.vehicle (last_state s states).vehicle o
-    go (inl place) =
-        let is = cause_law rules P found events s states v0 run n o lt place in
-        by_talk rules (plan_of P n) (core_of rules P (core_start P found) events) n (has_failure events) (faults_of events s states) s.vehicle (last_state s states).vehicle o is (spoken (plan_of P n) _ _ _ o is)
-    go (inr (inl (f, is))) = subst (λ (x : Outcome). IsOutcomeCaused rules (plan_of P n) (core_of rules P (core_start P found) events) n (has_failure events) (faults_of events s states) s.vehicle (last_state s states).vehicle x) (sym is) ((ended_run rules P found events s states v0 run).faulted n f)
-    go (inr (inr (inl stop))) =
-        by_stop rules (plan_of P n) (core_of rules P (core_start P found) events) n (has_failure events) (faults_of events s states) s.vehicle (last_state s states).vehicle o
-        (subst (λ (x : Option Outcome). MatchOption x (Unit {0}) (IsStopCause rules (has_failure events))) stop (stop_law rules P found events))
-        (subst (λ (x : Option Outcome). StopCounted (0 + faults_of events s states) s.vehicle (last_state s states).vehicle x) stop (ended_run rules P found events s states v0 run).stop)
-    go (inr (inr (inr (inl none)))) = subst (λ (x : Outcome). IsOutcomeCaused rules (plan_of P n) (core_of rules P (core_start P found) events) n (has_failure events) (faults_of events s states) s.vehicle (last_state s states).vehicle x) (sym none) tt
-    go (inr (inr (inr (inr (inl (by, is, b)))))) = subst (λ (x : Outcome). IsOutcomeCaused rules (plan_of P n) (core_of rules P (core_start P found) events) n (has_failure events) (faults_of events s states) s.vehicle (last_state s states).vehicle x) (sym is) b
-    go (inr (inr (inr (inr (inr (is, done)))))) = subst (λ (x : Outcome). IsOutcomeCaused rules (plan_of P n) (core_of rules P (core_start P found) events) n (has_failure events) (faults_of events s states) s.vehicle (last_state s states).vehicle x) (sym is) done
+outcome_law rules P found events s states v0 n o run lt at =
+    counted_law rules P found (core_of rules P (core_start P found) events) (has_failure events) (faults_of events s states) s.vehicle (last_state s states).vehicle s.vehicle.gateway.tick n o lt
+    (counted_run rules P found events s states v0 run) (ended_run rules P found events s states v0 run) at
+
+pub start_law : StartLaw
+start_law = record { units = units_start; outcomes = start }
 
 -- ------ nothing failed
 module _ (rules : LinkRules) (P : List UnitPlan) (found : Entry → Bool) (events : List Event) (s : State) (states : List State) (v0 : Vehicle) (n : ℕ) (run : IsRun rules P found events s states v0) (failed : has_failure events ≡ false) (faults : faults_of events s states ≡ 0)

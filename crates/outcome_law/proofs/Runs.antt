@@ -59,7 +59,7 @@ counting_law rules P found c e R R2 v v2 v0 first t0 accepted ok did joint count
 }
 
 -- ------ lists
-start : (rules : LinkRules) (P : List UnitPlan) (found : Entry → Bool) (v : Vehicle) (t0 : ℕ) → AreUnitsCounted rules P found t0 (core_start P found) v v
+pub start : (rules : LinkRules) (P : List UnitPlan) (found : Entry → Bool) (v : Vehicle) (t0 : ℕ) → AreUnitsCounted rules P found t0 (core_start P found) v v
 start rules P found v t0 = record {
   units = λ n lt. record {
     kept = unit_up_same (unit_at v.units (plan_of P n).address);
@@ -87,9 +87,12 @@ counted_run rules P found events s states v0 run =
     (core_law rules P found [] s [] v0 run.accepted run.sound run.records refl refl) (start rules P found s.vehicle s.vehicle.gateway.tick)
 
 -- ------ the causes
+pub end_cause : (plan : UnitPlan) (begun : Bool) (first now : Option ControlUnit) (place : Place) (o : Outcome) → place ≡ AtEnd o → IsEndCaused plan begun first now place → IsCaused plan begun first now o
+end_cause plan begun first now place o at is = subst (λ (p : Place). IsEndCaused plan begun first now p) at is
+
 pub cause_law : CauseLaw
 cause_law rules P found events s states v0 run n o lt at =
-    subst (λ (p : Place). IsEndCaused (plan_of P n) ((core_of rules P (core_start P found) events).recorded (Begun n)) (unit_at s.vehicle.units (plan_of P n).address) (unit_at (last_state s states).vehicle.units (plan_of P n).address) p) at
+    end_cause (plan_of P n) ((core_of rules P (core_start P found) events).recorded (Begun n)) (unit_at s.vehicle.units (plan_of P n).address) (unit_at (last_state s states).vehicle.units (plan_of P n).address) _ o at
     ((counted_run rules P found events s states v0 run).units n lt).talk.ended
 
 -- ------ without a departure

@@ -2,5 +2,6 @@ pub mod Causes
 pub mod Counting
 pub mod Law
 pub mod LinkCounting
+pub mod OutcomeCounting
 pub mod Outcomes
 pub mod Rising

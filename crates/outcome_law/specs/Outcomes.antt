@@ -1,6 +1,6 @@
 -- The causes of the outcomes that are recorded of units.
 use Rattle.std.specs.Prelude.{◌≡◌, ℕ, ◌+◌, ◌<◌, Bool, true, false, List, Option, Some, None, is_some, Contains}
-use Rattle.flash_plan.specs.Plan.{IsAccepted, plan_of, count_of}
+use Rattle.flash_plan.specs.Plan.{plan_of, count_of}
 use Rattle.flash_plan.specs.declared.outcome.Entry.{Entry}
 use Rattle.flash_plan.specs.declared.outcome.Entry.TheVariants as entry
 use Rattle.flash_plan.specs.declared.outcome.Outcome.{Outcome}
@@ -11,16 +11,13 @@ use Rattle.unit_model.specs.Unit.{ControlUnit}
 use Rattle.unit_model.specs.Vehicle.{Vehicle, unit_at}
 use Rattle.run_model.specs.Matching.{IsMatching}
 use Rattle.run_model.specs.Troubles.{IsVehicleCalm}
-use Rattle.bay_core.specs.Core.{Core, core_start, core_of, link_after}
-use Rattle.bay_core.specs.Joint.{IsJoint}
+use Rattle.bay_core.specs.Core.{Core, core_start, core_of}
 use Rattle.bay_core.specs.Law.{State}
-use Rattle.bay_core.specs.Legal.{is_allowed}
-use Rattle.bay_core.specs.Moves.{Moves}
 use Rattle.bay_core.specs.Stops.{has_failure}
 use Rattle.bay_core.specs.declared.event.Event.{Event}
 use Rattle.outcome_law.specs.Causes.{IsCaused}
 use Rattle.outcome_law.specs.Law.{IsRun, last_state, IsCalmUnit}
-use Rattle.outcome_law.specs.LinkCounting.{is_fault, fault_of, faults_of, IsLostBy, IsLinkCounted}
+use Rattle.outcome_law.specs.LinkCounting.{faults_of, IsLostBy}
 use Rattle.outcome_law.specs.Rising.{Rose}
 
 -- the lowest unit that has to be complete first and is not; it has an outcome
@@ -46,12 +43,6 @@ abbrev pub OutcomeLaw : Type 0
 OutcomeLaw = (rules : LinkRules) (P : List UnitPlan) (found : Entry → Bool) (events : List Event) (s : State) (states : List State) (v0 : Vehicle) (n : ℕ) (outcome : Outcome)
     → IsRun rules P found events s states v0 → n < count_of P → (((core_of rules P (core_start P found) events).slots n).outcome ≡ Some outcome)
     → IsOutcomeCaused rules (plan_of P n) (core_of rules P (core_start P found) events) n (has_failure events) (faults_of events s states) s.vehicle (last_state s states).vehicle outcome
-
--- what is counted of the link is kept by each allowed event beside the joint state
-abbrev pub LinkCountingLaw : Type 0
-LinkCountingLaw = (rules : LinkRules) (P : List UnitPlan) (c : Core) (e : Event) (R R2 : Entry → Bool) (v v2 v0 first : Vehicle) (t0 faults : ℕ)
-    → IsAccepted P → is_allowed P c e ≡ true → Moves rules P c e v v2 R R2 → IsJoint rules P c R v v0 t0
-    → IsLinkCounted c.link faults first v → IsLinkCounted (link_after rules P e c.link) (faults + fault_of (is_fault e v v2)) first v2
 
 -- complete, or not for anything that a vehicle does
 abbrev pub IsUntroubled : Outcome → Type 0

@@ -8,15 +8,18 @@ ghost use Rattle.outcome_law.specs.Law.{
   MatchingLaw,
   ObedientLaw,
 };
-ghost use Rattle.outcome_law.specs.Outcomes.{LinkCountingLaw, OutcomeLaw, RecordedLaw, UntroubledLaw};
+ghost use Rattle.outcome_law.specs.OutcomeCounting.{CountedLaw, OutcomeCountingLaw, StartLaw};
+ghost use Rattle.outcome_law.specs.Outcomes.{OutcomeLaw, RecordedLaw, UntroubledLaw};
 
 /// What the counts of the vehicle say of each conversation and of the link is kept by each allowed event, beside the joint
 /// state: of a unit whose answer is awaited, what its counts rose by since the start of the run explains what it has on the
 /// way, and when it comes; losses of the link are covered by calls that failed, bytes that were garbled and activations that
 /// were not answered in time.
 pub fn each_event_keeps_the_counting()
+    ensures start { StartLaw }
     ensures units { CountingLaw }
-    ensures link { LinkCountingLaw }
+    ensures outcomes { OutcomeCountingLaw }
+    ensures says { CountedLaw }
 {}
 
 /// For every legal list of events, whatever vehicle moves with it: a conversation ends with an outcome, and a unit has an
