@@ -1,0 +1,14 @@
+pub mod Asking
+pub mod Clock
+pub mod Ending
+pub mod Fair
+pub mod Fairness
+pub mod Growing
+pub mod Linking
+pub mod Losing
+pub mod Recorded
+pub mod Runs
+pub mod Silence
+pub mod Steps
+pub mod Talking
+pub mod Waiting

@@ -1,0 +1,234 @@
+-- The laws of recorded outcomes, over every legal list of events.
+use Rattle.std.proofs.Common.{◌≡◌, inl, inr, ℕ, ◌+◌, ◌<◌, true, false, List, [], ◌∷◌, Some, None, refl, sym, ap, subst, arith}
+use Rattle.std.specs.Prelude.{Bool, Option, ◌||◌, is_some, MatchOption, unwrap_or}
+use Rattle.std.proofs.lemmas.Bool.{cases_Bool, false≢true, both_ways, and_parts}
+use Rattle.flash_plan.specs.Plan.{IsAccepted, plan_of, count_of}
+use Rattle.flash_plan.specs.declared.outcome.Entry.{Entry}
+use Rattle.flash_plan.specs.declared.outcome.Entry.TheVariants as entry
+use Rattle.flash_plan.specs.declared.outcome.Outcome.{Outcome}
+use Rattle.flash_plan.specs.declared.outcome.Outcome.TheVariants.{Complete, IdentMismatch, Refused, BadAnswer, CheckFailed, Undelivered, NoAnswer, PendingLimit, BusyLimit, LinkLost, LinkRefused, DiskFault, NoMemory, Blocked}
+use Rattle.flash_plan.specs.declared.unit.LinkRules.{LinkRules}
+use Rattle.flash_plan.specs.declared.unit.UnitPlan.{UnitPlan}
+use Rattle.unit_model.specs.Unit.{ControlUnit}
+use Rattle.unit_model.specs.Vehicle.{Vehicle, unit_at}
+use Rattle.run_model.specs.Matching.{IsMatching}
+use Rattle.run_model.specs.Troubles.{IsUnitCalm, IsVehicleCalm}
+use Rattle.bay_core.proofs.OneStep.{step_law, core_law}
+use Rattle.bay_core.specs.Core.{Core, core_start, core_after, core_of, is_disk_failure}
+use Rattle.bay_core.specs.Joint.{IsJoint}
+use Rattle.bay_core.specs.Law.{State, MovesAll}
+use Rattle.bay_core.specs.Legal.{is_allowed, is_legal}
+use Rattle.bay_core.specs.Stops.{has_failure}
+use Rattle.bay_core.specs.declared.event.Event.{Event}
+use Rattle.bay_core.proofs.Sane.{event_steps}
+use Rattle.outcome_law.proofs.Ending.{rests_step, fault_step, stop_step}
+use Rattle.outcome_law.proofs.Linking.{link_step}
+use Rattle.outcome_law.proofs.Runs.{start as units_start, end_cause, counted_run, calm_not, no_cause}
+use Rattle.outcome_law.proofs.Steps.{moves_grow}
+use Rattle.outcome_law.specs.Causes.{IsCaused}
+use Rattle.outcome_law.specs.Law.{IsRun, last_state, IsCalmUnit}
+use Rattle.outcome_law.specs.LinkCounting.{is_fault, fault_of, faults_of, IsLostBy, IsLinkCounted}
+use Rattle.outcome_law.specs.OutcomeCounting.{Rests, IsStopCounted, StopCounted, AreOutcomesCounted, OutcomeCountingLaw, StartLaw, CountedLaw}
+use Rattle.outcome_law.specs.Outcomes.{IsBlockedBy, IsOutcomeCaused, OutcomeLaw, IsUntroubled, MatchesAt, IsOfRun, RecordedLaw, UntroubledLaw}
+
+-- ------ one event
+pub outcome_counting_law : OutcomeCountingLaw
+outcome_counting_law rules P c e R R2 v v2 v0 first t0 faults failed failed2 accepted ok moves joint on fails is =
+    let link = link_step rules P c R v v0 first t0 faults accepted joint is.link e v2 R2 ok moves in
+    record {
+      link = link;
+      rests = λ n o lt at. rests_step rules P c accepted e ok n o lt at (is.rests n o lt);
+      faulted = λ n f. elim (fault_step rules P c accepted e ok n f) [ inl was ↦ on (is.faulted n was) | inr now ↦ fails now ];
+      stop = stop_step rules e c.link (core_after rules P e c).link c.stop failed failed2 faults (fault_of (is_fault e v v2)) first v v2 (event_steps rules P c accepted joint.sane e ok) (moves_grow rules P c e v v2 R R2 moves) on fails is.stop link;
+    }
+
+-- ------ along a list
+or_left : (a b : Bool) → a ≡ true → (a || b) ≡ true
+or_left true b e = refl
+or_left false b e = absurd (false≢true e)
+
+or_right : (a b : Bool) → b ≡ true → (a || b) ≡ true
+or_right true b e = refl
+or_right false b e = e
+
+over : (rules : LinkRules) (P : List UnitPlan) (c : Core) (events : List Event) (s : State) (states : List State) (v0 first : Vehicle) (t0 faults : ℕ) (failed : Bool) → IsAccepted P → is_legal rules P c events ≡ true → MovesAll rules P c events s states
+    → IsJoint rules P c s.records s.vehicle v0 t0 → (has_failure events ≡ true → failed ≡ true) → AreOutcomesCounted rules P c failed faults first s.vehicle
+    → AreOutcomesCounted rules P (core_of rules P c events) failed (faults + faults_of events s states) first (last_state s states).vehicle
+over rules P c [] s states v0 first t0 faults failed accepted legal moves joint fails is =
+    let e : faults ≡ faults + 0 = omega arith in
+    subst (λ (x : List State × ℕ). AreOutcomesCounted rules P c failed x.1 first (last_state s x.0).vehicle) (λ i. (sym moves i, e i)) is
+over rules P c (e ∷ es) s [] v0 first t0 faults failed accepted legal moves joint fails is = absurd moves
+over rules P c (e ∷ es) s (s2 ∷ states) v0 first t0 faults failed accepted legal moves joint fails is =
+    let parts = and_parts (is_allowed P c e) (is_legal rules P (core_after rules P e c) es) legal in
+    let sum : faults + fault_of (is_fault e s.vehicle s2.vehicle) + faults_of es s2 states ≡ faults + (fault_of (is_fault e s.vehicle s2.vehicle) + faults_of es s2 states) = omega arith in
+    subst (λ (n : ℕ). AreOutcomesCounted rules P (core_of rules P (core_after rules P e c) es) failed n first (last_state s2 states).vehicle) sum
+    (over rules P (core_after rules P e c) es s2 states v0 first t0 (faults + fault_of (is_fault e s.vehicle s2.vehicle)) failed accepted parts.1 moves.1
+    (step_law rules P c e s.records s2.records s.vehicle s2.vehicle v0 t0 accepted parts.0 moves.0 joint) (λ f. fails (or_right _ _ f))
+    (outcome_counting_law rules P c e s.records s2.records s.vehicle s2.vehicle v0 first t0 faults failed failed accepted parts.0 moves.0 joint (λ f. f) (λ f. fails (or_left _ _ f)) is))
+
+start : (rules : LinkRules) (P : List UnitPlan) (found : Entry → Bool) (v : Vehicle) (failed : Bool) → AreOutcomesCounted rules P (core_start P found) failed 0 v v
+start rules P found v failed = record {
+  link = record {
+    losses = record { silent = 0; losses = omega arith; count = omega arith; awaits = λ x. absurd (false≢true x) };
+    denials = λ code. omega arith;
+    denied = tt;
+    fair = λ lives. absurd (false≢true lives);
+  };
+  rests = λ n o lt at. found_rests n o at;
+  faulted = λ n f. absurd (false≢true f);
+  stop = omega arith;
+}
+  where
+    none_some : (o : Outcome) → None ≡ Some o → ⊥
+    none_some o e = false≢true (ap (is_some {T = Outcome}) e)
+
+    found_rests : (n : ℕ) (o : Outcome) → ((core_start P found).slots n).outcome ≡ Some o → Rests P (core_start P found) n o
+    found_rests n o at = elim (cases_Bool (found (entry.Complete n))) [
+      | inr e ↦ absurd (none_some o (rw e at at))
+      | inl e ↦ (let is : Some Complete ≡ Some o = rw e at at in inr (inr (inr (inr (inr (sym (ap (λ (x : Option Outcome). unwrap_or x o) is), e))))))
+    ]
+
+ended_run : (rules : LinkRules) (P : List UnitPlan) (found : Entry → Bool) (events : List Event) (s : State) (states : List State) (v0 : Vehicle) → IsRun rules P found events s states v0
+    → AreOutcomesCounted rules P (core_of rules P (core_start P found) events) (has_failure events) (faults_of events s states) s.vehicle (last_state s states).vehicle
+ended_run rules P found events s states v0 run =
+    let none : 0 + faults_of events s states ≡ faults_of events s states = omega arith in
+    subst (λ (k : ℕ). AreOutcomesCounted rules P (core_of rules P (core_start P found) events) (has_failure events) k s.vehicle (last_state s states).vehicle) none
+    (over rules P (core_start P found) events s states v0 s.vehicle s.vehicle.gateway.tick 0 (has_failure events) run.accepted run.legal run.moves
+    (core_law rules P found [] s [] v0 run.accepted run.sound run.records refl refl) (λ f. f) (start rules P found s.vehicle (has_failure events)))
+
+-- ------ each outcome
+-- no other outcome ends a conversation
+abbrev is_spoken : Outcome → Bool
+is_spoken Complete = false
+is_spoken (LinkLost times) = false
+is_spoken (LinkRefused code) = false
+is_spoken (Blocked by) = false
+is_spoken DiskFault = false
+is_spoken NoMemory = false
+is_spoken outcome = true
+
+spoken : (plan : UnitPlan) (begun : Bool) (first now : Option ControlUnit) (o : Outcome) → IsCaused plan begun first now o → is_spoken o ≡ true
+spoken plan begun None None o is = ap is_spoken is
+spoken plan begun None (Some w) o is = absurd is
+spoken plan begun (Some u) None o is = absurd is
+spoken plan begun (Some u) (Some w) (Refused sid nrc) is = refl
+spoken plan begun (Some u) (Some w) (BadAnswer sid) is = refl
+spoken plan begun (Some u) (Some w) (CheckFailed routine segment status) is = refl
+spoken plan begun (Some u) (Some w) (NoAnswer sid) is = refl
+spoken plan begun (Some u) (Some w) (PendingLimit sid) is = refl
+spoken plan begun (Some u) (Some w) (BusyLimit sid) is = refl
+spoken plan begun (Some u) (Some w) (Undelivered code) is = refl
+spoken plan begun (Some u) (Some w) (IdentMismatch did) is = refl
+spoken plan begun (Some u) (Some w) Complete is = absurd is
+spoken plan begun (Some u) (Some w) (LinkLost times) is = absurd is
+spoken plan begun (Some u) (Some w) (LinkRefused code) is = absurd is
+spoken plan begun (Some u) (Some w) (Blocked by) is = absurd is
+spoken plan begun (Some u) (Some w) DiskFault is = absurd is
+spoken plan begun (Some u) (Some w) NoMemory is = absurd is
+
+by_talk : (rules : LinkRules) (plan : UnitPlan) (c : Core) (n : ℕ) (failed : Bool) (faults : ℕ) (first now : Vehicle) (o : Outcome) → IsCaused plan (c.recorded (entry.Begun n)) (unit_at first.units plan.address) (unit_at now.units plan.address) o → is_spoken o ≡ true
+    → IsOutcomeCaused rules plan c n failed faults first now o
+by_talk rules plan c n failed faults first now (Refused sid nrc) is e = is
+by_talk rules plan c n failed faults first now (BadAnswer sid) is e = is
+by_talk rules plan c n failed faults first now (CheckFailed routine segment status) is e = is
+by_talk rules plan c n failed faults first now (NoAnswer sid) is e = is
+by_talk rules plan c n failed faults first now (PendingLimit sid) is e = is
+by_talk rules plan c n failed faults first now (BusyLimit sid) is e = is
+by_talk rules plan c n failed faults first now (Undelivered code) is e = is
+by_talk rules plan c n failed faults first now (IdentMismatch did) is e = is
+by_talk rules plan c n failed faults first now Complete is e = absurd (false≢true e)
+by_talk rules plan c n failed faults first now (LinkLost times) is e = absurd (false≢true e)
+by_talk rules plan c n failed faults first now (LinkRefused code) is e = absurd (false≢true e)
+by_talk rules plan c n failed faults first now (Blocked by) is e = absurd (false≢true e)
+by_talk rules plan c n failed faults first now DiskFault is e = absurd (false≢true e)
+by_talk rules plan c n failed faults first now NoMemory is e = absurd (false≢true e)
+
+by_stop : (rules : LinkRules) (plan : UnitPlan) (c : Core) (n : ℕ) (failed : Bool) (faults : ℕ) (first now : Vehicle) (o : Outcome) → IsStopCounted rules failed faults first now o → IsOutcomeCaused rules plan c n failed faults first now o
+by_stop rules plan c n failed faults first now DiskFault counted = counted
+by_stop rules plan c n failed faults first now (LinkLost times) counted = counted
+by_stop rules plan c n failed faults first now (LinkRefused code) counted = counted
+by_stop rules plan c n failed faults first now Complete counted = absurd counted
+by_stop rules plan c n failed faults first now (IdentMismatch a) counted = absurd counted
+by_stop rules plan c n failed faults first now (Refused a b) counted = absurd counted
+by_stop rules plan c n failed faults first now (BadAnswer a) counted = absurd counted
+by_stop rules plan c n failed faults first now (CheckFailed a b d) counted = absurd counted
+by_stop rules plan c n failed faults first now (Undelivered a) counted = absurd counted
+by_stop rules plan c n failed faults first now (NoAnswer a) counted = absurd counted
+by_stop rules plan c n failed faults first now (PendingLimit a) counted = absurd counted
+by_stop rules plan c n failed faults first now (BusyLimit a) counted = absurd counted
+by_stop rules plan c n failed faults first now (Blocked a) counted = absurd counted
+by_stop rules plan c n failed faults first now NoMemory counted = absurd counted
+
+pub counted_law : CountedLaw
+counted_law rules P found c failed faults first now t0 n o lt units is at = go (is.rests n o lt at)
+  where
+    to : (x : Outcome) → o ≡ x → IsOutcomeCaused rules (plan_of P n) c n failed faults first now x → IsOutcomeCaused rules (plan_of P n) c n failed faults first now o
+    to x same cause = subst (λ (y : Outcome). IsOutcomeCaused rules (plan_of P n) c n failed faults first now y) (sym same) cause
+
+    go : Rests P c n o → IsOutcomeCaused rules (plan_of P n) c n failed faults first now o
+    go (inl place) =
+        let cause = end_cause (plan_of P n) (c.recorded (entry.Begun n)) (unit_at first.units (plan_of P n).address) (unit_at now.units (plan_of P n).address) (c.slots n).talk.place o place (units.units n lt).talk.ended in
+        by_talk rules (plan_of P n) c n failed faults first now o cause (spoken (plan_of P n) (c.recorded (entry.Begun n)) (unit_at first.units (plan_of P n).address) (unit_at now.units (plan_of P n).address) o cause)
+    go (inr (inl (f, same))) = to DiskFault same (is.faulted n f)
+    go (inr (inr (inl stop))) = by_stop rules (plan_of P n) c n failed faults first now o (subst (λ (x : Option Outcome). StopCounted rules failed faults first now c.link.losses x) stop is.stop)
+    go (inr (inr (inr (inl same)))) = to NoMemory same tt
+    go (inr (inr (inr (inr (inl (by, same, b)))))) = to (Blocked by) same b
+    go (inr (inr (inr (inr (inr (same, done)))))) = to Complete same done
+
+pub outcome_law : OutcomeLaw
+outcome_law rules P found events s states v0 n o run lt at =
+    counted_law rules P found (core_of rules P (core_start P found) events) (has_failure events) (faults_of events s states) s.vehicle (last_state s states).vehicle s.vehicle.gateway.tick n o lt
+    (counted_run rules P found events s states v0 run) (ended_run rules P found events s states v0 run) at
+
+pub start_law : StartLaw
+start_law = record { units = units_start; outcomes = start }
+
+-- ------ nothing failed
+module _ (rules : LinkRules) (P : List UnitPlan) (found : Entry → Bool) (events : List Event) (s : State) (states : List State) (v0 : Vehicle) (n : ℕ) (run : IsRun rules P found events s states v0) (failed : has_failure events ≡ false) (faults : faults_of events s states ≡ 0)
+    (calm : IsVehicleCalm s.vehicle (last_state s states).vehicle) (matching : MatchesAt (found (entry.Begun n)) (plan_of P n) (unit_at s.vehicle.units (plan_of P n).address)) where
+  calm_unit : (plan : UnitPlan) (begun : Bool) (fo wo : Option ControlUnit) → MatchesAt begun plan fo → IsUnitCalm fo wo → IsCalmUnit (IsMatching begun plan) fo wo
+  calm_unit plan begun None wo m is = absurd m
+  calm_unit plan begun (Some u) None m is = absurd is
+  calm_unit plan begun (Some u) (Some w) m is = (m, is)
+
+  never : (o : Outcome) → IsCaused (plan_of P n) ((core_of rules P (core_start P found) events).recorded (entry.Begun n)) (unit_at s.vehicle.units (plan_of P n).address) (unit_at (last_state s states).vehicle.units (plan_of P n).address) o → ⊥
+  never o is = no_cause rules P found events s states v0 n o run (calm_unit (plan_of P n) (found (entry.Begun n)) (unit_at s.vehicle.units (plan_of P n).address) (unit_at (last_state s states).vehicle.units (plan_of P n).address) matching (calm.units (plan_of P n).address)) is
+
+  untroubled : (o : Outcome) → IsOutcomeCaused rules (plan_of P n) (core_of rules P (core_start P found) events) n (has_failure events) (faults_of events s states) s.vehicle (last_state s states).vehicle o → IsUntroubled o
+  untroubled Complete is = tt
+  untroubled NoMemory is = tt
+  untroubled (Blocked by) is = tt
+  untroubled DiskFault is = both_ways _ failed is
+  untroubled (LinkLost times) (times_is, (k, losses, count)) = calm_not k s.vehicle.gateway.silent (last_state s states).vehicle.gateway.silent (omega (arith, losses, faults)) count calm.silent
+  untroubled (LinkRefused code) rose = calm_not 1 _ _ (omega arith) rose (calm.denied code)
+  untroubled (Refused sid nrc) is = never (Refused sid nrc) is
+  untroubled (BadAnswer sid) is = never (BadAnswer sid) is
+  untroubled (CheckFailed routine segment status) is = never (CheckFailed routine segment status) is
+  untroubled (NoAnswer sid) is = never (NoAnswer sid) is
+  untroubled (PendingLimit sid) is = never (PendingLimit sid) is
+  untroubled (BusyLimit sid) is = never (BusyLimit sid) is
+  untroubled (Undelivered code) is = never (Undelivered code) is
+  untroubled (IdentMismatch did) is = never (IdentMismatch did) is
+
+pub untroubled_law : UntroubledLaw
+untroubled_law rules P found events s states v0 n o run lt at failed faults calm matching = untroubled rules P found events s states v0 n run failed faults calm matching o (outcome_law rules P found events s states v0 n o run lt at)
+
+-- ------ of a unit that matches and is calm
+pub recorded_law : RecordedLaw
+recorded_law rules P found events s states v0 n o run lt at calm = go o (outcome_law rules P found events s states v0 n o run lt at)
+  where
+    go : (o : Outcome) → IsOutcomeCaused rules (plan_of P n) (core_of rules P (core_start P found) events) n (has_failure events) (faults_of events s states) s.vehicle (last_state s states).vehicle o → IsOfRun o
+    go Complete is = tt
+    go NoMemory is = tt
+    go (Blocked by) is = tt
+    go DiskFault is = tt
+    go (LinkLost times) is = tt
+    go (LinkRefused code) is = tt
+    go (Refused sid nrc) is = no_cause rules P found events s states v0 n (Refused sid nrc) run calm is
+    go (BadAnswer sid) is = no_cause rules P found events s states v0 n (BadAnswer sid) run calm is
+    go (CheckFailed routine segment status) is = no_cause rules P found events s states v0 n (CheckFailed routine segment status) run calm is
+    go (NoAnswer sid) is = no_cause rules P found events s states v0 n (NoAnswer sid) run calm is
+    go (PendingLimit sid) is = no_cause rules P found events s states v0 n (PendingLimit sid) run calm is
+    go (BusyLimit sid) is = no_cause rules P found events s states v0 n (BusyLimit sid) run calm is
+    go (Undelivered code) is = no_cause rules P found events s states v0 n (Undelivered code) run calm is
+    go (IdentMismatch did) is = no_cause rules P found events s states v0 n (IdentMismatch did) run calm is

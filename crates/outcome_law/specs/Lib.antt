@@ -1,0 +1,7 @@
+pub mod Causes
+pub mod Counting
+pub mod Law
+pub mod LinkCounting
+pub mod OutcomeCounting
+pub mod Outcomes
+pub mod Rising

@@ -1,0 +1,49 @@
+//! The causes of outcomes: functions with nothing to run.
+
+ghost use Rattle.outcome_law.specs.Law.{
+  CalmLaw,
+  CauseLaw,
+  CountingLaw,
+  DoneLaw,
+  MatchingLaw,
+  ObedientLaw,
+};
+ghost use Rattle.outcome_law.specs.OutcomeCounting.{CountedLaw, OutcomeCountingLaw, StartLaw};
+ghost use Rattle.outcome_law.specs.Outcomes.{OutcomeLaw, RecordedLaw, UntroubledLaw};
+
+/// What the counts of the vehicle say of each conversation and of the link is kept by each allowed event, beside the joint
+/// state: of a unit whose answer is awaited, what its counts rose by since the start of the run explains what it has on the
+/// way, and when it comes; losses of the link are covered by calls that failed, bytes that were garbled and activations that
+/// were not answered in time.
+pub fn each_event_keeps_the_counting()
+    ensures start { StartLaw }
+    ensures units { CountingLaw }
+    ensures outcomes { OutcomeCountingLaw }
+    ensures says { CountedLaw }
+{}
+
+/// For every legal list of events, whatever vehicle moves with it: a conversation ends with an outcome, and a unit has an
+/// outcome, only where the table of outcomes has a cause for it. The count that it names rose since the start of the run, or
+/// the table of unfit units has just this outcome, or the run was stopped for this cause.
+pub fn each_outcome_has_its_cause()
+    ensures conversations { CauseLaw }
+    ensures outcomes { OutcomeLaw }
+{}
+
+/// A unit that has not departed ends its conversation only as the table of unfit units says, or by a value of an identifier
+/// that is not expected; so one that matches ends it with no outcome.
+pub fn a_calm_unit_that_matches_is_not_refused()
+    ensures unfit { CalmLaw }
+    ensures matching { MatchingLaw }
+{}
+
+/// At each place of its script the obedient answer of a unit that matches is positive and leaves fewer requests. So the
+/// conversation with one that has not departed does not end but at Done, where it is after as many answers as an attempt has
+/// requests; and its outcome, where it has one, is complete or comes of the run and not of the unit. Where nothing failed at
+/// all it is complete, or there was no memory for it or for one that it waits for.
+pub fn a_calm_unit_that_matches_reaches_done()
+    ensures answers { ObedientLaw }
+    ensures goes_on { DoneLaw }
+    ensures recorded { RecordedLaw }
+    ensures untroubled { UntroubledLaw }
+{}
