@@ -1,0 +1,6 @@
+//! Stand-in.
+#![tactic(auto)]
+
+mod types;
+
+pub use types::{BuildFault, Built, Cause};
