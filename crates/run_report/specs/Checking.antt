@@ -7,7 +7,7 @@ use Rattle.flash_plan.specs.Canonical.{plan_digest}
 use Rattle.flash_plan.specs.Plan.{plan_of, count_of, size_of, total_of}
 use Rattle.session_image.specs.declared.types.Checked.{Checked}
 use Rattle.plan_build.specs.declared.types.Built.{Built}
-use Rattle.run_report.specs.Forms.{shown}
+use Rattle.run_report.specs.Forms.{of_task, shown}
 use Rattle.run_report.specs.Report.{four}
 
 -- a name of a unit behind a comma
@@ -33,14 +33,8 @@ planned_line P u =
     codes "unit " ++ u.name ++ codes " " ++ four u.address ++ codes " segments " ++ decimal (length u.segments) ++ codes " bytes " ++ decimal (size_of u.segments)
     ++ codes " after " ++ after_text P u.after ++ codes "\n"
 
--- the checksums of a task, by its number
-abbrev pub checks_of : List (List Checked) → ℕ → List Checked
-checks_of [] n = []
-checks_of (cs ∷ css) zero = cs
-checks_of (cs ∷ css) (suc n) = checks_of css n
-
 abbrev pub planned_part : List UnitPlan → List (List Checked) → ℕ → List ℕ
-planned_part P css n = planned_line P (plan_of P n) ++ flat_map (checksum_line (plan_of P n).name) (checks_of css n)
+planned_part P css n = planned_line P (plan_of P n) ++ flat_map (checksum_line (plan_of P n).name) (of_task css n)
 
 -- the parts of the first n units
 abbrev pub planned_parts : List UnitPlan → List (List Checked) → ℕ → List ℕ

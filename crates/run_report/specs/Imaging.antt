@@ -7,7 +7,7 @@ use Rattle.ecu_mem.specs.declared.types.Ident.{Ident}
 use Rattle.flash_plan.specs.declared.unit.Segment.{Segment}
 use Rattle.flash_plan.specs.Plan.{plan_of}
 use Rattle.plan_build.specs.declared.types.Built.{Built}
-use Rattle.run_report.specs.Forms.{ten, shown}
+use Rattle.run_report.specs.Forms.{of_task, ten, shown}
 
 -- number, target address, size and digest of a segment
 abbrev pub segment_line : ℕ → Segment → List ℕ
@@ -26,11 +26,5 @@ own_line name value = codes "own " ++ shown name ++ codes " " ++ encode_upper va
 abbrev pub own_lines : Ident → List ℕ
 own_lines i = flat_map (own_line i.name) i.values
 
--- the own idents of a task's session, by the task's number
-abbrev pub own_of : List (List Ident) → ℕ → List Ident
-own_of [] n = []
-own_of (is ∷ iss) zero = is
-own_of (is ∷ iss) (suc n) = own_of iss n
-
 abbrev pub image_text : Built → ℕ → List ℕ
-image_text b n = segment_lines 0 (plan_of b.plan n).segments ++ flat_map own_lines (own_of b.own n)
+image_text b n = segment_lines 0 (plan_of b.plan n).segments ++ flat_map own_lines (of_task b.own n)

@@ -2,7 +2,8 @@
 ghost use Rattle.std.specs.Prelude.{◌≡◌, ◌<◌, ◌≤◌, ◌++◌, IfOk, OnOk};
 ghost use Rattle.std.specs.List.{flat_map};
 ghost use Rattle.flash_plan.specs.Plan.{count_of, plan_of, size_of, total_of};
-ghost use Rattle.run_report.specs.Checking.{after_text, check_text, checks_of, checksum_line, further_name, planned_line, planned_part, planned_parts};
+ghost use Rattle.run_report.specs.Forms.{of_task};
+ghost use Rattle.run_report.specs.Checking.{after_text, check_text, checksum_line, further_name, planned_line, planned_part, planned_parts};
 
 use crate::pieces::{put_lower, put_shown};
 use crate::text::{put_decimal, put_four, put_name};
@@ -115,7 +116,7 @@ fn put_checksums(out: &mut Bytes, task: &Text, checks: &[Checked]) -> Result<(),
 
 /// The checksums of a task, by its number; none where nothing is known of it.
 fn checks_of(checks: &Items<Items<Checked>>, n: u16) -> &[Checked]
-    ensures { result.now ≡ checks_of checks.now n }
+    ensures { result.now ≡ of_task checks.now n }
 {
     let n = n as usize;
     if n < checks.len() {

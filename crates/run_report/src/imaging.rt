@@ -4,7 +4,8 @@ ghost use Rattle.std.specs.List.{flat_map};
 ghost use Rattle.hex.specs.Hex.{encode_lower};
 ghost use Rattle.sha2.specs.Sha256.{sha256};
 ghost use Rattle.flash_plan.specs.Plan.{count_of};
-ghost use Rattle.run_report.specs.Imaging.{image_text, own_line, own_lines, own_of, segment_line, segment_lines};
+ghost use Rattle.run_report.specs.Forms.{of_task};
+ghost use Rattle.run_report.specs.Imaging.{image_text, own_line, own_lines, segment_line, segment_lines};
 
 use crate::pieces::{put_lower, put_shown, put_ten, put_upper};
 use crate::text::put_decimal;
@@ -102,7 +103,7 @@ fn put_idents(alloc: Global, out: &mut Bytes, idents: &[Ident]) -> Result<(), No
 
 /// The own idents of a task's session, by the task's number; none where nothing is known of it.
 fn own_of(own: &Items<Items<Ident>>, n: u16) -> &[Ident]
-    ensures { result.now ≡ own_of own.now n }
+    ensures { result.now ≡ of_task own.now n }
 {
     let n = n as usize;
     if n < own.len() {

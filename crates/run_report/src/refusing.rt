@@ -1,5 +1,6 @@
 //! The one line of a refusal.
-ghost use Rattle.std.specs.Prelude.{◌≡◌, ◌++◌, IfOk, OnOk, decimal};
+ghost use Rattle.std.specs.Prelude.{◌≡◌, ◌++◌, IfOk, OnOk, codes, decimal};
+ghost use Rattle.hex.specs.Hex.{encode_lower};
 ghost use Rattle.run_report.specs.Forms.{path_text, shown, ten};
 ghost use Rattle.run_report.specs.Refusing.{cause_text, input_line, no_task_line, record_text, refusal_line, shelf_text, what_text};
 
@@ -50,6 +51,14 @@ fn put_at(out: &mut Bytes, words: &[u8], path: &Items<u64>) -> Result<(), NoMemo
 {
     out.extend(words)?;
     put_path(out, path)
+}
+
+/// Puts a blank and the digits of a checksum.
+fn put_digits(alloc: Global, out: &mut Bytes, bytes: &Bytes) -> Result<(), NoMemory>
+    ensures { OnOk result (out.new ≡ out.old ++ (codes " " ++ encode_lower bytes.now)) }
+{
+    out.extend(b" ")?;
+    put_lower(alloc, out, bytes.as_slice())
 }
 
 fn put_what(out: &mut Bytes, what: What) -> Result<(), NoMemory>
@@ -118,12 +127,9 @@ fn put_did(out: &mut Bytes, task: &Text, name: &Text) -> Result<(), NoMemory>
 fn put_size(out: &mut Bytes, id: &Text, said: u64, seen: u64) -> Result<(), NoMemory>
     ensures { OnOk result (out.new ≡ out.old ++ cause_text (Cause.BinarySize id.now said seen)) }
 {
-    out.extend(b"binary size ")?;
-    put_shown(out, id.as_str())?;
-    out.extend(b" ")?;
-    put_decimal(out, said)?;
-    out.extend(b" ")?;
-    put_decimal(out, seen)
+    put_id(out, b"binary size ", id)?;
+    put_number(out, b" ", said)?;
+    put_number(out, b" ", seen)
 }
 
 fn put_hole(alloc: Global, out: &mut Bytes, segment: u32, at: u64) -> Result<(), NoMemory>
@@ -144,12 +150,9 @@ fn put_checksum(
 ) -> Result<(), NoMemory>
     ensures { OnOk result (out.new ≡ out.old ++ cause_text (Cause.ChecksumDiffers name.now said.now got.now)) }
 {
-    out.extend(b"checksum differs ")?;
-    put_shown(out, name.as_str())?;
-    out.extend(b" ")?;
-    put_lower(alloc, out, said.as_slice())?;
-    out.extend(b" ")?;
-    put_lower(alloc, out, got.as_slice())
+    put_id(out, b"checksum differs ", name)?;
+    put_digits(alloc, out, said)?;
+    put_digits(alloc, out, got)
 }
 
 fn put_too_many(out: &mut Bytes, what: What) -> Result<(), NoMemory>
