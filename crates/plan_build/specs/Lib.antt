@@ -1,0 +1,7 @@
+pub mod Answers
+pub mod Building
+pub mod Catalogues
+pub mod Fetched
+pub mod Refusals
+pub mod Tasks
+pub mod Whole
