@@ -3,19 +3,7 @@ use Rattle.std.proofs.Common.{◌≡◌, ℕ, zero, suc, ◌+◌, ◌<◌, ◌�
 use Rattle.flash_plan.specs.declared.unit.Segment.{Segment}
 use Rattle.flash_plan.specs.declared.unit.UnitPlan.{UnitPlan}
 use Rattle.flash_plan.specs.Plan.{nth_plan, size_of, total_of}
-use Rattle.run_report.specs.Forms.{of_task}
 use Rattle.run_report.specs.Imaging.{segment_line, segment_lines}
-
--- the list that was read is the task's
-pub of_task-at : {A : Type 0} (xss : List (List A)) (n : ℕ) (xs : List A) → slice_get xss n ≡ Some xs → xs ≡ of_task xss n
-of_task-at [] n xs at = absurd cc
-of_task-at (ys ∷ rest) zero xs at = cc
-of_task-at (ys ∷ rest) (suc n) xs at = of_task-at rest n xs at
-
-pub of_task-past : {A : Type 0} (xss : List (List A)) (n : ℕ) → length xss ≤ n → [] ≡ of_task xss n
-of_task-past [] n le = refl
-of_task-past (ys ∷ rest) zero le = absurd (omega (arith, le))
-of_task-past (ys ∷ rest) (suc n) le = of_task-past rest n (omega (arith, le))
 
 -- the bytes of the units from the one with number n on
 pub total-more : (us : List UnitPlan) (n : ℕ) → n < length us → total_of (drop n us) ≡ size_of (nth_plan us n).segments + total_of (drop (suc n) us)
@@ -47,3 +35,8 @@ lines_step ss n s start out new at so is =
     let more : segment_lines n (drop n ss) ≡ segment_line n s ++ segment_lines (suc n) (drop (suc n) ss) = rw zeroed at (lines-at 0 ss n s at) in
     rw (next, is, append_assoc out (segment_line n s) (segment_lines (suc n) (drop (suc n) ss)))
     (ap (λ (x : List ℕ). out ++ x) (sym more) ∙ so)
+
+-- three pairs of pieces, one after another
+pub three_pairs : (out n1 n2 n3 w s b1 d1 b2 d2 : List ℕ) → n1 ≡ out ++ (w ++ s) → n2 ≡ n1 ++ (b1 ++ d1) → n3 ≡ n2 ++ (b2 ++ d2) → n3 ≡ out ++ (w ++ s ++ b1 ++ d1 ++ b2 ++ d2)
+three_pairs out n1 n2 n3 w s b1 d1 b2 d2 e1 e2 e3 =
+    e3 ∙ ap (λ (x : List ℕ). x ++ (b2 ++ d2)) (e2 ∙ ap (λ (x : List ℕ). x ++ (b1 ++ d1)) e1) ∙ simp append_assoc

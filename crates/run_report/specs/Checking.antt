@@ -1,13 +1,14 @@
 -- The text of `check`: the plan's digest, for each unit a line and a line for each of its checksums, and how many units and bytes there are.
-use Rattle.std.specs.Prelude.{ℕ, zero, suc, Bool, true, false, List, [], ◌∷◌, ◌++◌, length, codes, decimal}
+use Rattle.std.specs.Prelude.{ℕ, zero, suc, Bool, true, false, List, [], ◌∷◌, ◌++◌, length, codes, decimal, ◌==◌, if◌then◌else◌}
 use Rattle.std.specs.List.{flat_map}
 use Rattle.hex.specs.Hex.{encode_lower}
 use Rattle.flash_plan.specs.declared.unit.UnitPlan.{UnitPlan}
 use Rattle.flash_plan.specs.Canonical.{plan_digest}
 use Rattle.flash_plan.specs.Plan.{plan_of, count_of, size_of, total_of}
 use Rattle.session_image.specs.declared.types.Checked.{Checked}
-use Rattle.plan_build.specs.declared.types.Built.{Built}
-use Rattle.run_report.specs.Forms.{of_task, shown}
+use Rattle.plan_build.specs.declared.built.Built.{Built}
+use Rattle.plan_build.specs.declared.built.TaskChecks.{TaskChecks}
+use Rattle.run_report.specs.Forms.{shown}
 use Rattle.run_report.specs.Report.{four}
 
 -- a name of a unit behind a comma
@@ -33,13 +34,18 @@ planned_line P u =
     codes "unit " ++ u.name ++ codes " " ++ four u.address ++ codes " segments " ++ decimal (length u.segments) ++ codes " bytes " ++ decimal (size_of u.segments)
     ++ codes " after " ++ after_text P u.after ++ codes "\n"
 
-abbrev pub planned_part : List UnitPlan → List (List Checked) → ℕ → List ℕ
-planned_part P css n = planned_line P (plan_of P n) ++ flat_map (checksum_line (plan_of P n).name) (of_task css n)
+-- the checksums of the task with a number, whose name is given
+abbrev pub checksum_lines : ℕ → List ℕ → TaskChecks → List ℕ
+checksum_lines n name t = if t.task == n then flat_map (checksum_line name) t.checks else []
+
+-- unit n: its line, and those of its checksums
+abbrev pub planned_part : List UnitPlan → List TaskChecks → ℕ → List ℕ
+planned_part P ts n = planned_line P (plan_of P n) ++ flat_map (checksum_lines n (plan_of P n).name) ts
 
 -- the parts of the first n units
-abbrev pub planned_parts : List UnitPlan → List (List Checked) → ℕ → List ℕ
-planned_parts P css zero = []
-planned_parts P css (suc n) = planned_parts P css n ++ planned_part P css n
+abbrev pub planned_parts : List UnitPlan → List TaskChecks → ℕ → List ℕ
+planned_parts P ts zero = []
+planned_parts P ts (suc n) = planned_parts P ts n ++ planned_part P ts n
 
 abbrev pub check_text : Built → List ℕ
 check_text b =

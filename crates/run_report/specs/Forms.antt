@@ -1,5 +1,5 @@
 -- How values are printed.
-use Rattle.std.specs.Prelude.{ℕ, zero, suc, Bool, true, false, nat_lt, List, [], ◌∷◌, ◌++◌, codes, decimal, map, Option, Some, None, if◌then◌else◌}
+use Rattle.std.specs.Prelude.{ℕ, Bool, true, false, nat_lt, List, [], ◌∷◌, ◌++◌, codes, decimal, map, Option, Some, None, if◌then◌else◌}
 use Rattle.std.specs.List.{flat_map}
 use Rattle.hex.specs.Hex.{encode_upper}
 use Rattle.flash_base.specs.Numbers.{big_endian}
@@ -28,9 +28,3 @@ path_text (k ∷ ks) = flat_map place_text (k ∷ ks)
 abbrev pub task_text : Option ℕ → List ℕ
 task_text None = codes "-"
 task_text (Some n) = decimal n
-
--- what a list has for a task, by the task's number; nothing behind its end
-abbrev pub of_task : {A : Type 0} → List (List A) → ℕ → List A
-of_task [] n = []
-of_task (xs ∷ rest) zero = xs
-of_task (xs ∷ rest) (suc n) = of_task rest n

@@ -5,12 +5,10 @@ use Rattle.flash_plan.specs.declared.fault.What.{What}
 use Rattle.flash_plan.specs.declared.fault.What.TheVariants.{Units, Segments, Bytes, Total, Idents}
 use Rattle.flash_shelf.specs.declared.shelf.ShelfFault.{ShelfFault}
 use Rattle.flash_shelf.specs.declared.shelf.ShelfFault.TheVariants as shelf
-use Rattle.rec_text.specs.declared.fault.RecFault.{RecFault}
-use Rattle.rec_text.specs.declared.fault.RecFault.TheVariants as rec
-use Rattle.plan_build.specs.declared.types.BuildFault.{BuildFault}
-use Rattle.plan_build.specs.declared.types.BuildFault.TheVariants.{Shelf, Input, NoMemory}
-use Rattle.plan_build.specs.declared.types.Cause.{Cause}
-use Rattle.plan_build.specs.declared.types.Cause.TheVariants.{NotJson, NotTree, Missing, BadNumber, Twice, Dangling, TooLarge, BadField, NoCatalogue, NoSession, EmptyRaw, NoDid, Lines, Compressed, UserDefined, BadText, NoSegment, BinarySize, Hole, OutOfRange, Overlap, ChecksumDiffers, TooMany, SameName, SameUnit, UnknownAfter, Cycle, TooWide}
+use Rattle.plan_build.specs.declared.fault.BuildFault.{BuildFault}
+use Rattle.plan_build.specs.declared.fault.BuildFault.TheVariants.{Shelf, Input, NoMemory}
+use Rattle.plan_build.specs.declared.fault.Cause.{Cause}
+use Rattle.plan_build.specs.declared.fault.Cause.TheVariants.{NotJson, NotTree, Missing, BadNumber, Twice, Dangling, TooLarge, BadField, NoCatalogue, NoSession, EmptyRaw, NoDid, BadLine, BadSum, BadCount, NoEnd, AfterEnd, Conflict, Compressed, UserDefined, BadText, NoSegment, BinarySize, Hole, OutOfRange, Overlap, ChecksumDiffers, TooMany, SameName, SameUnit, UnknownAfter, Cycle, TooWide}
 use Rattle.run_report.specs.Forms.{ten, shown, path_text, task_text}
 use Rattle.run_report.specs.Report.{four}
 
@@ -21,16 +19,6 @@ what_text Segments = codes "segments"
 what_text Bytes = codes "bytes"
 what_text Total = codes "total"
 what_text Idents = codes "idents"
-
--- why a text of records is refused; none for want of memory
-abbrev pub record_text : RecFault → List ℕ
-record_text (rec.BadLine n) = codes "bad line " ++ decimal n
-record_text (rec.BadSum n) = codes "bad sum " ++ decimal n
-record_text (rec.BadCount said seen) = codes "bad count " ++ decimal said ++ codes " " ++ decimal seen
-record_text (rec.AfterEnd n) = codes "after end " ++ decimal n
-record_text (rec.Conflict at) = codes "conflict " ++ ten at
-record_text rec.NoEnd = codes "no end"
-record_text rec.NoMemory = []
 
 abbrev pub cause_text : Cause → List ℕ
 cause_text NotJson = codes "not json"
@@ -45,7 +33,12 @@ cause_text (NoCatalogue task) = codes "no catalogue " ++ task
 cause_text (NoSession task) = codes "no session " ++ task
 cause_text (EmptyRaw task) = codes "empty raw " ++ task
 cause_text (NoDid task name) = codes "no did " ++ task ++ codes " " ++ shown name
-cause_text (Lines fault) = record_text fault
+cause_text (BadLine n) = codes "bad line " ++ decimal n
+cause_text (BadSum n) = codes "bad sum " ++ decimal n
+cause_text (BadCount said seen) = codes "bad count " ++ decimal said ++ codes " " ++ decimal seen
+cause_text NoEnd = codes "no end"
+cause_text (AfterEnd n) = codes "after end " ++ decimal n
+cause_text (Conflict at) = codes "conflict " ++ ten at
 cause_text (Compressed id) = codes "compressed " ++ shown id
 cause_text (UserDefined id) = codes "user defined " ++ shown id
 cause_text (BadText id) = codes "bad text " ++ shown id

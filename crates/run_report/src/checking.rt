@@ -2,14 +2,13 @@
 ghost use Rattle.std.specs.Prelude.{◌≡◌, ◌<◌, ◌≤◌, ◌++◌, IfOk, OnOk};
 ghost use Rattle.std.specs.List.{flat_map};
 ghost use Rattle.flash_plan.specs.Plan.{count_of, plan_of, size_of, total_of};
-ghost use Rattle.run_report.specs.Forms.{of_task};
-ghost use Rattle.run_report.specs.Checking.{after_text, check_text, checksum_line, further_name, planned_line, planned_part, planned_parts};
+ghost use Rattle.run_report.specs.Checking.{after_text, check_text, checksum_line, checksum_lines, further_name, planned_line, planned_part, planned_parts};
 
 use crate::pieces::{put_lower, put_shown};
 use crate::text::{put_decimal, put_four, put_name};
-use flash_base::{Bytes, Items, NoMemory, Text};
+use flash_base::{Bytes, NoMemory, Text};
 use flash_plan::{Plan, Segment, UnitPlan};
-use plan_build::Built;
+use plan_build::{Built, TaskChecks};
 use session_image::Checked;
 use std::alloc::Global;
 
@@ -114,16 +113,28 @@ fn put_checksums(out: &mut Bytes, task: &Text, checks: &[Checked]) -> Result<(),
     Ok(())
 }
 
-/// The checksums of a task, by its number; none where nothing is known of it.
-fn checks_of(checks: &Items<Items<Checked>>, n: u16) -> &[Checked]
-    ensures { result.now ≡ of_task checks.now n }
+/// Puts the lines of a task's checksums, where it is the task with this number.
+fn put_task(out: &mut Bytes, n: u16, name: &Text, task: &TaskChecks) -> Result<(), NoMemory>
+    ensures { OnOk result (out.new ≡ out.old ++ checksum_lines n name.now task.now) }
 {
-    let n = n as usize;
-    if n < checks.len() {
-        checks.at(n).as_slice()
-    } else {
-        &[]
+    if task.task == n {
+        return put_checksums(out, name, task.checks.as_slice());
     }
+    Ok(())
+}
+
+fn put_tasks(
+    out: &mut Bytes,
+    n: u16,
+    name: &Text,
+    tasks: &[TaskChecks],
+) -> Result<(), NoMemory>
+    ensures { OnOk result (out.new ≡ out.old ++ flat_map (checksum_lines n name.now) tasks.now) }
+{
+    for task in tasks {
+        put_task(out, n, name, task)?;
+    }
+    Ok(())
 }
 
 /// Puts the line of a unit and those of its checksums.
@@ -131,28 +142,28 @@ fn put_part(
     alloc: Global,
     out: &mut Bytes,
     plan: &Plan,
-    checks: &Items<Items<Checked>>,
+    tasks: &[TaskChecks],
     n: u16,
 ) -> Result<(), NoMemory>
     requires { n < count_of plan.now }
-    ensures { OnOk result (out.new ≡ out.old ++ planned_part plan.now checks.now n) }
+    ensures { OnOk result (out.new ≡ out.old ++ planned_part plan.now tasks.now n) }
 {
     plan.is_accepted();
     let unit = plan.unit(n);
     put_planned(alloc, out, plan, unit)?;
-    put_checksums(out, &unit.name, checks_of(checks, n))
+    put_tasks(out, n, &unit.name, tasks)
 }
 
 fn put_parts(
     alloc: Global,
     out: &mut Bytes,
     plan: &Plan,
-    checks: &Items<Items<Checked>>,
+    tasks: &[TaskChecks],
 ) -> Result<(), NoMemory>
-    ensures { OnOk result (out.new ≡ out.old ++ planned_parts plan.now checks.now (count_of plan.now)) }
+    ensures { OnOk result (out.new ≡ out.old ++ planned_parts plan.now tasks.now (count_of plan.now)) }
 {
     for n in 0..plan.units() {
-        put_part(alloc, out, plan, checks, n)?;
+        put_part(alloc, out, plan, tasks, n)?;
     }
     Ok(())
 }
@@ -170,7 +181,7 @@ pub fn check_text(alloc: Global, built: &Built) -> Result<Bytes, NoMemory>
     let mut out = Bytes::from_slice(alloc, b"plan ")?;
     put_lower(alloc, &mut out, &digest[..])?;
     out.extend(b"\n")?;
-    put_parts(alloc, &mut out, plan, &built.checks)?;
+    put_parts(alloc, &mut out, plan, built.checks.as_slice())?;
     out.extend(b"units ")?;
     put_decimal(&mut out, plan.units() as u64)?;
     out.extend(b" bytes ")?;

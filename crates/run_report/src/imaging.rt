@@ -4,15 +4,14 @@ ghost use Rattle.std.specs.List.{flat_map};
 ghost use Rattle.hex.specs.Hex.{encode_lower};
 ghost use Rattle.sha2.specs.Sha256.{sha256};
 ghost use Rattle.flash_plan.specs.Plan.{count_of};
-ghost use Rattle.run_report.specs.Forms.{of_task};
-ghost use Rattle.run_report.specs.Imaging.{image_text, own_line, own_lines, segment_line, segment_lines};
+ghost use Rattle.run_report.specs.Imaging.{image_text, own_line, own_lines, segment_line, segment_lines, task_lines};
 
 use crate::pieces::{put_lower, put_shown, put_ten, put_upper};
 use crate::text::put_decimal;
 use ecu_mem::Ident;
 use flash_base::{Bytes, Items, NoMemory, Text};
 use flash_plan::Segment;
-use plan_build::Built;
+use plan_build::{Built, TaskOwn};
 use sha2::{Digest, Sha256};
 use std::alloc::Global;
 
@@ -101,16 +100,23 @@ fn put_idents(alloc: Global, out: &mut Bytes, idents: &[Ident]) -> Result<(), No
     Ok(())
 }
 
-/// The own idents of a task's session, by the task's number; none where nothing is known of it.
-fn own_of(own: &Items<Items<Ident>>, n: u16) -> &[Ident]
-    ensures { result.now ≡ of_task own.now n }
+/// Puts the lines of a task's own idents, where it is the task with this number.
+fn put_task(alloc: Global, out: &mut Bytes, n: u16, task: &TaskOwn) -> Result<(), NoMemory>
+    ensures { OnOk result (out.new ≡ out.old ++ task_lines n task.now) }
 {
-    let n = n as usize;
-    if n < own.len() {
-        own.at(n).as_slice()
-    } else {
-        &[]
+    if task.task == n {
+        return put_idents(alloc, out, task.own.as_slice());
     }
+    Ok(())
+}
+
+fn put_tasks(alloc: Global, out: &mut Bytes, n: u16, tasks: &[TaskOwn]) -> Result<(), NoMemory>
+    ensures { OnOk result (out.new ≡ out.old ++ flat_map (task_lines n) tasks.now) }
+{
+    for task in tasks {
+        put_task(alloc, out, n, task)?;
+    }
+    Ok(())
 }
 
 /// The text of a task's image: for each segment, from 0, the line `segment I ADDRESS SIZE SHA256`
@@ -122,6 +128,6 @@ pub fn image_text(alloc: Global, built: &Built, task: u16) -> Result<Bytes, NoMe
 {
     let mut out = Bytes::new(alloc);
     put_segments(alloc, &mut out, &built.plan.unit(task).segments)?;
-    put_idents(alloc, &mut out, own_of(&built.own, task))?;
+    put_tasks(alloc, &mut out, task, built.own.as_slice())?;
     Ok(out)
 }

@@ -2,7 +2,7 @@
 ghost use Rattle.std.specs.Prelude.{◌≡◌, ◌++◌, IfOk, OnOk, codes, decimal};
 ghost use Rattle.hex.specs.Hex.{encode_lower};
 ghost use Rattle.run_report.specs.Forms.{path_text, shown, ten};
-ghost use Rattle.run_report.specs.Refusing.{cause_text, input_line, no_task_line, record_text, refusal_line, shelf_text, what_text};
+ghost use Rattle.run_report.specs.Refusing.{cause_text, input_line, no_task_line, refusal_line, shelf_text, what_text};
 
 use crate::pieces::{put_lower, put_path, put_shown, put_task, put_ten};
 use crate::text::{put_decimal, put_four};
@@ -10,7 +10,6 @@ use flash_base::{Bytes, Items, NoMemory, Text};
 use flash_plan::What;
 use flash_shelf::ShelfFault;
 use plan_build::{BuildFault, Cause};
-use rec_text::RecFault;
 use std::alloc::Global;
 
 /// Puts words and a number in decimal digits.
@@ -74,27 +73,10 @@ fn put_what(out: &mut Bytes, what: What) -> Result<(), NoMemory>
 }
 
 fn put_count(out: &mut Bytes, said: u64, seen: u64) -> Result<(), NoMemory>
-    ensures { OnOk result (out.new ≡ out.old ++ record_text (RecFault.BadCount said seen)) }
+    ensures { OnOk result (out.new ≡ out.old ++ cause_text (Cause.BadCount said seen)) }
 {
-    out.extend(b"bad count ")?;
-    put_decimal(out, said)?;
-    out.extend(b" ")?;
-    put_decimal(out, seen)
-}
-
-/// Puts why a text of records is refused.
-fn put_record(alloc: Global, out: &mut Bytes, fault: &RecFault) -> Result<(), NoMemory>
-    ensures { OnOk result (out.new ≡ out.old ++ record_text fault.now) }
-{
-    match *fault {
-        RecFault::BadLine { n } => put_number(out, b"bad line ", n as u64),
-        RecFault::BadSum { n } => put_number(out, b"bad sum ", n as u64),
-        RecFault::BadCount { said, seen } => put_count(out, said, seen),
-        RecFault::AfterEnd { n } => put_number(out, b"after end ", n as u64),
-        RecFault::Conflict { at } => put_address(alloc, out, b"conflict ", at),
-        RecFault::NoEnd => out.extend(b"no end"),
-        RecFault::NoMemory => Ok(()),
-    }
+    put_number(out, b"bad count ", said)?;
+    put_number(out, b" ", seen)
 }
 
 fn put_missing(out: &mut Bytes, path: &Items<u64>, tag: &Text) -> Result<(), NoMemory>
@@ -129,7 +111,8 @@ fn put_size(out: &mut Bytes, id: &Text, said: u64, seen: u64) -> Result<(), NoMe
 {
     put_id(out, b"binary size ", id)?;
     put_number(out, b" ", said)?;
-    put_number(out, b" ", seen)
+    put_number(out, b" ", seen)?;
+    Ok(())
 }
 
 fn put_hole(alloc: Global, out: &mut Bytes, segment: u32, at: u64) -> Result<(), NoMemory>
@@ -152,7 +135,8 @@ fn put_checksum(
 {
     put_id(out, b"checksum differs ", name)?;
     put_digits(alloc, out, said)?;
-    put_digits(alloc, out, got)
+    put_digits(alloc, out, got)?;
+    Ok(())
 }
 
 fn put_too_many(out: &mut Bytes, what: What) -> Result<(), NoMemory>
@@ -186,7 +170,12 @@ fn put_cause(alloc: Global, out: &mut Bytes, cause: &Cause) -> Result<(), NoMemo
         Cause::NoSession { task } => put_named(out, b"no session ", task),
         Cause::EmptyRaw { task } => put_named(out, b"empty raw ", task),
         Cause::NoDid { task, name } => put_did(out, task, name),
-        Cause::Lines(fault) => put_record(alloc, out, fault),
+        Cause::BadLine { n } => put_number(out, b"bad line ", *n as u64),
+        Cause::BadSum { n } => put_number(out, b"bad sum ", *n as u64),
+        Cause::BadCount { said, seen } => put_count(out, *said, *seen),
+        Cause::NoEnd => out.extend(b"no end"),
+        Cause::AfterEnd { n } => put_number(out, b"after end ", *n as u64),
+        Cause::Conflict { at } => put_address(alloc, out, b"conflict ", *at),
         Cause::Compressed { id } => put_id(out, b"compressed ", id),
         Cause::UserDefined { id } => put_id(out, b"user defined ", id),
         Cause::BadText { id } => put_id(out, b"bad text ", id),

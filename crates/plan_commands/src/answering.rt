@@ -1,0 +1,98 @@
+ghost use Rattle.std.specs.Prelude.{◌≡◌, ◌≢◌, ◌⊎◌, Ok, Err, position};
+ghost use Rattle.flash_plan.specs.declared.unit.UnitPlan.{UnitPlan};
+ghost use Rattle.plan_commands.specs.Answering.{answered, image_of, number_of, refused, shown_for, status_of};
+
+use crate::status::Status;
+use crate::words::Command;
+use flash_base::{Bytes, NoMemory};
+use flash_plan::Plan;
+use plan_build::{BuildFault, Built};
+use run_report::{check_text, image_text, no_task_line, refusal_line};
+use std::alloc::Global;
+
+/// What a command answers: its status, and the text that it prints.
+#[derive(Debug, Drop)]
+pub struct Answer {
+    pub status: Status,
+    pub text: Bytes,
+}
+
+fn status_of(fault: &BuildFault) -> Status
+    ensures { result ≡ status_of fault.now }
+{
+    match fault {
+        BuildFault::Shelf { name: _, fault: _ } => Status::Shelf,
+        BuildFault::Input { name: _, cause: _ } => Status::Input,
+        BuildFault::NoMemory => Status::NoMemory,
+    }
+}
+
+fn refused(alloc: Global, fault: &BuildFault) -> Result<Answer, NoMemory>
+    ensures { (result ≡ Err NoMemory) ⊎ (result ≡ Ok (refused fault.now)) }
+{
+    let text = refusal_line(alloc, fault)?;
+    Ok(Answer {
+        status: status_of(fault),
+        text,
+    })
+}
+
+/// The number of the unit with a name.
+fn number_of(plan: &Plan, task: &str) -> Option<u16>
+    ensures { result ≡ number_of task.now plan.now }
+{
+    for n in 0..plan.units() {
+        if plan.unit(n).name.is(task) {
+            return Some(n);
+        }
+    }
+    None
+}
+
+fn image_of(
+    alloc: Global,
+    order: &str,
+    task: &str,
+    built: &Built,
+) -> Result<Answer, NoMemory>
+    ensures { (result ≡ Err NoMemory) ⊎ (result ≡ Ok (image_of order.now task.now built.now (number_of task.now built.now.plan))) }
+{
+    match number_of(&built.plan, task) {
+        None => Ok(Answer {
+            status: Status::Input,
+            text: no_task_line(alloc, order, task)?,
+        }),
+        Some(n) => Ok(Answer {
+            status: Status::Done,
+            text: image_text(alloc, built, n)?,
+        }),
+    }
+}
+
+fn shown_for(alloc: Global, command: &Command, built: &Built) -> Result<Answer, NoMemory>
+    ensures { (result ≡ Err NoMemory) ⊎ (result ≡ Ok (shown_for command.now built.now)) }
+{
+    match command {
+        Command::Check { order: _ } => Ok(Answer {
+            status: Status::Done,
+            text: check_text(alloc, built)?,
+        }),
+        Command::Image { order, task } => image_of(alloc, order.as_str(), task.as_str(), built),
+    }
+}
+
+/// What a command answers to what its files gave; want of memory has no answer.
+pub fn answered(
+    alloc: Global,
+    command: &Command,
+    built: Result<Built, BuildFault>,
+) -> Result<Answer, NoMemory>
+    ensures is { (result ≡ Err NoMemory) ⊎ (result ≡ Ok (answered command.now built)) }
+    ensures none { built ≡ Err BuildFault.NoMemory → result ≡ Err NoMemory }
+{
+    match built {
+        Ok(built) => shown_for(alloc, command, &built),
+        Err(BuildFault::NoMemory) => Err(NoMemory),
+        Err(fault) => refused(alloc, &fault),
+    }
+}
