@@ -1,5 +1,6 @@
 -- What a command answers once it is known what the files give: its status, and the text that it prints.
-use Rattle.std.specs.Prelude.{ℕ, List, [], bytes_eq, position, Option, Some, None, Result, Ok, Err}
+use Rattle.std.specs.Prelude.{ℕ, List, [], bytes_eq, Option, Some, None, Result, Ok, Err}
+use Rattle.std.specs.List.{position_from}
 use Rattle.flash_plan.specs.declared.unit.UnitPlan.{UnitPlan}
 use Rattle.plan_build.specs.declared.built.Built.{Built}
 use Rattle.plan_build.specs.declared.fault.BuildFault.{BuildFault}
@@ -23,9 +24,9 @@ status_of fault.NoMemory = NoMemory
 abbrev pub refused : BuildFault → Answer
 refused e = record { status = status_of e; text = refusal_line e }
 
--- the number of the unit with a name
+-- the number of the unit with a name, from 0
 abbrev pub number_of : List ℕ → List UnitPlan → Option ℕ
-number_of task P = position (λ (u : UnitPlan). bytes_eq u.name task) P
+number_of task P = position_from (λ (u : UnitPlan). bytes_eq u.name task) 0 P
 
 -- the image of a task, if there is one with this name
 abbrev pub image_of : List ℕ → List ℕ → Built → Option ℕ → Answer

@@ -46,7 +46,7 @@ pub record IsServed (tells : Bool) (files : List (List ℕ × List ℕ)) (old ne
   pub read : (gave ≡ Err fault.NoMemory) ⊎ built_by (came (period tells files old new)) (order_of c) gave
   pub told : IsTrue tells → (gave ≡ Err fault.NoMemory) ⊎ Rises old new ⊎ built files (order_of c) gave
   pub outside : IfShelf gave (λ name why. CameFrom tells files name old new (Err why))
-  pub printed : IsStarved before after status ⊎ IsPrinted sink_tells before after sink_old sink_new (answered c gave) status
+  pub printed : IsStarved before after status ⊎ (¬ (gave ≡ Err fault.NoMemory)) × IsPrinted sink_tells before after sink_old sink_new (answered c gave) status
 
 -- the statuses of a command that touches neither disk nor vehicle
 abbrev pub IsPlainStatus : Status → Type 0

@@ -1,5 +1,5 @@
-ghost use Rattle.std.specs.Prelude.{◌≡◌, ◌≢◌, ◌⊎◌, Ok, Err, position};
-ghost use Rattle.flash_plan.specs.declared.unit.UnitPlan.{UnitPlan};
+ghost use Rattle.std.specs.Prelude.{◌≡◌, ◌<◌, Err, IfOk, IfSome};
+ghost use Rattle.flash_plan.specs.Plan.{count_of};
 ghost use Rattle.plan_commands.specs.Answering.{answered, image_of, number_of, refused, shown_for, status_of};
 
 use crate::status::Status;
@@ -27,19 +27,23 @@ fn status_of(fault: &BuildFault) -> Status
     }
 }
 
+/// What a refusal of the files answers; want of memory has no answer.
 fn refused(alloc: Global, fault: &BuildFault) -> Result<Answer, NoMemory>
-    ensures { (result ≡ Err NoMemory) ⊎ (result ≡ Ok (refused fault.now)) }
+    ensures is { IfOk result (λ answer. answer ≡ refused fault.now) }
+    ensures some { IfOk result (λ answer. ¬ (fault.now ≡ BuildFault.NoMemory)) }
 {
+    let status = status_of(fault);
+    if status == Status::NoMemory {
+        return Err(NoMemory);
+    }
     let text = refusal_line(alloc, fault)?;
-    Ok(Answer {
-        status: status_of(fault),
-        text,
-    })
+    Ok(Answer { status, text })
 }
 
 /// The number of the unit with a name.
 fn number_of(plan: &Plan, task: &str) -> Option<u16>
-    ensures { result ≡ number_of task.now plan.now }
+    ensures is { result ≡ number_of task.now plan.now }
+    ensures within { IfSome result (λ n. n < count_of plan.now) }
 {
     for n in 0..plan.units() {
         if plan.unit(n).name.is(task) {
@@ -55,7 +59,7 @@ fn image_of(
     task: &str,
     built: &Built,
 ) -> Result<Answer, NoMemory>
-    ensures { (result ≡ Err NoMemory) ⊎ (result ≡ Ok (image_of order.now task.now built.now (number_of task.now built.now.plan))) }
+    ensures { IfOk result (λ answer. answer ≡ image_of order.now task.now built.now (number_of task.now built.now.plan)) }
 {
     match number_of(&built.plan, task) {
         None => Ok(Answer {
@@ -70,7 +74,7 @@ fn image_of(
 }
 
 fn shown_for(alloc: Global, command: &Command, built: &Built) -> Result<Answer, NoMemory>
-    ensures { (result ≡ Err NoMemory) ⊎ (result ≡ Ok (shown_for command.now built.now)) }
+    ensures { IfOk result (λ answer. answer ≡ shown_for command.now built.now) }
 {
     match command {
         Command::Check { order: _ } => Ok(Answer {
@@ -85,14 +89,13 @@ fn shown_for(alloc: Global, command: &Command, built: &Built) -> Result<Answer, 
 pub fn answered(
     alloc: Global,
     command: &Command,
-    built: Result<Built, BuildFault>,
+    built: &Result<Built, BuildFault>,
 ) -> Result<Answer, NoMemory>
-    ensures is { (result ≡ Err NoMemory) ⊎ (result ≡ Ok (answered command.now built)) }
-    ensures none { built ≡ Err BuildFault.NoMemory → result ≡ Err NoMemory }
+    ensures is { IfOk result (λ answer. answer ≡ answered command.now built.now) }
+    ensures some { IfOk result (λ answer. ¬ (built.now ≡ Err BuildFault.NoMemory)) }
 {
     match built {
-        Ok(built) => shown_for(alloc, command, &built),
-        Err(BuildFault::NoMemory) => Err(NoMemory),
-        Err(fault) => refused(alloc, &fault),
+        Ok(built) => shown_for(alloc, command, built),
+        Err(fault) => refused(alloc, fault),
     }
 }

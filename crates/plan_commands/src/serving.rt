@@ -1,4 +1,4 @@
-ghost use Rattle.std.specs.Prelude.{◌≡◌, ◌≢◌, ◌⊎◌, ◌≤◌, ◌++◌, ℕ, List, IsTrue, Some, None, Ok, Err, Result, map, string_bytes};
+ghost use Rattle.std.specs.Prelude.{◌≡◌, ◌⊎◌, ◌≤◌, ◌++◌, ℕ, List, IsTrue, Some, None, Ok, Err, Result, map, string_bytes};
 ghost use Rattle.flash_base.specs.Counts.{Rises};
 ghost use Rattle.flash_shelf.specs.Outside.{CameFrom};
 ghost use Rattle.flash_shelf.specs.declared.shelf.ShelfFault.{ShelfFault};
@@ -33,7 +33,7 @@ fn serve_command<F: Shelf, K: Sink>(
         (K.faults out.old) (K.faults out.new) command.now result }
 {
     let built = build(alloc, shelf, command.order());
-    match answered(alloc, command, built) {
+    match answered(alloc, command, &built) {
         Ok(answer) => print(out, &answer),
         Err(_) => Status::NoMemory,
     }

@@ -1,4 +1,4 @@
-ghost use Rattle.std.specs.Prelude.{◌≡◌, ◌⊎◌, None, Ok, Err, map, string_bytes};
+ghost use Rattle.std.specs.Prelude.{◌≡◌, None, Ok, IfOk, map, string_bytes};
 ghost use Rattle.std.specs.List.{list_all};
 ghost use Rattle.flash_order.specs.Fields.{is_task_name};
 ghost use Rattle.flash_plan.specs.Plan.{is_name_byte};
@@ -55,7 +55,7 @@ fn is_task_name(text: &str) -> bool
 }
 
 fn check_in(alloc: Global, word: &str, order: &str) -> Result<Option<Command>, NoMemory>
-    ensures is { (result ≡ Err NoMemory) ⊎ (result ≡ Ok (check_in word.now order.now)) }
+    ensures is { IfOk result (λ command. command ≡ check_in word.now order.now) }
     ensures none { check_in word.now order.now ≡ None → result ≡ Ok None }
 {
     if word == "check" && is_file_name(order) {
@@ -72,7 +72,7 @@ fn image_in(
     order: &str,
     task: &str,
 ) -> Result<Option<Command>, NoMemory>
-    ensures is { (result ≡ Err NoMemory) ⊎ (result ≡ Ok (image_in word.now order.now task.now)) }
+    ensures is { IfOk result (λ command. command ≡ image_in word.now order.now task.now) }
     ensures none { image_in word.now order.now task.now ≡ None → result ≡ Ok None }
 {
     if word == "image" && is_file_name(order) && is_task_name(task) {
@@ -88,12 +88,14 @@ fn image_in(
 /// form `check ORDER` or `image ORDER TASK`, with the name of a file and the name of a task. What
 /// is not in the form takes no memory.
 pub fn read(alloc: Global, words: &[String]) -> Result<Option<Command>, NoMemory>
-    ensures is { (result ≡ Err NoMemory) ⊎ (result ≡ Ok (command_of (map string_bytes words.now))) }
+    ensures is { IfOk result (λ command. command ≡ command_of (map string_bytes words.now)) }
     ensures none { command_of (map string_bytes words.now) ≡ None → result ≡ Ok None }
 {
-    match words {
-        [word, order] => check_in(alloc, word.as_str(), order.as_str()),
-        [word, order, task] => image_in(alloc, word.as_str(), order.as_str(), task.as_str()),
-        _ => Ok(None),
+    if words.len() == 2 {
+        return check_in(alloc, words[0].as_str(), words[1].as_str());
     }
+    if words.len() == 3 {
+        return image_in(alloc, words[0].as_str(), words[1].as_str(), words[2].as_str());
+    }
+    Ok(None)
 }
