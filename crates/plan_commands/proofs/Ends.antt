@@ -6,7 +6,8 @@ use Rattle.flash_shelf.specs.Outside.{CameFrom}
 use Rattle.flash_shelf.specs.declared.shelf.ShelfFault.{ShelfFault}
 use Rattle.plan_build.specs.Building.{built, built_by}
 use Rattle.plan_build.specs.Fetched.{came, period}
-use Rattle.plan_build.specs.Whole.{IfShelf, IsOne}
+use Rattle.plan_build.specs.Laws.{IsOne}
+use Rattle.plan_build.specs.Whole.{IfShelf}
 use Rattle.plan_build.specs.declared.built.Built.{Built}
 use Rattle.plan_build.specs.declared.fault.BuildFault.{BuildFault}
 use Rattle.plan_build.specs.declared.fault.BuildFault.TheVariants as fault

@@ -16,7 +16,8 @@ use crate::printing::{print, print_usage};
 use crate::status::Status;
 use crate::words::{Command, read};
 use flash_shelf::{Shelf, Sink};
-use plan_build::{build, files_give_one_answer};
+use plan_build::build;
+use plan_build::laws::files_give_one_answer;
 use std::alloc::Global;
 
 /// Builds the plan of a command's order file, and prints what it answers.

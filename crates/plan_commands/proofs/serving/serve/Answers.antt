@@ -1,5 +1,4 @@
-use Rattle.std.proofs.Common.{◌≡◌, sym, ◌∙◌}
-use Rattle.plan_commands.specs.Words.{order_of}
+use Rattle.std.proofs.Common.{refl}
 use Rattle.plan_commands.proofs.Ends.{completes, done_cause, input_cause, is_plain, is_served, served_for, shelf_cause, sink_cause, starved, told_answer}
 use Rattle.plan_commands.proofs.serving.serve.Goals as goal
 
@@ -23,7 +22,7 @@ returns-in-Ok-Some-clause-told g c = λ tells none command r words is some_r.
     (g.K.Sink.written c.args.out.now) (g.K.Sink.written c.serve_command.new.out) (g.K.Sink.faults c.args.out.now) (g.K.Sink.faults c.serve_command.new.out)
         c.serve_command.result c.in-Ok-Some.command command _ some words c.serve_command.ensures.served in
     told_answer g.F.Shelf.tells (g.F.Shelf.contents c.args.shelf.now) (g.F.Shelf.faults c.args.shelf.now) (g.F.Shelf.faults c.serve_command.new.shelf) g.K.Sink.tells
-        (g.K.Sink.written c.args.out.now) (g.K.Sink.written c.serve_command.new.out) (g.K.Sink.faults c.args.out.now) (g.K.Sink.faults c.serve_command.new.out) command c.serve_command.result s tells none r is some_r (c.files_give_one_answer.ensures _ _)
+        (g.K.Sink.written c.args.out.now) (g.K.Sink.written c.serve_command.new.out) (g.K.Sink.faults c.args.out.now) (g.K.Sink.faults c.serve_command.new.out) command c.serve_command.result s tells none r is some_r (c.files_give_one_answer.ensures _ _ (λ n. refl) _)
 
 pub returns-in-Ok-Some-clause-input : goal.returns-in-Ok-Some-clause-input
 returns-in-Ok-Some-clause-input g c = λ is command words.
@@ -64,7 +63,7 @@ returns-in-Ok-Some-clause-complete g c = λ tells sink_tells none no_sink comman
     (g.K.Sink.written c.args.out.now) (g.K.Sink.written c.serve_command.new.out) (g.K.Sink.faults c.args.out.now) (g.K.Sink.faults c.serve_command.new.out)
         c.serve_command.result c.in-Ok-Some.command command _ some words c.serve_command.ensures.served in
     completes g.F.Shelf.tells (g.F.Shelf.contents c.args.shelf.now) (g.F.Shelf.faults c.args.shelf.now) (g.F.Shelf.faults c.serve_command.new.shelf) g.K.Sink.tells
-        (g.K.Sink.written c.args.out.now) (g.K.Sink.written c.serve_command.new.out) (g.K.Sink.faults c.args.out.now) (g.K.Sink.faults c.serve_command.new.out) command c.serve_command.result s tells sink_tells none no_sink b is there (c.files_give_one_answer.ensures _ _)
+        (g.K.Sink.written c.args.out.now) (g.K.Sink.written c.serve_command.new.out) (g.K.Sink.faults c.args.out.now) (g.K.Sink.faults c.serve_command.new.out) command c.serve_command.result s tells sink_tells none no_sink b is there (c.files_give_one_answer.ensures _ _ (λ n. refl) _)
 
 pub returns-in-Ok-Some-clause-usage : goal.returns-in-Ok-Some-clause-usage
 returns-in-Ok-Some-clause-usage g c = λ is.
