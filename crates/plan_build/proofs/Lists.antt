@@ -23,6 +23,11 @@ drop_here [] i x h = cc
 drop_here (y ∷ ys) zero x h = let e : y ≡ x = cc in ap (λ z. z ∷ ys) e
 drop_here (y ∷ ys) (suc i) x h = let e : suc (i + 1) ≡ suc i + 1 = omega arith in drop_here ys i x h ∙ ap (λ n. x ∷ drop n (y ∷ ys)) e
 
+-- one item more of a copy
+pub copy_on : {X : Type 0} (xs copy more : List X) (i : ℕ) (x y : X) → slice_get xs i ≡ Some x → y ≡ x → more ≡ copy ++ y ∷ [] → copy ++ drop i xs ≡ xs → more ++ drop (i + 1) xs ≡ xs
+copy_on xs copy more i x y at same pushed before =
+    ap (λ c. c ++ drop (i + 1) xs) pushed ∙ append_assoc copy (y ∷ []) (drop (i + 1) xs) ∙ ap (λ z. copy ++ z ∷ drop (i + 1) xs) same ∙ ap (λ d. copy ++ d) (sym (drop_here xs i x at)) ∙ before
+
 -- these, and then the rest
 abbrev pub joined : {A : Type 0} → List A → Result (List A) BuildFault → Result (List A) BuildFault
 joined xs (Ok ys) = Ok (xs ++ ys)
