@@ -1,5 +1,8 @@
 pub mod Drafts
 pub mod Lists
+pub mod OneImage
+pub mod OnePlan
+pub mod Only
 pub mod Outside
 pub mod Periods
 pub mod Steps
