@@ -1,5 +1,5 @@
 -- The drafts of tasks are as the plan asks for, and everything is there once for each task.
-use Rattle.std.proofs.Common.{◌≡◌, ◌∙◌, refl, ap, sym, subst, ℕ, zero, suc, ◌+◌, ◌<◌, ◌≤◌, arith, List, [], ◌∷◌, ◌++◌, length, length-append, map, Result, Ok, Err, Some, slice_get}
+use Rattle.std.proofs.Common.{◌≡◌, ◌∙◌, refl, ap, sym, subst, ℕ, zero, suc, ◌+◌, ◌<◌, ◌≤◌, arith, List, [], ◌∷◌, ◌++◌, length, length-append, map, Result, Ok, Err, Some, slice_get, get_or}
 use Rattle.flash_base.specs.Lists.{Each}
 use Rattle.flash_order.specs.Promises as order
 use Rattle.flash_order.specs.declared.order.Order.{Order}
@@ -12,6 +12,7 @@ use Rattle.flash_plan.specs.declared.unit.UnitPlan.{UnitPlan}
 use Rattle.flash_plan.specs.declared.unit.Wanted.{Wanted}
 use Rattle.session_image.specs.Images.{IsSegment, IsUsable}
 use Rattle.session_image.specs.declared.types.Image.{Image}
+use Rattle.plan_build.specs.Refusals.{name_of}
 use Rattle.plan_build.specs.Tasks.{drafted, with_last}
 use Rattle.plan_build.specs.Whole.{AreFor, IsWhole}
 use Rattle.plan_build.specs.declared.built.Part.{Part}
@@ -56,7 +57,18 @@ length_map f (x ∷ xs) = ap suc (length_map f xs)
 pub as_many : (ts : List Task) (ps : Parts) (units : List UnitPlan) → AreFor ts ps → units ≡ units_of ps.drafts → count_of units ≡ length ts
 as_many ts ps units h is = ap (λ us. length us) is ∙ length_map (unit_of ps.drafts) ps.drafts ∙ h.drafts
 
--- so many parts, and one more
+-- ------ the name of a task
+pub name_at : (ts : List Task) (n : ℕ) (t : Task) → n < length ts → t ≡ get_or ts n t → t.name ≡ name_of ts n
+name_at [] n t within at = absurd (omega arith)
+name_at (u ∷ us) zero t within at = ap (λ (x : Task). x.name) at
+name_at (u ∷ us) (suc n) t within at = name_at us n t (omega arith) at
+
+pub no_name : (ts : List Task) (n : ℕ) → length ts ≤ n → [] ≡ name_of ts n
+no_name [] n behind = refl
+no_name (u ∷ us) zero behind = absurd (omega arith)
+no_name (u ∷ us) (suc n) behind = no_name us n (omega arith)
+
+-- ------ so many parts, and one more
 pub record AreSo (n : ℕ) (ps : Parts) : Type 0 where
   pub drafts : length ps.drafts ≡ n
   pub checks : length ps.checks ≡ n

@@ -1,5 +1,6 @@
 -- Lists that are made one item after another, where each may be refused.
-use Rattle.std.proofs.Common.{◌≡◌, ◌∙◌, ◌⊎◌, inl, inr, sym, refl, ap, subst, zero, suc, arith, ◌+◌, ◌-◌, ◌<◌, ℕ, List, [], ◌∷◌, ◌++◌, length, get_or, drop, take, map, append_assoc, append-nil, Option, Some, None, IsSome, Result, Ok, Err, slice_get, cond, Bool, true, false, bytes_eq}
+use Rattle.std.proofs.Common.{◌≡◌, ◌∙◌, ◌⊎◌, inl, inr, sym, refl, ap, subst, zero, suc, arith, ◌+◌, ◌-◌, ◌<◌, ◌≤◌, ℕ, List, [], ◌∷◌, ◌++◌, length, get_or, drop, take, map, append_assoc, append-nil, Option, Some, None, IsSome, Result, Ok, Err, slice_get, cond, Bool, true, false, bytes_eq}
+use Rattle.std.proofs.lemmas.List.{drop_more}
 use Rattle.std.proofs.lemmas.Slice.Eq.{bytes_eq-Decides}
 use Rattle.flash_base.specs.Files.{first_of}
 use Rattle.flash_base.specs.Lists.{Each}
@@ -8,7 +9,7 @@ use Rattle.flash_order.specs.declared.order.Task.{Task}
 use Rattle.flash_shelf.specs.declared.shelf.ShelfFault.{ShelfFault}
 use Rattle.ecu_mem.specs.declared.types.Ident.{Ident}
 use Rattle.flash_plan.specs.declared.unit.Wanted.{Wanted}
-use Rattle.plan_build.specs.Answers.{just, Then, ◌>>=◌, ◌>=>◌}
+use Rattle.plan_build.specs.Answers.{just, Then, goes_on, stops, ◌>>=◌, ◌>=>◌}
 use Rattle.plan_build.specs.Fetched.{fetched, all_fetched}
 use Rattle.plan_build.specs.Tasks.{all_wanted, did_of, no_parts, part, parts, room_after, wanted_of, with_last, with_part}
 use Rattle.plan_build.specs.declared.built.Catalogue.{Catalogue}
@@ -16,6 +17,7 @@ use Rattle.plan_build.specs.declared.built.Part.{Part}
 use Rattle.plan_build.specs.declared.built.Parts.{Parts}
 use Rattle.plan_build.specs.declared.fault.BuildFault.{BuildFault}
 use Rattle.plan_build.specs.declared.fault.BuildFault.TheVariants.{NoMemory}
+use Rattle.plan_build.proofs.Steps.{Or}
 
 -- the rest of a list from an item on
 pub drop_here : {X : Type 0} (xs : List X) (i : ℕ) (x : X) → slice_get xs i ≡ Some x → drop i xs ≡ x ∷ drop (i + 1) xs
@@ -27,6 +29,10 @@ drop_here (y ∷ ys) (suc i) x h = let e : suc (i + 1) ≡ suc i + 1 = omega ari
 pub copy_on : {X : Type 0} (xs copy more : List X) (i : ℕ) (x y : X) → slice_get xs i ≡ Some x → y ≡ x → more ≡ copy ++ y ∷ [] → copy ++ drop i xs ≡ xs → more ++ drop (i + 1) xs ≡ xs
 copy_on xs copy more i x y at same pushed before =
     ap (λ c. c ++ drop (i + 1) xs) pushed ∙ append_assoc copy (y ∷ []) (drop (i + 1) xs) ∙ ap (λ z. copy ++ z ∷ drop (i + 1) xs) same ∙ ap (λ d. copy ++ d) (sym (drop_here xs i x at)) ∙ before
+
+-- and from one that stands at a place
+pub drop_at : {X : Type 0} (xs : List X) (i : ℕ) (x : X) → i < length xs → x ≡ get_or xs i x → drop i xs ≡ x ∷ drop (i + 1) xs
+drop_at xs i x within is = drop_more xs i x within ∙ ap (λ y. y ∷ drop (i + 1) xs) (sym is)
 
 -- these, and then the rest
 abbrev pub joined : {A : Type 0} → List A → Result (List A) BuildFault → Result (List A) BuildFault
@@ -50,6 +56,33 @@ file_off read names rest name done e f leads = leads (Err e) (stops e f refl)
 
 pub files_done : (read : List ℕ → Result (List ℕ) ShelfFault → Type 0) (names : List (List ℕ)) (done : List (List ℕ × List ℕ)) → LeadsFiles read names done [] → all_fetched read names (Ok done)
 files_done read names done leads = subst (λ l. all_fetched read names (Ok l)) (append-nil done) (leads (Ok []) refl)
+
+pub file_failed : (read : List ℕ → Result (List ℕ) ShelfFault → Type 0) (names : List (List ℕ)) (i : ℕ) (name : List ℕ) (done : List (List ℕ × List ℕ)) (e : BuildFault) → slice_get names i ≡ Some name →
+    Or {A = List ℕ} (Err e) (fetched read name) → LeadsFiles read names done (drop i names) → Or {A = List (List ℕ × List ℕ)} (Err e) (all_fetched read names)
+file_failed read names i name done e at (inl h) leads = inl cc
+file_failed read names i name done e at (inr f) leads = inr (file_off read names (drop (i + 1) names) name done e f (subst (λ l. LeadsFiles read names done l) (drop_here names i name at) leads))
+
+pub file_more : (read : List ℕ → Result (List ℕ) ShelfFault → Type 0) (names : List (List ℕ)) (i : ℕ) (name other bytes : List ℕ) (done more : List (List ℕ × List ℕ)) → slice_get names i ≡ Some name →
+    Or {A = List ℕ} (Ok bytes) (fetched read name) → other ≡ name → more ≡ done ++ (other, bytes) ∷ [] → LeadsFiles read names done (drop i names) → LeadsFiles read names more (drop (i + 1) names)
+file_more read names i name other bytes done more at (inl h) same pushed leads = cc
+file_more read names i name other bytes done more at (inr f) same pushed leads =
+    subst (λ l. LeadsFiles read names l (drop (i + 1) names)) (ap (λ n. done ++ (n, bytes) ∷ []) (sym same) ∙ sym pushed)
+    (file_on read names (drop (i + 1) names) name bytes done f (subst (λ l. LeadsFiles read names done l) (drop_here names i name at) leads))
+
+-- the names of what was read
+take_here : {X : Type 0} (xs : List X) (i : ℕ) (x : X) → slice_get xs i ≡ Some x → take (i + 1) xs ≡ take i xs ++ x ∷ []
+take_here [] i x h = cc
+take_here (y ∷ ys) zero x h = let e : y ≡ x = cc in ap (λ z. z ∷ []) e
+take_here (y ∷ ys) (suc i) x h = let e : suc i + 1 ≡ suc (i + 1) = omega arith in ap (λ n. take n (y ∷ ys)) e ∙ ap (λ l. y ∷ l) (take_here ys i x h)
+
+names_last : (done : List (List ℕ × List ℕ)) (name bytes : List ℕ) → map (λ f. f.0) (done ++ (name, bytes) ∷ []) ≡ map (λ f. f.0) done ++ name ∷ []
+names_last [] name bytes = refl
+names_last (f ∷ fs) name bytes = ap (λ l. f.0 ∷ l) (names_last fs name bytes)
+
+pub named_more : (names : List (List ℕ)) (i : ℕ) (name other bytes : List ℕ) (done more : List (List ℕ × List ℕ)) → slice_get names i ≡ Some name → other ≡ name → more ≡ done ++ (other, bytes) ∷ [] →
+    map (λ f. f.0) done ≡ take i names → map (λ f. f.0) more ≡ take (i + 1) names
+named_more names i name other bytes done more at same pushed before =
+    ap (λ l. map (λ f. f.0) l) pushed ∙ names_last done other bytes ∙ ap (λ l. l ++ other ∷ []) before ∙ ap (λ n. take i names ++ n ∷ []) same ∙ sym (take_here names i name at)
 
 -- ------ the parts of tasks
 abbrev pub joined_parts : Parts → Result Parts BuildFault → Result Parts BuildFault
@@ -80,6 +113,27 @@ pub room_off : (read : List ℕ → Result (List ℕ) ShelfFault → Type 0) (na
     part read name c t (Ok p) → Err e ≡ room_after name room (size_of p.draft.segments) → LeadsParts read name c ts done n room (t ∷ rest) → parts read name c 0 67108864 ts (Err e)
 room_off read name c ts rest t p done n room e f full leads = leads (Err e) (goes_on p f (stops e full refl))
 
+pub part_failed : (read : List ℕ → Result (List ℕ) ShelfFault → Type 0) (name : List ℕ) (c : Option Catalogue) (ts : List Task) (t : Task) (done : Parts) (n room : ℕ) (e : BuildFault) → n < length ts → t ≡ get_or ts n t →
+    Or {A = Part} (Err e) (part read name c t) → LeadsParts read name c ts done n room (drop n ts) → Or {A = Parts} (Err e) (parts read name c 0 67108864 ts)
+part_failed read name c ts t done n room e within at (inl h) leads = inl cc
+part_failed read name c ts t done n room e within at (inr f) leads =
+    inr (part_off read name c ts (drop (n + 1) ts) t done n room e f (subst (λ l. LeadsParts read name c ts done n room l) (drop_at ts n t within at) leads))
+
+pub room_failed : (read : List ℕ → Result (List ℕ) ShelfFault → Type 0) (name : List ℕ) (c : Option Catalogue) (ts : List Task) (t : Task) (p : Part) (done : Parts) (n room : ℕ) (e : BuildFault) → n < length ts → t ≡ get_or ts n t →
+    Or {A = Part} (Ok p) (part read name c t) → Or {A = ℕ} (Err e) (just (room_after name room (size_of p.draft.segments))) → LeadsParts read name c ts done n room (drop n ts) → Or {A = Parts} (Err e) (parts read name c 0 67108864 ts)
+room_failed read name c ts t p done n room e within at (inl h) full leads = cc
+room_failed read name c ts t p done n room e within at (inr f) (inl h) leads = inl cc
+room_failed read name c ts t p done n room e within at (inr f) (inr full) leads =
+    inr (room_off read name c ts (drop (n + 1) ts) t p done n room e f full (subst (λ l. LeadsParts read name c ts done n room l) (drop_at ts n t within at) leads))
+
+pub part_more : (read : List ℕ → Result (List ℕ) ShelfFault → Type 0) (name : List ℕ) (c : Option Catalogue) (ts : List Task) (t : Task) (p : Part) (done more : Parts) (n room left : ℕ) → n < length ts → t ≡ get_or ts n t →
+    Or {A = Part} (Ok p) (part read name c t) → Or {A = ℕ} (Ok left) (just (room_after name room (size_of p.draft.segments))) → more ≡ with_last done n p → LeadsParts read name c ts done n room (drop n ts) → LeadsParts read name c ts more (n + 1) left (drop (n + 1) ts)
+part_more read name c ts t p done more n room left within at (inl h) fits pushed leads = cc
+part_more read name c ts t p done more n room left within at (inr f) (inl h) pushed leads = cc
+part_more read name c ts t p done more n room left within at (inr f) (inr fits) pushed leads =
+    subst (λ l. LeadsParts read name c ts l (n + 1) left (drop (n + 1) ts)) (sym pushed)
+    (part_on read name c ts (drop (n + 1) ts) t p done n room left f fits (subst (λ l. LeadsParts read name c ts done n room l) (drop_at ts n t within at) leads))
+
 pub parts_done : (read : List ℕ → Result (List ℕ) ShelfFault → Type 0) (name : List ℕ) (c : Option Catalogue) (ts : List Task) (done : Parts) (n room : ℕ) → LeadsParts read name c ts done n room [] → parts read name c 0 67108864 ts (Ok done)
 parts_done read name c ts done n room leads = subst (parts read name c 0 67108864 ts) same (leads (Ok no_parts) refl)
   where
@@ -91,15 +145,13 @@ pub found_behind : (n b : List ℕ) (front back : List (List ℕ × List ℕ)) �
 found_behind n b [] back = here (bytes_eq n n) ((bytes_eq-Decides n n).1 refl)
   where
     here : (t : Bool) → t ≡ true → IsSome (cond t (Some b) (first_of n back))
-    here true h = tt
+    here true h = refl
     here false h = cc
-found_behind n b (p ∷ ps) back = either (bytes_eq p.0 n)
+found_behind n b (p ∷ ps) back = either (bytes_eq p.0 n) (found_behind n b ps back)
   where
-    rest : IsSome (first_of n (ps ++ (n, b) ∷ back))
-    rest = found_behind n b ps back
-    either : (t : Bool) → IsSome (cond t (Some p.1) (first_of n (ps ++ (n, b) ∷ back)))
-    either true = tt
-    either false = rest
+    either : (t : Bool) → IsSome (first_of n (ps ++ (n, b) ∷ back)) → IsSome (cond t (Some p.1) (first_of n (ps ++ (n, b) ∷ back)))
+    either true h = refl
+    either false h = h
 
 each_behind : (front back : List (List ℕ × List ℕ)) → Each (λ n. IsSome (first_of n (front ++ back))) (map (λ p. p.0) back)
 each_behind front [] = tt
@@ -131,3 +183,10 @@ wanted_on name t dids is rest i w done one before =
 pub wanted_off : (name : List ℕ) (t : Task) (dids : List (List ℕ × ℕ)) (is rest : List Ident) (i : Ident) (e : BuildFault) (done : List Wanted) →
     Err e ≡ wanted_of name t i (did_of dids i.name) → all_wanted name t dids is ≡ joined done (all_wanted name t dids (i ∷ rest)) → all_wanted name t dids is ≡ Err e
 wanted_off name t dids is rest i e done one before = before ∙ ap (λ x. joined done (x >=> λ w. all_wanted name t dids rest >=> λ ws. Ok (w ∷ ws))) (sym one)
+
+-- behind the end of a list
+pub nothing_left : {X : Type 0} (xs : List X) (n : ℕ) → length xs ≤ n → drop n xs ≡ []
+nothing_left [] zero h = refl
+nothing_left [] (suc n) h = refl
+nothing_left (x ∷ xs) zero h = absurd (omega arith)
+nothing_left (x ∷ xs) (suc n) h = nothing_left xs n (omega arith)

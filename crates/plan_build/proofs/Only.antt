@@ -16,8 +16,8 @@ use Rattle.session_image.specs.Files.{session_of, files_of}
 use Rattle.session_image.specs.declared.types.Image.{Image}
 use Rattle.session_image.specs.declared.types.ImageFault.{ImageFault}
 use Rattle.session_image.specs.declared.types.ImageFault.TheVariants as image
-use Rattle.plan_build.specs.Answers.{just, Then, ◌>>=◌}
-use Rattle.plan_build.specs.Building.{built, built_by, plan_from, planned, tasks_built}
+use Rattle.plan_build.specs.Answers.{just, Then, goes_on, stops, ◌>>=◌}
+use Rattle.plan_build.specs.Building.{built, built_by, few_tasks, plan_from, planned, tasks_built}
 use Rattle.plan_build.specs.Catalogues.{catalogue_in, catalogued, order_in, ordered}
 use Rattle.plan_build.specs.Fetched.{all_fetched, fetched, is_told, of_answer}
 use Rattle.plan_build.specs.Laws.{FilesGiveOneAnswer, IsOne}
@@ -147,11 +147,9 @@ module _ (fs gs : List (List ℕ × List ℕ)) (alike : (name : List ℕ) → fi
           (λ left. one_both (parts P name c (n + 1) left ts) (parts Q name c (n + 1) left ts) (λ ps. just (Ok (with_part n p ps))) (λ ps. just (Ok (with_part n p ps))) (one_parts name c (n + 1) left ts) (λ ps. one_just (Ok (with_part n p ps)))))
 
   one_tasks : (name : List ℕ) (o : Order) (c : Option Catalogue) → One (tasks_built P name o c) (tasks_built Q name o c)
-  one_tasks name o c = either (nat_lt 64 (length o.tasks))
-    where
-      either : (t : Bool) → One (cond t (just (Err (Input name (TooMany Units)))) (parts P name c 0 67108864 o.tasks >>= planned name o)) (cond t (just (Err (Input name (TooMany Units)))) (parts Q name c 0 67108864 o.tasks >>= planned name o))
-      either true = λ r s h k. inr (inr (h ∙ sym k))
-      either false = one_both (parts P name c 0 67108864 o.tasks) (parts Q name c 0 67108864 o.tasks) (planned name o) (planned name o) (one_parts name c 0 67108864 o.tasks) (λ ps. one_planned name o ps)
+  one_tasks name o c =
+      one_both (just (few_tasks name o.tasks)) (just (few_tasks name o.tasks)) (λ ts. parts P name c 0 67108864 ts >>= planned name o) (λ ts. parts Q name c 0 67108864 ts >>= planned name o) (one_just (few_tasks name o.tasks))
+      (λ ts. one_both (parts P name c 0 67108864 ts) (parts Q name c 0 67108864 ts) (planned name o) (planned name o) (one_parts name c 0 67108864 ts) (λ ps. one_planned name o ps))
 
   one_by : (name : List ℕ) → One (built_by P name) (built_by Q name)
   one_by name =

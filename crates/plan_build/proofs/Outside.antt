@@ -33,8 +33,8 @@ use Rattle.session_image.specs.Files.{session_of, files_of}
 use Rattle.session_image.specs.declared.types.Image.{Image}
 use Rattle.session_image.specs.declared.types.ImageFault.{ImageFault}
 use Rattle.session_image.specs.declared.types.ImageFault.TheVariants as image
-use Rattle.plan_build.specs.Answers.{just, Then, ◌>>=◌, ◌>=>◌}
-use Rattle.plan_build.specs.Building.{built_by, plan_from, planned, tasks_built}
+use Rattle.plan_build.specs.Answers.{just, Then, goes_on, stops, ◌>>=◌, ◌>=>◌}
+use Rattle.plan_build.specs.Building.{built_by, few_tasks, plan_from, planned, tasks_built}
 use Rattle.plan_build.specs.Catalogues.{catalogue_in, catalogued, mem_from, order_from, order_in, ordered, tree_from}
 use Rattle.plan_build.specs.Fetched.{all_fetched, fetched, of_answer}
 use Rattle.plan_build.specs.Refusals.{data_file, image_refusal, lines_refusal, mem_refusal, order_refusal, plan_refusal, tree_refusal}
@@ -52,10 +52,10 @@ use Rattle.plan_build.proofs.Steps.{Or}
 
 module _ (P : List ℕ → ShelfFault → Type 0) where
   -- whatever the value would have been
-  any_value : {A B : Type 0} (e : BuildFault) → IfShelf {A = A} (Err e) P → IfShelf {A = B} (Err e) P
-  any_value (Shelf name fault) h = h
-  any_value (Input name cause) h = tt
-  any_value NoMemory h = tt
+  any_value : (A B : Type 0) (e : BuildFault) → IfShelf {A = A} (Err e) P → IfShelf {A = B} (Err e) P
+  any_value A B (Shelf name fault) h = h
+  any_value A B (Input name cause) h = tt
+  any_value A B NoMemory h = tt
 
   -- each answer of a step that refuses for the shelf has such a name and cause
   abbrev Speaks : {A : Type 0} → (Result A BuildFault → Type 0) → Type 0
@@ -69,7 +69,7 @@ module _ (P : List ℕ → ShelfFault → Type 0) where
 
   of_both : {A B : Type 0} (Q : Result A BuildFault → Type 0) (f : A → Result B BuildFault → Type 0) → Speaks Q → ((x : A) → Speaks (f x)) → Speaks (Q >>= f)
   of_both {A} {B} Q f first second r (goes_on x p q) = second x r q
-  of_both {A} {B} Q f first second r (stops e p is) = subst (λ x. IfShelf x P) (sym is) (any_value e (first (Err e) p))
+  of_both {A} {B} Q f first second r (stops e p is) = subst (λ x. IfShelf x P) (sym is) (any_value A B e (first (Err e) p))
 
   -- ------ steps that do not read
   order_silent : (name : List ℕ) (r : Result Order OrderFault) → Silent (order_from name r)
@@ -103,7 +103,7 @@ module _ (P : List ℕ → ShelfFault → Type 0) where
 
   last_silent : (w : Wanted) (r : Result (List Wanted) BuildFault) → Silent r → Silent (r >=> λ ws. Ok (w ∷ ws))
   last_silent w (Ok ws) h = tt
-  last_silent w (Err e) h = any_value e h
+  last_silent w (Err e) h = any_value (List Wanted) (List Wanted) e h
 
   wanted_silent : (name : List ℕ) (t : Task) (dids : List (List ℕ × ℕ)) (is : List Ident) → Silent (all_wanted name t dids is)
   wanted_silent name t dids [] = tt
@@ -213,11 +213,9 @@ module _ (read : List ℕ → Result (List ℕ) ShelfFault → Type 0) where
   planned_speaks name o ps r h = subst (λ x. IfShelf x Asked) (sym h.is) (plan_silent Asked name o ps h.answer)
 
   tasks_speak : (name : List ℕ) (o : Order) (c : Option Catalogue) → Speaks Asked (tasks_built read name o c)
-  tasks_speak name o c = either (nat_lt 64 (length o.tasks))
-    where
-      either : (t : Bool) → Speaks Asked (cond t (just (Err (Input name (TooMany Units)))) (parts read name c 0 67108864 o.tasks >>= planned name o))
-      either true = λ r is. subst (λ x. IfShelf x Asked) (sym is) tt
-      either false = of_both Asked (parts read name c 0 67108864 o.tasks) (planned name o) (parts_speak name c 0 67108864 o.tasks) (λ ps. planned_speaks name o ps)
+  tasks_speak name o c =
+      of_both Asked (just (few_tasks name o.tasks)) (λ ts. parts read name c 0 67108864 ts >>= planned name o) (of_just Asked (few_tasks name o.tasks) (either_silent Asked (nat_lt 64 (length o.tasks)) _ _ tt tt))
+      (λ ts. of_both Asked (parts read name c 0 67108864 ts) (planned name o) (parts_speak name c 0 67108864 ts) (λ ps. planned_speaks name o ps))
 
   pub built_speaks : (name : List ℕ) (r : Result Built BuildFault) → Or r (built_by read name) → IfShelf r Asked
   built_speaks name r (inl none) = subst (λ x. IfShelf x Asked) (sym none) tt

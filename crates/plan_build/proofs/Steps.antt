@@ -1,6 +1,6 @@
 -- One step after another, where memory may be wanted at any time.
 use Rattle.std.proofs.Common.{◌≡◌, ◌∙◌, ◌⊎◌, inl, inr, sym, refl, ap, Result, Ok, Err}
-use Rattle.plan_build.specs.Answers.{just, Then, ◌>>=◌, ◌>=>◌}
+use Rattle.plan_build.specs.Answers.{just, Then, goes_on, stops, ◌>>=◌, ◌>=>◌}
 use Rattle.plan_build.specs.declared.fault.BuildFault.{BuildFault}
 use Rattle.plan_build.specs.declared.fault.BuildFault.TheVariants.{NoMemory}
 
@@ -14,6 +14,11 @@ pub on : {A B : Type 0} {first : Result A BuildFault → Type 0} {second : A →
 on x (inl h) q = cc
 on x (inr p) (inl h) = inl h
 on x (inr p) (inr q) = inr (goes_on x p q)
+
+-- a step that has one answer, and refused
+pub refusal : {A : Type 0} (e x : BuildFault) (a : Result A BuildFault) → (e ≡ NoMemory) ⊎ (e ≡ x) → a ≡ Err x → Or (Err e) (just a)
+refusal e x a (inl h) is = inl (ap (λ z. Err z) h)
+refusal e x a (inr h) is = inr (ap (λ z. Err z) h ∙ sym is)
 
 -- the first step refused
 pub off : {A B : Type 0} {first : Result A BuildFault → Type 0} {second : A → Result B BuildFault → Type 0} {r : Result B BuildFault} (e : BuildFault) →

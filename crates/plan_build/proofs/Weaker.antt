@@ -17,8 +17,8 @@ use Rattle.flash_shelf.specs.declared.shelf.ShelfFault.{ShelfFault}
 use Rattle.flash_shelf.specs.declared.shelf.ShelfFault.TheVariants as shelf
 use Rattle.session_image.specs.Files.{session_of, files_of}
 use Rattle.session_image.specs.declared.types.Image.{Image}
-use Rattle.plan_build.specs.Answers.{just, Then, ◌>>=◌}
-use Rattle.plan_build.specs.Building.{built, built_by, planned, tasks_built}
+use Rattle.plan_build.specs.Answers.{just, Then, goes_on, stops, ◌>>=◌}
+use Rattle.plan_build.specs.Building.{built, built_by, few_tasks, planned, tasks_built}
 use Rattle.plan_build.specs.Catalogues.{catalogue_in, catalogued, order_in, ordered}
 use Rattle.plan_build.specs.Fetched.{all_fetched, came, fetched, is_told, of_answer, period}
 use Rattle.plan_build.specs.Tasks.{all_wanted, from_session, from_source, imaged, part, part_with, parts, raw_part, room_after, session_in, session_part, with_part}
@@ -108,11 +108,9 @@ module _ (P Q : List ℕ → Result (List ℕ) ShelfFault → Type 0) (reads : (
           (λ left. both_steps (parts P name c (n + 1) left ts) (parts Q name c (n + 1) left ts) (λ ps. just (Ok (with_part n p ps))) (λ ps. just (Ok (with_part n p ps))) (parts_weaker name c (n + 1) left ts) (λ ps. same_step (just (Ok (with_part n p ps))))))
 
   tasks_weaker : (name : List ℕ) (o : Order) (c : Option Catalogue) → Weaker (tasks_built P name o c) (tasks_built Q name o c)
-  tasks_weaker name o c = either (nat_lt 64 (length o.tasks))
-    where
-      either : (t : Bool) → Weaker (cond t (just (Err (Input name (TooMany Units)))) (parts P name c 0 67108864 o.tasks >>= planned name o)) (cond t (just (Err (Input name (TooMany Units)))) (parts Q name c 0 67108864 o.tasks >>= planned name o))
-      either true = same_step (just (Err (Input name (TooMany Units))))
-      either false = both_steps (parts P name c 0 67108864 o.tasks) (parts Q name c 0 67108864 o.tasks) (planned name o) (planned name o) (parts_weaker name c 0 67108864 o.tasks) (λ ps. same_step (planned name o ps))
+  tasks_weaker name o c =
+      both_steps (just (few_tasks name o.tasks)) (just (few_tasks name o.tasks)) (λ ts. parts P name c 0 67108864 ts >>= planned name o) (λ ts. parts Q name c 0 67108864 ts >>= planned name o) (same_step (just (few_tasks name o.tasks)))
+      (λ ts. both_steps (parts P name c 0 67108864 ts) (parts Q name c 0 67108864 ts) (planned name o) (planned name o) (parts_weaker name c 0 67108864 ts) (λ ps. same_step (planned name o ps)))
 
   pub built_weaker : (name : List ℕ) → Weaker (built_by P name) (built_by Q name)
   built_weaker name =
@@ -128,7 +126,7 @@ too_large None h = absurd h
 too_large (Some bytes) h = rw (lt-ltb limit (length bytes) h) refl
 
 pub told_read : (files : List (List ℕ × List ℕ)) (a b : ℕ) → (Rises a b → ⊥) → (name : List ℕ) (answer : Result (List ℕ) ShelfFault) → CameFrom true files name a b answer → (answer ≡ Err shelf.NoMemory) ⊎ is_told files name answer
-told_read files a b still name (Ok bytes) h = inr (told_file files name bytes h.0 (h.1 tt))
+told_read files a b still name (Ok bytes) h = inr (told_file files name bytes h.0 (h.1 refl))
 told_read files a b still name (Err shelf.Missing) h = inr (rw h refl)
 told_read files a b still name (Err shelf.TooLarge) h = inr (too_large (first_of name files) h)
 told_read files a b still name (Err shelf.Failed) h = absurd (still h)
@@ -142,7 +140,7 @@ rose_or_not a b = elim (cases_lt b (min (a + 1) (2 ^ 64 - 1))) [
 
 -- what is built is then what the files make
 pub told_built : (tells : Bool) (files : List (List ℕ × List ℕ)) (a b : ℕ) (name : List ℕ) (r : Result Built BuildFault) → IsTrue tells → Or r (built_by (came (period tells files a b)) name) → (r ≡ Err NoMemory) ⊎ Rises a b ⊎ built files name r
-told_built false files a b name r told h = absurd told
+told_built false files a b name r told h = cc
 told_built true files a b name r told (inl none) = inl none
 told_built true files a b name r told (inr h) = go (rose_or_not a b)
   where
