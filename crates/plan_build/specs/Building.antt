@@ -1,6 +1,7 @@
 -- The plan that files make, or the first refusal.
 use Rattle.std.specs.Prelude.{◌≡◌, ℕ, nat_lt, List, length, Option, Result, Ok, Err, if◌then◌else◌}
 use Rattle.flash_order.specs.declared.order.Order.{Order}
+use Rattle.flash_order.specs.declared.order.Task.{Task}
 use Rattle.flash_plan.specs.Accepting.{IsAnswer}
 use Rattle.flash_plan.specs.declared.fault.PlanFault.{PlanFault}
 use Rattle.flash_plan.specs.declared.fault.What.TheVariants.{Units}
@@ -31,11 +32,14 @@ pub record Planned (name : List ℕ) (o : Order) (ps : Parts) (r : Result Built 
 abbrev pub planned : List ℕ → Order → Parts → Result Built BuildFault → Type 0
 planned name o ps r = Planned name o ps r
 
--- at most 64 tasks, and 67,108,864 bytes together
+-- the tasks, of which there are at most 64
+abbrev pub few_tasks : List ℕ → List Task → Result (List Task) BuildFault
+few_tasks name ts = if nat_lt 64 (length ts) then Err (Input name (TooMany Units)) else Ok ts
+
+-- all tasks, whose segments have at most 67,108,864 bytes together
 abbrev pub tasks_built : (List ℕ → Result (List ℕ) ShelfFault → Type 0) → List ℕ → Order → Option Catalogue → Result Built BuildFault → Type 0
 tasks_built read name o c =
-    if nat_lt 64 (length o.tasks) then just (Err (Input name (TooMany Units)))
-    else (parts read name c 0 67108864 o.tasks >>= planned name o)
+    just (few_tasks name o.tasks) >>= λ ts. parts read name c 0 67108864 ts >>= planned name o
 
 -- the order, the catalogue, the tasks, the plan
 abbrev pub built_by : (List ℕ → Result (List ℕ) ShelfFault → Type 0) → List ℕ → Result Built BuildFault → Type 0

@@ -38,6 +38,9 @@ raw_part name t at wanted bytes =
     else if nat_lt top (at + length bytes) then Err (Input name (OutOfRange 0))
     else Ok (record { draft = drafted t wanted (record { at = at; body = bytes } ∷ []); checks = []; own = [] })
 
+abbrev pub from_file : (List ℕ → Result (List ℕ) ShelfFault → Type 0) → List ℕ → Task → List ℕ → ℕ → List Wanted → Result Part BuildFault → Type 0
+from_file read name t file at wanted = fetched read file >>= λ bytes. just (raw_part name t at wanted bytes)
+
 -- ------ a task with a session
 abbrev pub found_or_not : List ℕ → Task → Option ℕ → Result ℕ BuildFault
 found_or_not name t None = Err (Input name (NoSession t.name))
@@ -90,7 +93,7 @@ from_session read name t (Some c) id dids fill =
     session_part read t c s wanted fill
 
 abbrev pub from_source : (List ℕ → Result (List ℕ) ShelfFault → Type 0) → List ℕ → Option Catalogue → Task → Source → Result Part BuildFault → Type 0
-from_source read name c t (source.Raw file at wanted) = fetched read file >>= λ bytes. just (raw_part name t at wanted bytes)
+from_source read name c t (source.Raw file at wanted) = from_file read name t file at wanted
 from_source read name c t (source.Session id dids fill) = from_session read name t c id dids fill
 
 -- ------ one task, and all in order

@@ -1,9 +1,8 @@
 -- What everything that is built keeps.
-use Rattle.std.specs.Prelude.{◌≡◌, ◌⊎◌, ℕ, length, List, Result, Ok, Err}
+use Rattle.std.specs.Prelude.{◌≡◌, ℕ, length, List, Result, Ok, Err}
 use Rattle.flash_order.specs.Promises.{IsOrder}
 use Rattle.flash_plan.specs.Plan.{IsAccepted, count_of}
 use Rattle.flash_shelf.specs.declared.shelf.ShelfFault.{ShelfFault}
-use Rattle.plan_build.specs.Building.{built}
 use Rattle.flash_order.specs.declared.order.Task.{Task}
 use Rattle.plan_build.specs.declared.built.Built.{Built}
 use Rattle.plan_build.specs.declared.built.Parts.{Parts}
@@ -24,10 +23,6 @@ IfShelf (Ok x) P = Unit {0}
 IfShelf (Err (Shelf name fault)) P = P name fault
 IfShelf (Err (Input name cause)) P = Unit {0}
 IfShelf (Err NoMemory) P = Unit {0}
-
--- two answers are one, where memory was there for both
-abbrev pub IsOne : Result Built BuildFault → Result Built BuildFault → Type 0
-IsOne r s = (r ≡ Err NoMemory) ⊎ (s ≡ Err NoMemory) ⊎ (r ≡ s)
 
 -- one of each for each task
 pub record AreFor (ts : List Task) (ps : Parts) : Type 0 where

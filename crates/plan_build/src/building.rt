@@ -56,11 +56,7 @@ fn tasks_built<F: Shelf>(
 /// Where the shelf tells its files, the answer is theirs, unless its count of faults rose. Where
 /// it tells nothing, the answer is that of what its reads gave, and a refusal of the shelf comes
 /// only where its count rose. Want of memory may come at any time.
-pub fn build<F: Shelf>(
-    alloc: Global,
-    shelf: &mut F,
-    name: &str,
-) -> Result<Built, BuildFault>
+pub fn build<F: Shelf>(alloc: Global, shelf: &mut F, name: &str) -> Result<Built, BuildFault>
     ensures keeps { F.contents shelf.new ≡ F.contents shelf.old }
     ensures never_falls { F.faults shelf.old ≤ F.faults shelf.new }
     ensures read { (result ≡ Err BuildFault.NoMemory) ⊎ built_by (came (period F.tells (F.contents shelf.old) (F.faults shelf.old) (F.faults shelf.new))) name.now result }

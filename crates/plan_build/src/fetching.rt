@@ -20,11 +20,7 @@ fn refusal(alloc: Global, name: &str, fault: ShelfFault) -> BuildFault
 }
 
 /// The file with this name.
-pub(crate) fn fetch<F: Shelf>(
-    alloc: Global,
-    shelf: &mut F,
-    name: &str,
-) -> Result<Bytes, BuildFault>
+pub(crate) fn fetch<F: Shelf>(alloc: Global, shelf: &mut F, name: &str) -> Result<Bytes, BuildFault>
     ensures keeps { F.contents shelf.new ≡ F.contents shelf.old }
     ensures never_falls { F.faults shelf.old ≤ F.faults shelf.new }
     ensures read { (p : Period) → Lies p F.tells (F.contents shelf.old) (F.faults shelf.old) (F.faults shelf.new) → (result ≡ Err BuildFault.NoMemory) ⊎ fetched (came p) name.now result }

@@ -12,6 +12,7 @@ mod copies;
 mod fault;
 mod fetching;
 mod idents;
+pub mod laws;
 mod planning;
 mod refusals;
 mod sources;

@@ -5,9 +5,8 @@ ghost use Rattle.flash_base.specs.Lists.{Each};
 ghost use Rattle.flash_order.specs.Promises as order;
 ghost use Rattle.flash_plan.specs.Accepting.{IsAsked, IsDraft};
 ghost use Rattle.flash_plan.specs.Plan.{AreApart};
-ghost use Rattle.plan_build.specs.Fetched.{came, fetched, Lies, Period};
-ghost use Rattle.plan_build.specs.Answers.{just, ◌>>=◌};
-ghost use Rattle.plan_build.specs.Tasks.{drafted, from_session, imaged, part_with, raw_part, session_in, session_part};
+ghost use Rattle.plan_build.specs.Fetched.{came, Lies, Period};
+ghost use Rattle.plan_build.specs.Tasks.{drafted, from_file, from_session, imaged, part_with, raw_part, session_in, session_part};
 ghost use Rattle.session_image.specs.Images.{HasFiles, IsUsable};
 ghost use Rattle.session_image.specs.Files.{session_of};
 
@@ -273,7 +272,7 @@ pub(crate) fn from_file<F: Shelf>(
     ensures keeps { F.contents shelf.new ≡ F.contents shelf.old }
     ensures never_falls { F.faults shelf.old ≤ F.faults shelf.new }
     ensures read { (p : Period) → Lies p F.tells (F.contents shelf.old) (F.faults shelf.old) (F.faults shelf.new) → (result ≡ Err BuildFault.NoMemory)
-        ⊎ (fetched (came p) file.now >>= λ bytes. just (raw_part name.now task.now at idents.now bytes)) result }
+        ⊎ from_file (came p) name.now task.now file.now at idents.now result }
     ensures draft { IfOk result (λ p. IsDraft p.draft) }
 {
     let body = fetch(alloc, shelf, file.as_str())?;

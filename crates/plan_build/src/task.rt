@@ -43,7 +43,16 @@ fn part<F: Shelf>(
             from_file(alloc, shelf, name, task, file, *at, idents.as_slice())
         }
         Source::Session { id, dids, fill } => {
-            from_session(alloc, shelf, name, task, catalogue, id, dids.as_slice(), *fill)
+            from_session(
+                alloc,
+                shelf,
+                name,
+                task,
+                catalogue,
+                id,
+                dids.as_slice(),
+                *fill,
+            )
         }
     }
 }
