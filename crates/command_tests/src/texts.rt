@@ -3,7 +3,7 @@ use std::test::Fail;
 
 /// What `check` prints. The digest is that of the canonical bytes, spelled by hand; it and the
 /// digests below are those of `sha256sum`.
-const CHECK: &str = "done plan DIGEST
+const CHECK: &str = "done plan fbbfc32f2ea14029c2540de4a494e7fb30d36bd7385a137a2d5596a0adf55b5d
 unit A 1001 segments 3 bytes 12 after -
 checksum A C1 ok
 checksum A C2 ok
@@ -15,9 +15,9 @@ units 3 bytes 19
 ";
 
 /// What `image` prints for the task with two datablocks: 01 02 03 04 FF FF FF FF, 0A 0B, 0C 0D.
-const IMAGE: &str = "done segment 0 0000101000 8 DIGEST0
-segment 1 0000001800 2 DIGEST1
-segment 2 0000002800 2 DIGEST2
+const IMAGE: &str = "done segment 0 0000101000 8 a2d1aed7ea54f64fafe25ec0ad1e4f5866b3bc0daa7e2820013016977c3014ac
+segment 1 0000001800 2 bea0b72e71bfe7f15a88c25305bf96a9681e34d3aabe0c9a1b7093cb32d8ff05
+segment 2 0000002800 2 07653ec08000c93dedea7816c582fd08db6135d606ef57a1f55cdab8928a24c3
 own VER 312E30
 own VER 00FE
 own ECU 45
