@@ -28,7 +28,7 @@ fn status_of(fault: &BuildFault) -> Status
 }
 
 /// What a refusal of the files answers; want of memory has no answer.
-fn refused(alloc: Global, fault: &BuildFault) -> Result<Answer, NoMemory>
+pub fn refused(alloc: Global, fault: &BuildFault) -> Result<Answer, NoMemory>
     ensures is { IfOk result (λ answer. answer ≡ refused fault.now) }
     ensures some { IfOk result (λ answer. ¬ (fault.now ≡ BuildFault.NoMemory)) }
 {
