@@ -22,6 +22,6 @@ returns-clause-read g c =
     let second = c.in_ok-catalogue.ensures in
     let third = c.tasks_built.ensures in
     λ q h.
-        on c.in_ok-order.order (first.read q (earlier h (le_trans second.never_falls third.never_falls)))
-        (on c.in_ok-catalogue.catalogue (second.read q (earlier (later h first.keeps first.never_falls) third.never_falls))
-        (third.read q (later (later h first.keeps first.never_falls) second.keeps second.never_falls)))
+    on c.in_ok-order.order (first.read q (earlier h (le_trans second.never_falls third.never_falls)))
+    (on c.in_ok-catalogue.catalogue (second.read q (earlier (later h first.keeps first.never_falls) third.never_falls))
+    (third.read q (later (later h first.keeps first.never_falls) second.keeps second.never_falls)))

@@ -27,8 +27,8 @@ returns-in_err-parts-clause-read g c =
     let ts = c.args.order.tasks in
     let within : length ts ≤ 64 = omega (arith, c.if-len-gt-UNIT_LIMIT.false, c.len.ensures) in
     rw (p.1, p.2) (λ q h.
-        on ts (inr (sym (few name ts within)))
-        (off e refl (subst (λ (l : List Task). Or {A = Parts} (Err e) (parts (came q) name c.args.catalogue.now 0 67108864 l)) c.as_slice.ensures (c.in_err-parts.ensures.read q h))))
+    on ts (inr (sym (few name ts within)))
+    (off e refl (subst (λ (l : List Task). Or {A = Parts} (Err e) (parts (came q) name c.args.catalogue.now 0 67108864 l)) c.as_slice.ensures (c.in_err-parts.ensures.read q h))))
 
 pub returns-clause-read : goal.returns-clause-read
 returns-clause-read g c =
@@ -37,5 +37,5 @@ returns-clause-read g c =
     let ps = c.in_ok-parts.parts in
     let within : length ts ≤ 64 = omega (arith, c.if-len-gt-UNIT_LIMIT.false, c.len.ensures) in
     λ q h.
-        on ts (inr (sym (few name ts within)))
-        (on ps (subst (λ (l : List Task). Or {A = Parts} (Ok ps) (parts (came q) name c.args.catalogue.now 0 67108864 l)) c.as_slice.ensures (c.in_ok-parts.ensures.read q h)) c.planned.ensures.is)
+    on ts (inr (sym (few name ts within)))
+    (on ps (subst (λ (l : List Task). Or {A = Parts} (Ok ps) (parts (came q) name c.args.catalogue.now 0 67108864 l)) c.as_slice.ensures (c.in_ok-parts.ensures.read q h)) c.planned.ensures.is)

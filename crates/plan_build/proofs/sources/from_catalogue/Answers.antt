@@ -32,8 +32,8 @@ returns-in_err-idents-clause-read g c =
     let s : ℕ = c.in_ok-session.session in
     let is : c.as_slice.result.now ≡ (session_of m s).idents = c.as_slice.ensures ∙ ap (λ (x : Session). x.idents) (sym (session_at m s c.at-found.result.now c.at-found.ensures)) in
     rw (p.1, p.2) (λ q h.
-        on s c.in_ok-session.ensures.is
-        (off e refl (subst (λ (l : List Ident). Or {A = List Wanted} (Err e) (just (all_wanted c.args.name.now c.args.task.now c.args.dids.now l))) is c.in_err-idents.ensures.is)))
+    on s c.in_ok-session.ensures.is
+    (off e refl (subst (λ (l : List Ident). Or {A = List Wanted} (Err e) (just (all_wanted c.args.name.now c.args.task.now c.args.dids.now l))) is c.in_err-idents.ensures.is)))
 
 pub returns-clause-read : goal.returns-clause-read
 returns-clause-read g c =
@@ -42,6 +42,6 @@ returns-clause-read g c =
     let ws = c.in_ok-idents.idents in
     let is : c.as_slice.result.now ≡ (session_of m s).idents = c.as_slice.ensures ∙ ap (λ (x : Session). x.idents) (sym (session_at m s c.at-found.result.now c.at-found.ensures)) in
     λ q h.
-        on s c.in_ok-session.ensures.is
-        (on ws (subst (λ (l : List Ident). Or {A = List Wanted} (Ok ws) (just (all_wanted c.args.name.now c.args.task.now c.args.dids.now l))) is c.in_ok-idents.ensures.is)
-        (c.session_part.ensures.read q h))
+    on s c.in_ok-session.ensures.is
+    (on ws (subst (λ (l : List Ident). Or {A = List Wanted} (Ok ws) (just (all_wanted c.args.name.now c.args.task.now c.args.dids.now l))) is c.in_ok-idents.ensures.is)
+    (c.session_part.ensures.read q h))

@@ -19,12 +19,12 @@ returns-in_err-image-clause-read g c =
     let p = err_from_is_err_and c.from_residual-in_err-image.result c.from_residual-in_err-image.ensures.1 in
     let fs = c.in_ok-files.files in
     rw (p.1, p.2) (λ q h.
-        on fs (subst (λ (l : List (List ℕ)). Or {A = List (List ℕ × List ℕ)} (Ok fs) (all_fetched (came q) l)) c.in_ok-names.ensures (c.in_ok-files.ensures.read q h))
-        (off c.in_err-image.field-0.0 refl c.in_err-image.ensures.is))
+    on fs (subst (λ (l : List (List ℕ)). Or {A = List (List ℕ × List ℕ)} (Ok fs) (all_fetched (came q) l)) c.in_ok-names.ensures (c.in_ok-files.ensures.read q h))
+    (off c.in_err-image.field-0.0 refl c.in_err-image.ensures.is))
 
 pub returns-clause-read : goal.returns-clause-read
 returns-clause-read g c =
     let fs = c.in_ok-files.files in
     λ q h.
-        on fs (subst (λ (l : List (List ℕ)). Or {A = List (List ℕ × List ℕ)} (Ok fs) (all_fetched (came q) l)) c.in_ok-names.ensures (c.in_ok-files.ensures.read q h))
-        (on c.in_ok-image.image c.in_ok-image.ensures.is (inr (ap (λ x. Ok x) c.in_ok-part_with.ensures.is)))
+    on fs (subst (λ (l : List (List ℕ)). Or {A = List (List ℕ × List ℕ)} (Ok fs) (all_fetched (came q) l)) c.in_ok-names.ensures (c.in_ok-files.ensures.read q h))
+    (on c.in_ok-image.image c.in_ok-image.ensures.is (inr (ap (λ x. Ok x) c.in_ok-part_with.ensures.is)))

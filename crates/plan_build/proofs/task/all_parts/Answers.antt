@@ -22,8 +22,8 @@ returns-in_err-part-clause-read g c =
     let p = err_from_is_err_and c.from_residual.result c.from_residual.ensures.1 in
     let i = c.loop-i.invariant in
     rw (p.1, p.2) (λ q h.
-        part_failed (came q) c.args.name.now c.args.catalogue.now c.args.tasks.now c.index-tasks-i.result c.loop-i.all c.loop-i.i c.loop-i.room c.in_err-part.field-0.0 c.loop-i-test.true c.index-tasks-i.is
-        (c.in_err-part.ensures.read q (later h i.keeps i.never_falls)) (i.read q (earlier h c.in_err-part.ensures.never_falls)))
+    part_failed (came q) c.args.name.now c.args.catalogue.now c.args.tasks.now c.index-tasks-i.result c.loop-i.all c.loop-i.i c.loop-i.room c.in_err-part.field-0.0 c.loop-i-test.true c.index-tasks-i.is
+    (c.in_err-part.ensures.read q (later h i.keeps i.never_falls)) (i.read q (earlier h c.in_err-part.ensures.never_falls)))
 
 pub returns-in_err-room-clause-read : goal.returns-in_err-room-clause-read
 returns-in_err-room-clause-read g c =
@@ -31,10 +31,10 @@ returns-in_err-room-clause-read g c =
     let i = c.loop-i.invariant in
     let e = c.in_err-room.field-0.0 in
     rw (p.1, p.2) (λ q h.
-        room_failed (came q) c.args.name.now c.args.catalogue.now c.args.tasks.now c.index-tasks-i.result c.in_ok-part.part c.loop-i.all c.loop-i.i c.loop-i.room e c.loop-i-test.true c.index-tasks-i.is
-        (c.in_ok-part.ensures.read q (later h i.keeps i.never_falls))
-        (subst (λ (ss : List Segment). Or {A = ℕ} (Err e) (just (room_after c.args.name.now c.loop-i.room (size_of ss)))) c.as_slice.ensures c.in_err-room.ensures)
-        (i.read q (earlier h c.in_ok-part.ensures.never_falls)))
+    room_failed (came q) c.args.name.now c.args.catalogue.now c.args.tasks.now c.index-tasks-i.result c.in_ok-part.part c.loop-i.all c.loop-i.i c.loop-i.room e c.loop-i-test.true c.index-tasks-i.is
+    (c.in_ok-part.ensures.read q (later h i.keeps i.never_falls))
+    (subst (λ (ss : List Segment). Or {A = ℕ} (Err e) (just (room_after c.args.name.now c.loop-i.room (size_of ss)))) c.as_slice.ensures c.in_err-room.ensures)
+    (i.read q (earlier h c.in_ok-part.ensures.never_falls)))
 
 pub loop-i-preserved : goal.loop-i-preserved
 loop-i-preserved g c =
@@ -62,5 +62,5 @@ returns-clause-read g c =
     let ts = c.args.tasks.now in
     let end : length ts ≤ c.loop-i.i = omega (arith, c.loop-i-test.false) in
     λ q h.
-        inr (parts_done (came q) c.args.name.now c.args.catalogue.now ts c.loop-i.all c.loop-i.i c.loop-i.room
-        (subst (λ (l : List Task). LeadsParts (came q) c.args.name.now c.args.catalogue.now ts c.loop-i.all c.loop-i.i c.loop-i.room l) (nothing_left ts c.loop-i.i end) (c.loop-i.invariant.read q h)))
+    inr (parts_done (came q) c.args.name.now c.args.catalogue.now ts c.loop-i.all c.loop-i.i c.loop-i.room
+    (subst (λ (l : List Task). LeadsParts (came q) c.args.name.now c.args.catalogue.now ts c.loop-i.all c.loop-i.i c.loop-i.room l) (nothing_left ts c.loop-i.i end) (c.loop-i.invariant.read q h)))
