@@ -190,3 +190,27 @@ nothing_left [] zero h = refl
 nothing_left [] (suc n) h = refl
 nothing_left (x ∷ xs) zero h = absurd (omega arith)
 nothing_left (x ∷ xs) (suc n) h = nothing_left xs n (omega arith)
+
+-- ------ the table of identifiers, made from the last pair to the first
+pub table_more : (dids : List (List ℕ × ℕ)) (i j : ℕ) (d : List ℕ × ℕ) (key : List ℕ) (old new : List ℕ → Option ℕ) → j ≡ i + 1 → i < length dids → d ≡ get_or dids i d → key ≡ d.0 →
+    ((name : List ℕ) → old name ≡ did_of (drop j dids) name) → ((name : List ℕ) → new name ≡ cond (bytes_eq key name) (Some d.1) (old name)) → (name : List ℕ) → new name ≡ did_of (drop i dids) name
+table_more dids i j d key old new next within at is before updates name =
+    updates name ∙ ap (λ k. cond (bytes_eq k name) (Some d.1) (old name)) is
+    ∙ ap (λ o. cond (bytes_eq d.0 name) (Some d.1) o) (before name ∙ ap (λ n. did_of (drop n dids) name) next) ∙ ap (λ l. did_of l name) (sym (drop_at dids i d within at))
+
+-- ------ the expected idents by the table
+found_did : (name : List ℕ) (t : Task) (dids : List (List ℕ × ℕ)) (x : Ident) (did : Option ℕ) (r : Result Wanted BuildFault) → did ≡ did_of dids x.name → r ≡ wanted_of name t x did → r ≡ wanted_of name t x (did_of dids x.name)
+found_did name t dids x did r same is = is ∙ ap (wanted_of name t x) same
+
+pub wanted_more : (name : List ℕ) (t : Task) (dids : List (List ℕ × ℕ)) (is : List Ident) (i : ℕ) (x : Ident) (did : Option ℕ) (w : Wanted) (done more : List Wanted) → i < length is → x ≡ get_or is i x →
+    did ≡ did_of dids x.name → Or (Ok w) (just (wanted_of name t x did)) → more ≡ done ++ w ∷ [] → all_wanted name t dids is ≡ joined done (all_wanted name t dids (drop i is)) → all_wanted name t dids is ≡ joined more (all_wanted name t dids (drop (i + 1) is))
+wanted_more name t dids is i x did w done more within at same (inl h) pushed before = cc
+wanted_more name t dids is i x did w done more within at same (inr one) pushed before =
+    wanted_on name t dids is (drop (i + 1) is) x w done (found_did name t dids x did (Ok w) same one) (before ∙ ap (λ l. joined done (all_wanted name t dids l)) (drop_at is i x within at))
+    ∙ ap (λ l. joined l (all_wanted name t dids (drop (i + 1) is))) (sym pushed)
+
+pub wanted_failed : (name : List ℕ) (t : Task) (dids : List (List ℕ × ℕ)) (is : List Ident) (i : ℕ) (x : Ident) (did : Option ℕ) (e : BuildFault) (done : List Wanted) → i < length is → x ≡ get_or is i x →
+    did ≡ did_of dids x.name → Or {A = Wanted} (Err e) (just (wanted_of name t x did)) → all_wanted name t dids is ≡ joined done (all_wanted name t dids (drop i is)) → Or {A = List Wanted} (Err e) (just (all_wanted name t dids is))
+wanted_failed name t dids is i x did e done within at same (inl h) before = inl cc
+wanted_failed name t dids is i x did e done within at same (inr one) before =
+    inr (sym (wanted_off name t dids is (drop (i + 1) is) x e done (found_did name t dids x did (Err e) same one) (before ∙ ap (λ l. joined done (all_wanted name t dids l)) (drop_at is i x within at))))

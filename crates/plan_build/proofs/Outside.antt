@@ -39,7 +39,7 @@ use Rattle.plan_build.specs.Catalogues.{catalogue_in, catalogued, mem_from, orde
 use Rattle.plan_build.specs.Fetched.{all_fetched, fetched, of_answer}
 use Rattle.plan_build.specs.Refusals.{data_file, image_refusal, lines_refusal, mem_refusal, order_refusal, plan_refusal, tree_refusal}
 use Rattle.plan_build.specs.Tasks.{all_wanted, did_of, found_or_not, from_session, from_source, image_from, imaged, part, part_with, parts, raw_part, room_after, session_in, session_part, wanted_of, with_part, drafted}
-use Rattle.plan_build.specs.Whole.{IfShelf}
+use Rattle.plan_build.specs.Whole.{IfShelf, IsOutside}
 use Rattle.plan_build.specs.declared.built.Built.{Built}
 use Rattle.plan_build.specs.declared.built.Catalogue.{Catalogue}
 use Rattle.plan_build.specs.declared.built.Part.{Part}

@@ -1,5 +1,6 @@
 //! The expected idents of a session.
-ghost use Rattle.std.specs.Prelude.{◌≡◌, ◌⊎◌, ◌<◌, Err, IfOk, IfSome};
+ghost use Rattle.std.specs.Prelude.{◌≡◌, ◌⊎◌, ◌<◌, ℕ, List, Err, IfOk, IfSome};
+ghost use Rattle.indexmap.specs.IndexMap.{get_by_text};
 ghost use Rattle.ecu_mem.specs.Bounds.{IsIdent};
 ghost use Rattle.flash_base.specs.Lists.{Each};
 ghost use Rattle.flash_plan.specs.Accepting.{IsAsked};
@@ -12,20 +13,30 @@ use ecu_mem::Ident;
 use flash_base::{Items, NoMemory, Text};
 use flash_order::Task;
 use flash_plan::Wanted;
+use indexmap::IndexMap;
 use std::alloc::Global;
 
-/// The identifier that a task gives for an ident's name.
-fn did_of(dids: &[(Text, u16)], name: &Text) -> Option<u16>
-    requires { Each (λ d. d.1 < 65536) dids.now }
-    ensures is { result ≡ did_of dids.now name.now }
+/// The identifiers that a task gives, by name.
+fn table_of(alloc: Global, dids: &[(Text, u16)]) -> Result<IndexMap<String, u16>, NoMemory>
+    ensures { IfOk result (λ table. (name : List ℕ) → get_by_text table name ≡ did_of dids.now name) }
+{
+    let mut table = IndexMap::new(alloc);
+    let mut left = dids.len();
+    while 0 < left {
+        left -= 1;
+        let pair = &dids[left];
+        let key = String::from_str(alloc, pair.0.as_str())?;
+        table.insert(key, pair.1)?;
+    }
+    Ok(table)
+}
+
+/// The identifier of an ident's name.
+fn did_in(table: &IndexMap<String, u16>, name: &Text) -> Option<u16>
+    ensures is { result ≡ get_by_text table.now name.now }
     ensures small { IfSome result (λ did. did < 65536) }
 {
-    for pair in dids {
-        if pair.0.is(name.as_str()) {
-            return Some(pair.1);
-        }
-    }
-    None
+    table.get(name.as_str()).copied()
 }
 
 /// The refusal of an ident without an identifier.
@@ -70,14 +81,14 @@ pub(crate) fn all_wanted(
     dids: &[(Text, u16)],
     idents: &[Ident],
 ) -> Result<Items<Wanted>, BuildFault>
-    requires values { Each IsIdent idents.now }
-    requires small { Each (λ d. d.1 < 65536) dids.now }
+    requires { Each IsIdent idents.now }
     ensures is { (result ≡ Err BuildFault.NoMemory) ⊎ (result ≡ all_wanted name.now task.now dids.now idents.now) }
     ensures asked { IfOk result (Each IsAsked) }
 {
+    let table = table_of(alloc, dids)?;
     let mut all = Items::new(alloc);
     for ident in idents {
-        let did = did_of(dids, &ident.name);
+        let did = did_in(&table, &ident.name);
         let wanted = wanted_of(alloc, name, task, ident, did)?;
         all.push(wanted)?;
     }

@@ -217,7 +217,6 @@ pub(crate) fn from_catalogue<F: Shelf>(
 ) -> Result<Part, BuildFault>
     requires task { order.IsTask task.now }
     requires whole { IsWhole catalogue.now.mem }
-    requires dids { Each (λ d. d.1 < 65536) dids.now }
     ensures keeps { F.contents shelf.new ≡ F.contents shelf.old }
     ensures never_falls { F.faults shelf.old ≤ F.faults shelf.new }
     ensures read { (p : Period) → Lies p F.tells (F.contents shelf.old) (F.faults shelf.old) (F.faults shelf.new) → (result ≡ Err BuildFault.NoMemory)
@@ -243,7 +242,6 @@ pub(crate) fn from_session<F: Shelf>(
 ) -> Result<Part, BuildFault>
     requires task { order.IsTask task.now }
     requires whole { IfSome catalogue.now (λ c. IsWhole c.mem) }
-    requires dids { Each (λ d. d.1 < 65536) dids.now }
     ensures keeps { F.contents shelf.new ≡ F.contents shelf.old }
     ensures never_falls { F.faults shelf.old ≤ F.faults shelf.new }
     ensures read { (p : Period) → Lies p F.tells (F.contents shelf.old) (F.faults shelf.old) (F.faults shelf.new) → (result ≡ Err BuildFault.NoMemory)

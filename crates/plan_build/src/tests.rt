@@ -14,7 +14,7 @@ fn digits(alloc: Global, bytes: &[u8]) -> Result<String, Fail> {
     Ok(text)
 }
 
-fn path(alloc: Global, places: &[u64]) -> Result<String, Fail> {
+fn place(alloc: Global, places: &[u64]) -> Result<String, Fail> {
     let mut text = String::new(alloc);
     for place in places {
         text = format!(in alloc; "{text}/{place}")?;
@@ -36,87 +36,102 @@ fn amount(what: What) -> &'static str {
 }
 
 /// A refusal of the order in words.
-fn of_order(alloc: Global, cause: Cause) -> Result<String, Fail> {
-    let text = match cause {
-        Cause::BadField { task: None, field } => format!(in alloc;
-            "bad field - {}",
-            field.as_str()
-        )?,
-        Cause::BadField {
-            task: Some(n),
-            field,
-        } => format!(in alloc; "bad field {n} {}", field.as_str())?,
-        Cause::NoCatalogue { task } => format!(in alloc; "no catalogue {}", task.as_str())?,
-        Cause::NoSession { task } => format!(in alloc; "no session {}", task.as_str())?,
-        Cause::EmptyRaw { task } => format!(in alloc; "empty raw {}", task.as_str())?,
-        Cause::NoDid { task, name } => format!(in alloc;
+fn of_order(alloc: Global, cause: &Cause) -> Result<String, Fail> {
+    match cause {
+        Cause::BadField { task, field } => match task {
+            None => Ok(format!(in alloc; "bad field - {}", field.as_str())?),
+            Some(n) => Ok(format!(in alloc; "bad field {} {}", *n, field.as_str())?),
+        },
+        Cause::NoDid { task, name } => Ok(format!(in alloc;
             "no did {} {}",
             task.as_str(),
             name.as_str()
-        )?,
-        Cause::TooMany { what } => format!(in alloc; "too many {}", amount(what))?,
-        Cause::SameName { name } => format!(in alloc; "same name {}", name.as_str())?,
-        Cause::SameUnit { address } => format!(in alloc; "same unit {address:04X}")?,
-        Cause::UnknownAfter { name } => format!(in alloc; "unknown after {}", name.as_str())?,
-        Cause::Cycle { name } => format!(in alloc; "cycle {}", name.as_str())?,
-        Cause::TooWide { name } => format!(in alloc; "too wide {}", name.as_str())?,
-        other => of_tree(alloc, other)?,
+        )?),
+        Cause::TooMany { what } => Ok(format!(in alloc; "too many {}", amount(*what))?),
+        Cause::SameUnit { address } => Ok(format!(in alloc; "same unit {:04X}", *address)?),
+        _ => of_task(alloc, cause),
+    }
+}
+
+/// A refusal that has a task's name in words.
+fn of_task(alloc: Global, cause: &Cause) -> Result<String, Fail> {
+    let (word, name) = match cause {
+        Cause::NoCatalogue { task } => ("no catalogue", task),
+        Cause::NoSession { task } => ("no session", task),
+        Cause::EmptyRaw { task } => ("empty raw", task),
+        Cause::SameName { name } => ("same name", name),
+        Cause::UnknownAfter { name } => ("unknown after", name),
+        Cause::Cycle { name } => ("cycle", name),
+        Cause::TooWide { name } => ("too wide", name),
+        _ => return of_tree(alloc, cause),
     };
-    Ok(text)
+    Ok(format!(in alloc; "{word} {}", name.as_str())?)
 }
 
 /// A refusal of the catalogue's tree in words.
-fn of_tree(alloc: Global, cause: Cause) -> Result<String, Fail> {
-    let text = match cause {
-        Cause::NotJson => String::from_str(alloc, "not json")?,
-        Cause::NotTree { path: at } => format!(in alloc;
-            "not a tree {}",
-            path(alloc, at.as_slice())?
-        )?,
-        Cause::Missing { path: at, tag } => {
-            let at = path(alloc, at.as_slice())?;
-            format!(in alloc; "missing {at} {}", tag.as_str())?
+fn of_tree(alloc: Global, cause: &Cause) -> Result<String, Fail> {
+    match cause {
+        Cause::NotJson => Ok(String::from_str(alloc, "not json")?),
+        Cause::NotTree { path } => {
+            let at = place(alloc, path.as_slice())?;
+            Ok(format!(in alloc; "not a tree {at}")?)
         }
-        Cause::BadNumber { path: at } => format!(in alloc;
-            "bad number {}",
-            path(alloc, at.as_slice())?
-        )?,
-        Cause::Twice { id } => format!(in alloc; "twice {}", id.as_str())?,
-        Cause::Dangling { id } => format!(in alloc; "dangling {}", id.as_str())?,
-        Cause::Compressed { id } => format!(in alloc; "compressed {}", id.as_str())?,
-        Cause::UserDefined { id } => format!(in alloc; "user defined {}", id.as_str())?,
-        Cause::BadText { id } => format!(in alloc; "bad text {}", id.as_str())?,
-        Cause::NoSegment { id } => format!(in alloc; "no segment {}", id.as_str())?,
-        other => of_data(alloc, other)?,
-    };
-    Ok(text)
+        Cause::Missing { path, tag } => {
+            let at = place(alloc, path.as_slice())?;
+            Ok(format!(in alloc; "missing {at} {}", tag.as_str())?)
+        }
+        Cause::BadNumber { path } => {
+            let at = place(alloc, path.as_slice())?;
+            Ok(format!(in alloc; "bad number {at}")?)
+        }
+        _ => of_id(alloc, cause),
+    }
 }
 
-/// A refusal of flash data in words.
-fn of_data(alloc: Global, cause: Cause) -> Result<String, Fail> {
-    let text = match cause {
-        Cause::BadLine { n } => format!(in alloc; "bad line {n}")?,
-        Cause::BadSum { n } => format!(in alloc; "bad sum {n}")?,
-        Cause::BadCount { said, seen } => format!(in alloc; "bad count {said} {seen}")?,
-        Cause::NoEnd => String::from_str(alloc, "no end")?,
-        Cause::AfterEnd { n } => format!(in alloc; "after end {n}")?,
-        Cause::Conflict { at } => format!(in alloc; "conflict {at:010X}")?,
-        Cause::BinarySize { id, said, seen } => format!(in alloc;
-            "binary size {} {said} {seen}",
-            id.as_str()
-        )?,
-        Cause::Hole { segment, at } => format!(in alloc; "hole {segment} {at:010X}")?,
-        Cause::OutOfRange { segment } => format!(in alloc; "out of range {segment}")?,
-        Cause::Overlap { at } => format!(in alloc; "overlap {at:010X}")?,
+/// A refusal that has an ID in words.
+fn of_id(alloc: Global, cause: &Cause) -> Result<String, Fail> {
+    let (word, id) = match cause {
+        Cause::Twice { id } => ("twice", id),
+        Cause::Dangling { id } => ("dangling", id),
+        Cause::Compressed { id } => ("compressed", id),
+        Cause::UserDefined { id } => ("user defined", id),
+        Cause::BadText { id } => ("bad text", id),
+        Cause::NoSegment { id } => ("no segment", id),
+        _ => return of_lines(alloc, cause),
+    };
+    Ok(format!(in alloc; "{word} {}", id.as_str())?)
+}
+
+/// A refusal of record lines in words.
+fn of_lines(alloc: Global, cause: &Cause) -> Result<String, Fail> {
+    match cause {
+        Cause::BadLine { n } => Ok(format!(in alloc; "bad line {}", *n)?),
+        Cause::BadSum { n } => Ok(format!(in alloc; "bad sum {}", *n)?),
+        Cause::BadCount { said, seen } => Ok(format!(in alloc; "bad count {} {}", *said, *seen)?),
+        Cause::NoEnd => Ok(String::from_str(alloc, "no end")?),
+        Cause::AfterEnd { n } => Ok(format!(in alloc; "after end {}", *n)?),
+        Cause::Conflict { at } => Ok(format!(in alloc; "conflict {:010X}", *at)?),
+        _ => of_image(alloc, cause),
+    }
+}
+
+/// A refusal of a session's image in words.
+fn of_image(alloc: Global, cause: &Cause) -> Result<String, Fail> {
+    match cause {
+        Cause::BinarySize { id, said, seen } => {
+            Ok(format!(in alloc; "binary size {} {} {}", id.as_str(), *said, *seen)?)
+        }
+        Cause::Hole { segment, at } => Ok(format!(in alloc; "hole {} {:010X}", *segment, *at)?),
+        Cause::OutOfRange { segment } => Ok(format!(in alloc; "out of range {}", *segment)?),
+        Cause::Overlap { at } => Ok(format!(in alloc; "overlap {:010X}", *at)?),
         Cause::ChecksumDiffers { name, said, got } => {
             let said = digits(alloc, said.as_slice())?;
             let got = digits(alloc, got.as_slice())?;
-            format!(in alloc; "checksum differs {} {said} {got}", name.as_str())?
+            Ok(format!(in alloc; "checksum differs {} {said} {got}", name.as_str())?)
         }
-        Cause::TooLarge => String::from_str(alloc, "too large")?,
-        _ => String::from_str(alloc, "another cause")?,
-    };
-    Ok(text)
+        Cause::TooLarge => Ok(String::from_str(alloc, "too large")?),
+        _ => Ok(String::from_str(alloc, "another cause")?),
+    }
 }
 
 fn of_shelf(fault: &ShelfFault) -> &'static str {
@@ -128,10 +143,10 @@ fn of_shelf(fault: &ShelfFault) -> &'static str {
     }
 }
 
-fn refused(alloc: Global, fault: BuildFault) -> Result<String, Fail> {
+fn refused(alloc: Global, fault: &BuildFault) -> Result<String, Fail> {
     match fault {
         BuildFault::Shelf { name, fault } => {
-            Ok(format!(in alloc; "shelf {} {}", name.as_str(), of_shelf(&fault))?)
+            Ok(format!(in alloc; "shelf {} {}", name.as_str(), of_shelf(fault))?)
         }
         BuildFault::Input { name, cause } => {
             let cause = of_order(alloc, cause)?;
@@ -211,7 +226,7 @@ fn answer(alloc: Global, order: &str, catalogue: &str, data: &str) -> Result<Str
     let mut shelf = MemoryShelf::new(alloc, &files, &[])?;
     match build(alloc, &mut shelf, "o.json") {
         Ok(built) => told(alloc, &built),
-        Err(fault) => refused(alloc, fault),
+        Err(fault) => refused(alloc, &fault),
     }
 }
 
@@ -368,7 +383,7 @@ fn failing_reads(rt: HostRuntime) -> Result<(), Fail> {
         let mut shelf = MemoryShelf::new(alloc, &files, &[call])?;
         let told = match build(alloc, &mut shelf, "o.json") {
             Ok(built) => told(alloc, &built)?,
-            Err(fault) => refused(alloc, fault)?,
+            Err(fault) => refused(alloc, &fault)?,
         };
         assert_eq!(rt; told.as_str(), wanted);
     }

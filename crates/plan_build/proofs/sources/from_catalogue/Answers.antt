@@ -18,8 +18,8 @@ returns-in_err-session-clause-read g c =
     let p = err_from_is_err_and c.from_residual.result c.from_residual.ensures.1 in
     rw (p.1, p.2) (λ q h. off c.in_err-session.field-0.0 refl c.in_err-session.ensures.is)
 
-pub all_wanted-requires-clause-values : goal.all_wanted-requires-clause-values
-all_wanted-requires-clause-values g c =
+pub all_wanted-requires : goal.all_wanted-requires
+all_wanted-requires g c =
     let m = c.args.catalogue.now.mem in
     let x : IsSessionAmong (length m.blocks) c.at-found.result.now = each_at (IsSessionAmong (length m.blocks)) m.sessions c.in_ok-session.session c.at-found.result.now c.at-found.ensures c.requires.whole.sessions in
     subst (Each IsIdent) (sym c.as_slice.ensures) x.idents
