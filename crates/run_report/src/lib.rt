@@ -1,9 +1,21 @@
-//! The text that a run prints: the plan's digest, a line for each unit, and how many are complete.
+//! The texts that a command prints: the report of a run, the plan that `check` shows, the image
+//! that `image` shows, and the one line of a refusal.
+//!
+//! Every line ends with LF. Unit addresses and identifiers are printed with 4 hexadecimal digits,
+//! service bytes and codes with 2, addresses of memory with 10, all in upper case, digests and
+//! checksums in lower case, other numbers in decimal.
 #![tactic(auto)]
 
+mod checking;
+mod imaging;
+mod pieces;
+mod refusing;
 mod text;
 mod whole;
 
+pub use checking::check_text;
+pub use imaging::image_text;
+pub use refusing::{no_task_line, refusal_line};
 pub use whole::report;
 
 #[cfg(test)]

@@ -25,7 +25,7 @@ fn put_two(alloc: Global, out: &mut Bytes, n: u8) -> Result<(), NoMemory>
 }
 
 /// Puts a number as four hexadecimal digits.
-fn put_four(alloc: Global, out: &mut Bytes, n: u16) -> Result<(), NoMemory>
+pub fn put_four(alloc: Global, out: &mut Bytes, n: u16) -> Result<(), NoMemory>
     ensures { OnOk result (out.new ≡ out.old ++ four n) }
 {
     let digits = hex::encode_upper(alloc, &[(n / 256) as u8, (n % 256) as u8][..])?;
@@ -33,7 +33,7 @@ fn put_four(alloc: Global, out: &mut Bytes, n: u16) -> Result<(), NoMemory>
 }
 
 /// Puts the name of a unit; of a number that is no unit's, nothing.
-fn put_name(out: &mut Bytes, plan: &Plan, n: u16) -> Result<(), NoMemory>
+pub fn put_name(out: &mut Bytes, plan: &Plan, n: u16) -> Result<(), NoMemory>
     ensures { OnOk result (out.new ≡ out.old ++ (plan_of plan.now n).name) }
 {
     if n < plan.units() {
@@ -52,7 +52,7 @@ fn put_coded(alloc: Global, out: &mut Bytes, words: &[u8], n: u8) -> Result<(), 
 }
 
 /// Puts some words and a number of four digits.
-fn put_named(alloc: Global, out: &mut Bytes, words: &[u8], n: u16) -> Result<(), NoMemory>
+pub fn put_named(alloc: Global, out: &mut Bytes, words: &[u8], n: u16) -> Result<(), NoMemory>
     ensures { OnOk result (out.new ≡ out.old ++ (words.now ++ four n)) }
 {
     out.extend(words)?;

@@ -1,0 +1,53 @@
+use crate::support::{put, told};
+use flash_base::Files;
+use std::alloc::Global;
+use std::test::Fail;
+
+/// An order with so many tasks of one file each, at addresses from 1000 on.
+fn order_of(alloc: Global, tasks: u64, file: &str) -> Result<String, Fail> {
+    let mut text = String::from_str(alloc, r#"{"tester":"0E80","tasks":["#)?;
+    for n in 0..tasks {
+        let comma = if n == 0 { "" } else { "," };
+        let task = format!(in alloc; "{comma}{{\"name\":\"T{n}\",\"unit\":\"1{n:03}\",\"check\":\"0202\",\"raw\":\"{file}\",\"at\":\"1000\"}}")?;
+        text.push_str(task.as_str())?;
+    }
+    text.push_str("]}")?;
+    Ok(text)
+}
+
+/// What `check` prints for such an order, up to the first line end.
+fn line_of(alloc: Global, tasks: u64, file: &str, size: usize) -> Result<String, Fail> {
+    let order = order_of(alloc, tasks, file)?;
+    let body = Vec::from_elem(alloc, 0u8, size)?;
+    let mut files = Files::new(alloc);
+    put(alloc, &mut files, "o.json", order.as_bytes())?;
+    put(alloc, &mut files, "b.bin", body.as_slice())?;
+    let text = told(alloc, &files, "check o.json", &[], &[])?;
+    let (line, _) = text.as_str().split_once('\n').ok_or("a line end")?;
+    Ok(String::from_str(alloc, line)?)
+}
+
+/// 64 tasks are accepted, 65 are refused before a data file is read, also where it is missing.
+#[test]
+fn largest_order(rt: HostRuntime) -> Result<(), Fail> {
+    let alloc = rt.alloc();
+    assert!(rt; line_of(alloc, 64, "b.bin", 1)?.as_str().starts_with("done plan "));
+    for file in ["b.bin", "missing.bin"] {
+        assert_eq!(rt; line_of(alloc, 65, file, 1)?.as_str(), "input input o.json too many units");
+    }
+    Ok(())
+}
+
+/// 16,777,216 bytes for a unit, 67,108,864 for a plan and for a file.
+#[test]
+fn most_bytes(rt: HostRuntime) -> Result<(), Fail> {
+    let alloc = rt.alloc();
+    for (tasks, size, want) in [
+        (1, 16_777_217, "input input o.json too many bytes"),
+        (5, 16_777_216, "input input o.json too many total"),
+        (1, 67_108_865, "shelf shelf b.bin too large"),
+    ] {
+        assert_eq!(rt; line_of(alloc, tasks, "b.bin", size)?.as_str(), want);
+    }
+    Ok(())
+}

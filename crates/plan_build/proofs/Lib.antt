@@ -1,0 +1,9 @@
+pub mod Drafts
+pub mod Lists
+pub mod OneImage
+pub mod OnePlan
+pub mod Only
+pub mod Outside
+pub mod Periods
+pub mod Steps
+pub mod Weaker

@@ -1,0 +1,53 @@
+//! Files by their names.
+ghost use Rattle.std.specs.Prelude.{◌≡◌, ◌⊎◌, ◌≤◌, Err, IfOk, map, length};
+ghost use Rattle.flash_base.specs.Lists.{Each};
+ghost use Rattle.flash_shelf.specs.Outside.{limit};
+ghost use Rattle.plan_build.specs.Fetched.{all_fetched, came, fetched, Lies, Period};
+
+use crate::fault::BuildFault;
+use flash_base::{Bytes, Files, Names, Text};
+use flash_shelf::{Shelf, ShelfFault};
+use std::alloc::Global;
+
+/// The refusal of a shelf, with the file's name.
+fn refusal(alloc: Global, name: &str, fault: ShelfFault) -> BuildFault
+    ensures { (result ≡ BuildFault.NoMemory) ⊎ (result ≡ BuildFault.Shelf name.now fault) }
+{
+    match Text::from_str(alloc, name) {
+        Ok(name) => BuildFault::Shelf { name, fault },
+        Err(_) => BuildFault::NoMemory,
+    }
+}
+
+/// The file with this name.
+pub(crate) fn fetch<F: Shelf>(alloc: Global, shelf: &mut F, name: &str) -> Result<Bytes, BuildFault>
+    ensures keeps { F.contents shelf.new ≡ F.contents shelf.old }
+    ensures never_falls { F.faults shelf.old ≤ F.faults shelf.new }
+    ensures read { (p : Period) → Lies p F.tells (F.contents shelf.old) (F.faults shelf.old) (F.faults shelf.new) → (result ≡ Err BuildFault.NoMemory) ⊎ fetched (came p) name.now result }
+{
+    match shelf.read(alloc, name) {
+        Ok(bytes) => Ok(bytes),
+        Err(ShelfFault::NoMemory) => Err(BuildFault::NoMemory),
+        Err(fault) => Err(refusal(alloc, name, fault)),
+    }
+}
+
+/// The files with these names, read in their order.
+pub(crate) fn fetch_all<F: Shelf>(
+    alloc: Global,
+    shelf: &mut F,
+    names: &Names,
+) -> Result<Files, BuildFault>
+    ensures keeps { F.contents shelf.new ≡ F.contents shelf.old }
+    ensures never_falls { F.faults shelf.old ≤ F.faults shelf.new }
+    ensures read { (p : Period) → Lies p F.tells (F.contents shelf.old) (F.faults shelf.old) (F.faults shelf.new) → (result ≡ Err BuildFault.NoMemory) ⊎ all_fetched (came p) names.now result }
+    ensures names { IfOk result (λ files. map (λ f. f.0) files ≡ names.now) }
+{
+    let mut files = Files::new(alloc);
+    for i in 0..names.len() {
+        let name = names.at(i).as_str();
+        let bytes = fetch(alloc, shelf, name)?;
+        files.push((Text::from_str(alloc, name)?, bytes))?;
+    }
+    Ok(files)
+}
