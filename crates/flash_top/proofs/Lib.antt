@@ -1,6 +1,4 @@
+pub mod Answers
 pub mod Closes
-pub mod Firsts
 pub mod Pieces
-pub mod Plain
 pub mod Sounds
-pub mod Steps
