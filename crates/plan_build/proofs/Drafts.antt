@@ -1,6 +1,15 @@
 -- The drafts of tasks are as the plan asks for, and everything is there once for each task.
 use Rattle.std.proofs.Common.{◌≡◌, ◌∙◌, refl, ap, sym, subst, ℕ, zero, suc, ◌+◌, ◌<◌, ◌≤◌, arith, List, [], ◌∷◌, ◌++◌, length, length-append, map, Result, Ok, Err, Some, slice_get, get_or}
+use Rattle.std.proofs.lemmas.Bool.{lt-ltb, le-ltb}
+use Rattle.std.specs.Prelude.{slice_index_or}
+use Rattle.ecu_mem.specs.declared.types.EcuMem.{EcuMem}
+use Rattle.ecu_mem.specs.declared.types.Session.{Session}
 use Rattle.flash_base.specs.Lists.{Each}
+use Rattle.flash_plan.specs.declared.fault.What.TheVariants.{Units}
+use Rattle.session_image.specs.Files.{no_session, session_of}
+use Rattle.plan_build.specs.Building.{few_tasks}
+use Rattle.plan_build.specs.declared.fault.BuildFault.TheVariants.{Input}
+use Rattle.plan_build.specs.declared.fault.Cause.TheVariants.{TooMany}
 use Rattle.flash_order.specs.Promises as order
 use Rattle.flash_order.specs.declared.order.Order.{Order}
 use Rattle.flash_order.specs.declared.order.Task.{Task}
@@ -67,6 +76,22 @@ pub no_name : (ts : List Task) (n : ℕ) → length ts ≤ n → [] ≡ name_of 
 no_name [] n behind = refl
 no_name (u ∷ us) zero behind = absurd (omega arith)
 no_name (u ∷ us) (suc n) behind = no_name us n (omega arith)
+
+-- ------ how many tasks
+pub many : (name : List ℕ) (ts : List Task) → 64 < length ts → few_tasks name ts ≡ Err (Input name (TooMany Units))
+many name ts h = rw (lt-ltb 64 (length ts) h) refl
+
+pub few : (name : List ℕ) (ts : List Task) → length ts ≤ 64 → few_tasks name ts ≡ Ok ts
+few name ts h = rw (le-ltb 64 (length ts) h) refl
+
+-- ------ a session of a document
+at_place : {X : Type 0} (xs : List X) (i : ℕ) (x d : X) → slice_get xs i ≡ Some x → slice_index_or xs i d ≡ x
+at_place [] i x d h = cc
+at_place (y ∷ ys) zero x d h = cc
+at_place (y ∷ ys) (suc i) x d h = at_place ys i x d h
+
+pub session_at : (m : EcuMem) (s : ℕ) (x : Session) → slice_get m.sessions s ≡ Some x → session_of m s ≡ x
+session_at m s x h = at_place m.sessions s x no_session h
 
 -- ------ so many parts, and one more
 pub record AreSo (n : ℕ) (ps : Parts) : Type 0 where

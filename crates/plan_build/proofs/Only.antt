@@ -127,7 +127,7 @@ module _ (fs gs : List (List ℕ × List ℕ)) (alike : (name : List ℕ) → fi
       (λ s. just (all_wanted name t dids (session_of c.mem s).idents) >>= λ wanted. session_part Q t c s wanted fill)
       (one_just (session_in name t c id))
       (λ s. one_both (just (all_wanted name t dids (session_of c.mem s).idents)) (just (all_wanted name t dids (session_of c.mem s).idents)) (λ wanted. session_part P t c s wanted fill) (λ wanted. session_part Q t c s wanted fill)
-          (one_just (all_wanted name t dids (session_of c.mem s).idents)) (λ wanted. one_session t c s wanted fill))
+      (one_just (all_wanted name t dids (session_of c.mem s).idents)) (λ wanted. one_session t c s wanted fill))
 
   one_source : (name : List ℕ) (c : Option Catalogue) (t : Task) (s : Source) → One (from_source P name c t s) (from_source Q name c t s)
   one_source name c t (source.Raw file at wanted) =
@@ -142,9 +142,9 @@ module _ (fs gs : List (List ℕ × List ℕ)) (alike : (name : List ℕ) → fi
       (λ p. just (room_after name room (size_of p.draft.segments)) >>= λ left. parts Q name c (n + 1) left ts >>= λ ps. just (Ok (with_part n p ps)))
       (one_source name c t t.source)
       (λ p. one_both (just (room_after name room (size_of p.draft.segments))) (just (room_after name room (size_of p.draft.segments)))
-          (λ left. parts P name c (n + 1) left ts >>= λ ps. just (Ok (with_part n p ps))) (λ left. parts Q name c (n + 1) left ts >>= λ ps. just (Ok (with_part n p ps)))
-          (one_just (room_after name room (size_of p.draft.segments)))
-          (λ left. one_both (parts P name c (n + 1) left ts) (parts Q name c (n + 1) left ts) (λ ps. just (Ok (with_part n p ps))) (λ ps. just (Ok (with_part n p ps))) (one_parts name c (n + 1) left ts) (λ ps. one_just (Ok (with_part n p ps)))))
+      (λ left. parts P name c (n + 1) left ts >>= λ ps. just (Ok (with_part n p ps))) (λ left. parts Q name c (n + 1) left ts >>= λ ps. just (Ok (with_part n p ps)))
+      (one_just (room_after name room (size_of p.draft.segments)))
+      (λ left. one_both (parts P name c (n + 1) left ts) (parts Q name c (n + 1) left ts) (λ ps. just (Ok (with_part n p ps))) (λ ps. just (Ok (with_part n p ps))) (one_parts name c (n + 1) left ts) (λ ps. one_just (Ok (with_part n p ps)))))
 
   one_tasks : (name : List ℕ) (o : Order) (c : Option Catalogue) → One (tasks_built P name o c) (tasks_built Q name o c)
   one_tasks name o c =

@@ -191,7 +191,7 @@ module _ (read : List ℕ → Result (List ℕ) ShelfFault → Type 0) where
       of_both Asked (just (session_in name t c id)) (λ s. just (all_wanted name t dids (session_of c.mem s).idents) >>= λ wanted. session_part read t c s wanted fill)
       (of_just Asked (session_in name t c id) (found_silent Asked name t (position_from (λ (s : Session). bytes_eq s.id id) 0 c.mem.sessions)))
       (λ s. of_both Asked (just (all_wanted name t dids (session_of c.mem s).idents)) (λ wanted. session_part read t c s wanted fill)
-          (of_just Asked (all_wanted name t dids (session_of c.mem s).idents) (wanted_silent Asked name t dids (session_of c.mem s).idents)) (λ wanted. session_speaks t c s wanted fill))
+      (of_just Asked (all_wanted name t dids (session_of c.mem s).idents) (wanted_silent Asked name t dids (session_of c.mem s).idents)) (λ wanted. session_speaks t c s wanted fill))
 
   raw_silent : (name : List ℕ) (t : Task) (at : ℕ) (wanted : List Wanted) (bytes : List ℕ) → Silent Asked (raw_part name t at wanted bytes)
   raw_silent name t at wanted bytes = either_silent Asked (length bytes == 0) _ _ tt (either_silent Asked (nat_lt 4294967296 (at + length bytes)) _ _ tt tt)
@@ -206,8 +206,8 @@ module _ (read : List ℕ → Result (List ℕ) ShelfFault → Type 0) where
       of_both Asked (part read name c t) (λ p. just (room_after name room (size_of p.draft.segments)) >>= λ left. parts read name c (n + 1) left ts >>= λ ps. just (Ok (with_part n p ps)))
       (source_speaks name c t t.source)
       (λ p. of_both Asked (just (room_after name room (size_of p.draft.segments))) (λ left. parts read name c (n + 1) left ts >>= λ ps. just (Ok (with_part n p ps)))
-          (of_just Asked (room_after name room (size_of p.draft.segments)) (room_silent Asked name room (size_of p.draft.segments)))
-          (λ left. of_both Asked (parts read name c (n + 1) left ts) (λ ps. just (Ok (with_part n p ps))) (parts_speak name c (n + 1) left ts) (λ ps. of_just Asked (Ok (with_part n p ps)) tt)))
+      (of_just Asked (room_after name room (size_of p.draft.segments)) (room_silent Asked name room (size_of p.draft.segments)))
+      (λ left. of_both Asked (parts read name c (n + 1) left ts) (λ ps. just (Ok (with_part n p ps))) (parts_speak name c (n + 1) left ts) (λ ps. of_just Asked (Ok (with_part n p ps)) tt)))
 
   planned_speaks : (name : List ℕ) (o : Order) (ps : Parts) → Speaks Asked (planned name o ps)
   planned_speaks name o ps r h = subst (λ x. IfShelf x Asked) (sym h.is) (plan_silent Asked name o ps h.answer)

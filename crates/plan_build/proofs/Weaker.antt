@@ -49,6 +49,7 @@ both_steps {A} {B} P Q f g first second r (stops e p is) = refused (first (Err e
   where
     err_is : ◌≡◌ {A = Result A BuildFault} (Err e) (Err NoMemory) → e ≡ NoMemory
     err_is h = cc
+
     refused : Or (Err e) Q → Or r (Q >>= g)
     refused (inl h) = inl (is ∙ ap (λ e. Err e) (err_is h))
     refused (inr p) = inr (stops e p is)
@@ -88,7 +89,7 @@ module _ (P Q : List ℕ → Result (List ℕ) ShelfFault → Type 0) (reads : (
       (λ s. just (all_wanted name t dids (session_of c.mem s).idents) >>= λ wanted. session_part Q t c s wanted fill)
       (same_step (just (session_in name t c id)))
       (λ s. both_steps (just (all_wanted name t dids (session_of c.mem s).idents)) (just (all_wanted name t dids (session_of c.mem s).idents)) (λ wanted. session_part P t c s wanted fill) (λ wanted. session_part Q t c s wanted fill)
-          (same_step (just (all_wanted name t dids (session_of c.mem s).idents))) (λ wanted. session_weaker t c s wanted fill))
+      (same_step (just (all_wanted name t dids (session_of c.mem s).idents))) (λ wanted. session_weaker t c s wanted fill))
 
   source_weaker : (name : List ℕ) (c : Option Catalogue) (t : Task) (s : Source) → Weaker (from_source P name c t s) (from_source Q name c t s)
   source_weaker name c t (source.Raw file at wanted) =
@@ -103,9 +104,9 @@ module _ (P Q : List ℕ → Result (List ℕ) ShelfFault → Type 0) (reads : (
       (λ p. just (room_after name room (size_of p.draft.segments)) >>= λ left. parts Q name c (n + 1) left ts >>= λ ps. just (Ok (with_part n p ps)))
       (source_weaker name c t t.source)
       (λ p. both_steps (just (room_after name room (size_of p.draft.segments))) (just (room_after name room (size_of p.draft.segments)))
-          (λ left. parts P name c (n + 1) left ts >>= λ ps. just (Ok (with_part n p ps))) (λ left. parts Q name c (n + 1) left ts >>= λ ps. just (Ok (with_part n p ps)))
-          (same_step (just (room_after name room (size_of p.draft.segments))))
-          (λ left. both_steps (parts P name c (n + 1) left ts) (parts Q name c (n + 1) left ts) (λ ps. just (Ok (with_part n p ps))) (λ ps. just (Ok (with_part n p ps))) (parts_weaker name c (n + 1) left ts) (λ ps. same_step (just (Ok (with_part n p ps))))))
+      (λ left. parts P name c (n + 1) left ts >>= λ ps. just (Ok (with_part n p ps))) (λ left. parts Q name c (n + 1) left ts >>= λ ps. just (Ok (with_part n p ps)))
+      (same_step (just (room_after name room (size_of p.draft.segments))))
+      (λ left. both_steps (parts P name c (n + 1) left ts) (parts Q name c (n + 1) left ts) (λ ps. just (Ok (with_part n p ps))) (λ ps. just (Ok (with_part n p ps))) (parts_weaker name c (n + 1) left ts) (λ ps. same_step (just (Ok (with_part n p ps))))))
 
   tasks_weaker : (name : List ℕ) (o : Order) (c : Option Catalogue) → Weaker (tasks_built P name o c) (tasks_built Q name o c)
   tasks_weaker name o c =
@@ -147,6 +148,7 @@ told_built true files a b name r told (inr h) = go (rose_or_not a b)
     last : Or r (built files name) → (r ≡ Err NoMemory) ⊎ Rises a b ⊎ built files name r
     last (inl none) = inl none
     last (inr made) = inr (inr made)
+
     go : Rises a b ⊎ (Rises a b → ⊥) → (r ≡ Err NoMemory) ⊎ Rises a b ⊎ built files name r
     go (inl rose) = inr (inl rose)
     go (inr still) = last (built_weaker (came (period true files a b)) (is_told files) (told_read files a b still) name r h)

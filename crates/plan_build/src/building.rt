@@ -45,6 +45,19 @@ fn tasks_built<F: Shelf>(
     planned(alloc, name, order, parts)
 }
 
+/// The plan of an order file, by what its reads give.
+fn built_by<F: Shelf>(alloc: Global, shelf: &mut F, name: &str) -> Result<Built, BuildFault>
+    ensures keeps { F.contents shelf.new ≡ F.contents shelf.old }
+    ensures never_falls { F.faults shelf.old ≤ F.faults shelf.new }
+    ensures read { (p : Period) → Lies p F.tells (F.contents shelf.old) (F.faults shelf.old) (F.faults shelf.new) → (result ≡ Err BuildFault.NoMemory)
+        ⊎ built_by (came p) name.now result }
+    ensures whole { IfOk result IsWhole }
+{
+    let order = order_at(alloc, shelf, name)?;
+    let catalogue = catalogue_at(alloc, shelf, &order.catalogue)?;
+    tasks_built(alloc, shelf, name, order, &catalogue)
+}
+
 /// The plan that the files of a shelf make of an order file, or the first refusal.
 ///
 /// The work goes in this order: the order file is read and then parsed; the catalogue is read,
@@ -65,7 +78,5 @@ pub fn build<F: Shelf>(alloc: Global, shelf: &mut F, name: &str) -> Result<Built
     ensures outside { IfShelf result (λ file fault. CameFrom F.tells (F.contents shelf.old) file (F.faults shelf.old) (F.faults shelf.new) (Err fault)) }
     ensures whole { IfOk result IsWhole }
 {
-    let order = order_at(alloc, shelf, name)?;
-    let catalogue = catalogue_at(alloc, shelf, &order.catalogue)?;
-    tasks_built(alloc, shelf, name, order, &catalogue)
+    built_by(alloc, shelf, name)
 }

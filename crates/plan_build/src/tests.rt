@@ -38,12 +38,22 @@ fn amount(what: What) -> &'static str {
 /// A refusal of the order in words.
 fn of_order(alloc: Global, cause: Cause) -> Result<String, Fail> {
     let text = match cause {
-        Cause::BadField { task: None, field } => format!(in alloc; "bad field - {}", field.as_str())?,
-        Cause::BadField { task: Some(n), field } => format!(in alloc; "bad field {n} {}", field.as_str())?,
+        Cause::BadField { task: None, field } => format!(in alloc;
+            "bad field - {}",
+            field.as_str()
+        )?,
+        Cause::BadField {
+            task: Some(n),
+            field,
+        } => format!(in alloc; "bad field {n} {}", field.as_str())?,
         Cause::NoCatalogue { task } => format!(in alloc; "no catalogue {}", task.as_str())?,
         Cause::NoSession { task } => format!(in alloc; "no session {}", task.as_str())?,
         Cause::EmptyRaw { task } => format!(in alloc; "empty raw {}", task.as_str())?,
-        Cause::NoDid { task, name } => format!(in alloc; "no did {} {}", task.as_str(), name.as_str())?,
+        Cause::NoDid { task, name } => format!(in alloc;
+            "no did {} {}",
+            task.as_str(),
+            name.as_str()
+        )?,
         Cause::TooMany { what } => format!(in alloc; "too many {}", amount(what))?,
         Cause::SameName { name } => format!(in alloc; "same name {}", name.as_str())?,
         Cause::SameUnit { address } => format!(in alloc; "same unit {address:04X}")?,
@@ -59,12 +69,18 @@ fn of_order(alloc: Global, cause: Cause) -> Result<String, Fail> {
 fn of_tree(alloc: Global, cause: Cause) -> Result<String, Fail> {
     let text = match cause {
         Cause::NotJson => String::from_str(alloc, "not json")?,
-        Cause::NotTree { path: at } => format!(in alloc; "not a tree {}", path(alloc, at.as_slice())?)?,
+        Cause::NotTree { path: at } => format!(in alloc;
+            "not a tree {}",
+            path(alloc, at.as_slice())?
+        )?,
         Cause::Missing { path: at, tag } => {
             let at = path(alloc, at.as_slice())?;
             format!(in alloc; "missing {at} {}", tag.as_str())?
         }
-        Cause::BadNumber { path: at } => format!(in alloc; "bad number {}", path(alloc, at.as_slice())?)?,
+        Cause::BadNumber { path: at } => format!(in alloc;
+            "bad number {}",
+            path(alloc, at.as_slice())?
+        )?,
         Cause::Twice { id } => format!(in alloc; "twice {}", id.as_str())?,
         Cause::Dangling { id } => format!(in alloc; "dangling {}", id.as_str())?,
         Cause::Compressed { id } => format!(in alloc; "compressed {}", id.as_str())?,
@@ -85,7 +101,10 @@ fn of_data(alloc: Global, cause: Cause) -> Result<String, Fail> {
         Cause::NoEnd => String::from_str(alloc, "no end")?,
         Cause::AfterEnd { n } => format!(in alloc; "after end {n}")?,
         Cause::Conflict { at } => format!(in alloc; "conflict {at:010X}")?,
-        Cause::BinarySize { id, said, seen } => format!(in alloc; "binary size {} {said} {seen}", id.as_str())?,
+        Cause::BinarySize { id, said, seen } => format!(in alloc;
+            "binary size {} {said} {seen}",
+            id.as_str()
+        )?,
         Cause::Hole { segment, at } => format!(in alloc; "hole {segment} {at:010X}")?,
         Cause::OutOfRange { segment } => format!(in alloc; "out of range {segment}")?,
         Cause::Overlap { at } => format!(in alloc; "overlap {at:010X}")?,
@@ -149,7 +168,12 @@ fn told_rest(alloc: Global, built: &Built) -> Result<String, Fail> {
     let mut text = String::new(alloc);
     for checks in built.checks.as_slice() {
         for check in checks.checks.as_slice() {
-            text = format!(in alloc; "{text}; {} {} {}", checks.task, check.name.as_str(), check.done)?;
+            text = format!(in alloc;
+                "{text}; {} {} {}",
+                checks.task,
+                check.name.as_str(),
+                check.done
+            )?;
         }
     }
     for own in built.own.as_slice() {
@@ -206,9 +230,18 @@ fn raw(alloc: Global, name: &str, unit: u16, more: &str) -> Result<String, Fail>
 const ORDERS: &[(&str, &str)] = &[
     ("{", "o.json not json"),
     ("[]", "o.json bad field - tester"),
-    (r#"{"tester":"0E80","relinks":9,"tasks":[]}"#, "o.json bad field - relinks"),
-    (r#"{"tester":"0E80","tasks":[{"name":"A","unit":"1"}]}"#, "o.json bad field 0 unit"),
-    (r#"{"tester":"0E80","catalogue":"none","tasks":[]}"#, "shelf none missing"),
+    (
+        r#"{"tester":"0E80","relinks":9,"tasks":[]}"#,
+        "o.json bad field - relinks",
+    ),
+    (
+        r#"{"tester":"0E80","tasks":[{"name":"A","unit":"1"}]}"#,
+        "o.json bad field 0 unit",
+    ),
+    (
+        r#"{"tester":"0E80","catalogue":"none","tasks":[]}"#,
+        "shelf none missing",
+    ),
     (r#"{"tester":"0E80","tasks":[]}"#, ""),
     (
         r#"{"tester":"0E80","tasks":[{"name":"A","unit":"1001","check":"0202","session":"S"}]}"#,
@@ -250,11 +283,29 @@ fn orders(rt: HostRuntime) -> Result<(), Fail> {
 fn names_and_barriers(rt: HostRuntime) -> Result<(), Fail> {
     let alloc = rt.alloc();
     let table: [(&str, u16, &str, &str, &str); 6] = [
-        ("B", 0x1002, r#","after":["A"]"#, "", "A 1001 1000:616263; B 1002 1000:616263 after 0; ; 0; 1"),
+        (
+            "B",
+            0x1002,
+            r#","after":["A"]"#,
+            "",
+            "A 1001 1000:616263; B 1002 1000:616263 after 0; ; 0; 1",
+        ),
         ("A", 0x1002, "", "", "o.json same name A"),
         ("B", 0x1001, "", "", "o.json same unit 1001"),
-        ("B", 0x1002, r#","after":["C"]"#, "", "o.json unknown after B"),
-        ("B", 0x1002, r#","after":["A"]"#, r#","after":["B"]"#, "o.json cycle A"),
+        (
+            "B",
+            0x1002,
+            r#","after":["C"]"#,
+            "",
+            "o.json unknown after B",
+        ),
+        (
+            "B",
+            0x1002,
+            r#","after":["A"]"#,
+            r#","after":["B"]"#,
+            "o.json cycle A",
+        ),
         ("B", 0x1002, r#","after":["B"]"#, "", "o.json cycle B"),
     ];
     for (name, unit, after, first_after, wanted) in table {
@@ -328,13 +379,16 @@ fn failing_reads(rt: HostRuntime) -> Result<(), Fail> {
 const EMPTY: &str = r#"{"tag":"ECU-MEM","kids":[{"tag":"MEM"}]}"#;
 
 /// A catalogue whose first segment begins at no number.
-const BAD_START: &str = r#"{"tag":"ECU-MEM","kids":[{"tag":"MEM","kids":[{"tag":"DATABLOCKS","kids":[{"tag":"DATABLOCK","attrs":{"ID":"D"},"kids":[{"tag":"SHORT-NAME"},{"tag":"FLASHDATA-REF","attrs":{"ID-REF":"F"}},{"tag":"SEGMENTS","kids":[{"tag":"SEGMENT","kids":[{"tag":"SOURCE-START-ADDRESS","text":"10G0"},{"tag":"UNCOMPRESSED-SIZE","text":"1"}]}]}]}]}]}]}"#;
+const BAD_START: &str =
+    r#"{"tag":"ECU-MEM","kids":[{"tag":"MEM","kids":[{"tag":"DATABLOCKS","kids":[{"tag":"DATABLOCK","attrs":{"ID":"D"},"kids":[{"tag":"SHORT-NAME"},{"tag":"FLASHDATA-REF","attrs":{"ID-REF":"F"}},{"tag":"SEGMENTS","kids":[{"tag":"SEGMENT","kids":[{"tag":"SOURCE-START-ADDRESS","text":"10G0"},{"tag":"UNCOMPRESSED-SIZE","text":"1"}]}]}]}]}]}]}"#;
 
 /// A catalogue with a session that refers to a datablock, which is not there.
-const NO_BLOCK: &str = r#"{"tag":"ECU-MEM","kids":[{"tag":"MEM","kids":[{"tag":"SESSIONS","kids":[{"tag":"SESSION","attrs":{"ID":"S"},"kids":[{"tag":"SHORT-NAME"},{"tag":"DATABLOCK-REFS","kids":[{"tag":"DATABLOCK-REF","attrs":{"ID-REF":"X"}}]}]}]}]}]}"#;
+const NO_BLOCK: &str =
+    r#"{"tag":"ECU-MEM","kids":[{"tag":"MEM","kids":[{"tag":"SESSIONS","kids":[{"tag":"SESSION","attrs":{"ID":"S"},"kids":[{"tag":"SHORT-NAME"},{"tag":"DATABLOCK-REFS","kids":[{"tag":"DATABLOCK-REF","attrs":{"ID-REF":"X"}}]}]}]}]}]}"#;
 
 /// A catalogue with two sessions of one ID.
-const TWO_S1: &str = r#"{"tag":"ECU-MEM","kids":[{"tag":"MEM","kids":[{"tag":"SESSIONS","kids":[{"tag":"SESSION","attrs":{"ID":"S1"},"kids":[{"tag":"SHORT-NAME"}]},{"tag":"SESSION","attrs":{"ID":"S1"},"kids":[{"tag":"SHORT-NAME"}]}]}]}]}"#;
+const TWO_S1: &str =
+    r#"{"tag":"ECU-MEM","kids":[{"tag":"MEM","kids":[{"tag":"SESSIONS","kids":[{"tag":"SESSION","attrs":{"ID":"S1"},"kids":[{"tag":"SHORT-NAME"}]},{"tag":"SESSION","attrs":{"ID":"S1"},"kids":[{"tag":"SHORT-NAME"}]}]}]}]}"#;
 
 #[test]
 fn catalogues(rt: HostRuntime) -> Result<(), Fail> {
@@ -342,7 +396,10 @@ fn catalogues(rt: HostRuntime) -> Result<(), Fail> {
     let table: [(&str, &str); 8] = [
         ("{", "cat.json not json"),
         (r#"{"kids":[]}"#, "cat.json not a tree /"),
-        (r#"{"tag":"ECU-MEM","kids":[{"tag":"X"},{}]}"#, "cat.json not a tree /1"),
+        (
+            r#"{"tag":"ECU-MEM","kids":[{"tag":"X"},{}]}"#,
+            "cat.json not a tree /1",
+        ),
         (r#"{"tag":"ECU-MEM"}"#, "cat.json missing / MEM"),
         (BAD_START, "cat.json bad number /0/0/0/2/0/0"),
         (TWO_S1, "cat.json twice S1"),
@@ -350,7 +407,10 @@ fn catalogues(rt: HostRuntime) -> Result<(), Fail> {
         (EMPTY, "o.json no session A"),
     ];
     for (catalogue, wanted) in table {
-        let text = order(alloc, r#"{"name":"A","unit":"1001","check":"0202","session":"S"}"#)?;
+        let text = order(
+            alloc,
+            r#"{"name":"A","unit":"1001","check":"0202","session":"S"}"#,
+        )?;
         let told = answer(alloc, &text, catalogue, "")?;
         assert_eq!(rt; told.as_str(), wanted);
     }
@@ -362,7 +422,9 @@ fn catalogue(alloc: Global, session: &str, blocks: &str, flash: &str) -> Result<
     let session = format!(in alloc;
         "{{\"tag\":\"SESSION\",\"attrs\":{{\"ID\":\"S\"}},\"kids\":[{{\"tag\":\"SHORT-NAME\",\"text\":\"S\"}},{session}]}}"
     )?;
-    let flash = format!(in alloc; "{{\"tag\":\"FLASHDATA\",\"attrs\":{{\"ID\":\"F\"}},\"kids\":[{flash}]}}")?;
+    let flash = format!(in alloc;
+        "{{\"tag\":\"FLASHDATA\",\"attrs\":{{\"ID\":\"F\"}},\"kids\":[{flash}]}}"
+    )?;
     Ok(format!(in alloc;
         "{{\"tag\":\"ECU-MEM\",\"kids\":[{{\"tag\":\"MEM\",\"kids\":[{{\"tag\":\"SESSIONS\",\"kids\":[{session}]}},{{\"tag\":\"DATABLOCKS\",\"kids\":[{blocks}]}},{{\"tag\":\"FLASHDATAS\",\"kids\":[{flash}]}}]}}]}}"
     )?)
@@ -377,22 +439,36 @@ fn block(alloc: Global, id: &str, parts: &str) -> Result<String, Fail> {
 
 /// Flash data in a format, inside or in the file `u.hex`.
 fn flash(alloc: Global, format: &str, rest: &str) -> Result<String, Fail> {
-    Ok(format!(in alloc; "{{\"tag\":\"DATAFORMAT\",\"attrs\":{{\"SELECTION\":\"{format}\"}}}},{rest}")?)
+    Ok(format!(in alloc;
+        "{{\"tag\":\"DATAFORMAT\",\"attrs\":{{\"SELECTION\":\"{format}\"}}}},{rest}"
+    )?)
 }
 
-const ONE: &str = r#"{"tag":"DATABLOCK-REFS","kids":[{"tag":"DATABLOCK-REF","attrs":{"ID-REF":"D1"}}]}"#;
+const ONE: &str =
+    r#"{"tag":"DATABLOCK-REFS","kids":[{"tag":"DATABLOCK-REF","attrs":{"ID-REF":"D1"}}]}"#;
 
 const FILE: &str = r#"{"tag":"DATAFILE","text":"u.hex"}"#;
 
 /// A segment from 1000 on of four bytes.
-const FOUR: &str = r#",{"tag":"SEGMENTS","kids":[{"tag":"SEGMENT","kids":[{"tag":"SOURCE-START-ADDRESS","text":"1000"},{"tag":"UNCOMPRESSED-SIZE","text":"4"}]}]}"#;
+const FOUR: &str =
+    r#",{"tag":"SEGMENTS","kids":[{"tag":"SEGMENT","kids":[{"tag":"SOURCE-START-ADDRESS","text":"1000"},{"tag":"UNCOMPRESSED-SIZE","text":"4"}]}]}"#;
 
 /// Two bytes at 1000.
 const TWO: &str = ":021000000102EB\n:00000001FF\n";
 
 /// One task with the session S of one datablock, in words.
-fn one_block(alloc: Global, more: &str, session: &str, parts: &str, format: &str, source: &str, data: &str) -> Result<String, Fail> {
-    let task = format!(in alloc; "{{\"name\":\"A\",\"unit\":\"1001\",\"check\":\"0202\",\"session\":\"S\"{more}}}")?;
+fn one_block(
+    alloc: Global,
+    more: &str,
+    session: &str,
+    parts: &str,
+    format: &str,
+    source: &str,
+    data: &str,
+) -> Result<String, Fail> {
+    let task = format!(in alloc;
+        "{{\"name\":\"A\",\"unit\":\"1001\",\"check\":\"0202\",\"session\":\"S\"{more}}}"
+    )?;
     let text = order(alloc, &task)?;
     let session = format!(in alloc; "{ONE}{session}")?;
     let blocks = block(alloc, "D1", parts)?;
@@ -407,14 +483,39 @@ fn records(rt: HostRuntime) -> Result<(), Fail> {
     let inside = r#"{"tag":"DATA","text":":021000000102EB"}"#;
     let table: [(&str, &str, &str, &str); 9] = [
         ("INTEL-HEX", FILE, TWO, "A 1001 1000:0102; ; 0"),
-        ("INTEL-HEX", FILE, ":020000021000EC\n:02FFFF000102FD\n", "u.hex no end"),
+        (
+            "INTEL-HEX",
+            FILE,
+            ":020000021000EC\n:02FFFF000102FD\n",
+            "u.hex no end",
+        ),
         ("INTEL-HEX", inside, "", "cat.json no end"),
         ("INTEL-HEX", FILE, "\n:0", "u.hex bad line 2"),
         ("INTEL-HEX", FILE, ":021000000102EC\n", "u.hex bad sum 1"),
-        ("INTEL-HEX", FILE, ":00000001FF\n:00000001FF\n", "u.hex after end 2"),
-        ("INTEL-HEX", FILE, ":0110000001EE\n:0110000002ED\n:00000001FF\n", "u.hex conflict 0000001000"),
-        ("MOTOROLA-S", FILE, "S107100001020304DE\nS5030002FA\nS9030000FC\n", "u.hex bad count 2 1"),
-        ("MOTOROLA-S", FILE, "S107100001020304DE\nS9030000FC\n", "A 1001 1000:01020304; ; 0"),
+        (
+            "INTEL-HEX",
+            FILE,
+            ":00000001FF\n:00000001FF\n",
+            "u.hex after end 2",
+        ),
+        (
+            "INTEL-HEX",
+            FILE,
+            ":0110000001EE\n:0110000002ED\n:00000001FF\n",
+            "u.hex conflict 0000001000",
+        ),
+        (
+            "MOTOROLA-S",
+            FILE,
+            "S107100001020304DE\nS5030002FA\nS9030000FC\n",
+            "u.hex bad count 2 1",
+        ),
+        (
+            "MOTOROLA-S",
+            FILE,
+            "S107100001020304DE\nS9030000FC\n",
+            "A 1001 1000:01020304; ; 0",
+        ),
     ];
     for (format, source, data, wanted) in table {
         let told = one_block(alloc, "", "", "", format, source, data)?;
@@ -426,20 +527,57 @@ fn records(rt: HostRuntime) -> Result<(), Fail> {
 #[test]
 fn flash_data(rt: HostRuntime) -> Result<(), Fail> {
     let alloc = rt.alloc();
-    let method = r#"{"tag":"ENCRYPT-COMPRESS-METHOD","text":"01"},{"tag":"DATAFILE","text":"u.hex"}"#;
+    let method =
+        r#"{"tag":"ENCRYPT-COMPRESS-METHOD","text":"01"},{"tag":"DATAFILE","text":"u.hex"}"#;
     let gone = r#"{"tag":"ENCRYPT-COMPRESS-METHOD","text":"01"},{"tag":"DATAFILE","text":"v.hex"}"#;
     let inside = r#"{"tag":"DATA","text":"0102030"}"#;
-    let large = r#",{"tag":"SEGMENTS","kids":[{"tag":"SEGMENT","kids":[{"tag":"SOURCE-START-ADDRESS","text":"0"},{"tag":"UNCOMPRESSED-SIZE","text":"16777217"}]}]}"#;
+    let large =
+        r#",{"tag":"SEGMENTS","kids":[{"tag":"SEGMENT","kids":[{"tag":"SOURCE-START-ADDRESS","text":"0"},{"tag":"UNCOMPRESSED-SIZE","text":"16777217"}]}]}"#;
     let table: [(&str, &str, &str, &str, &str, &str); 9] = [
         ("", FOUR, "INTEL-HEX", method, "", "cat.json compressed F"),
         ("", FOUR, "INTEL-HEX", gone, "", "shelf v.hex missing"),
-        ("", FOUR, "USER-DEFINED", FILE, "", "cat.json user defined F"),
+        (
+            "",
+            FOUR,
+            "USER-DEFINED",
+            FILE,
+            "",
+            "cat.json user defined F",
+        ),
         ("", FOUR, "BINARY", inside, "", "cat.json bad text F"),
         ("", "", "BINARY", FILE, "abcd", "cat.json no segment D1"),
-        ("", FOUR, "BINARY", FILE, "abcde", "cat.json binary size D1 4 5"),
-        ("", FOUR, "INTEL-HEX", FILE, TWO, "cat.json hole 0 0000001002"),
-        (r#","fill":"FF""#, FOUR, "INTEL-HEX", FILE, TWO, "A 1001 1000:0102ffff; ; 0"),
-        (r#","fill":"FF""#, large, "INTEL-HEX", FILE, TWO, "cat.json too large"),
+        (
+            "",
+            FOUR,
+            "BINARY",
+            FILE,
+            "abcde",
+            "cat.json binary size D1 4 5",
+        ),
+        (
+            "",
+            FOUR,
+            "INTEL-HEX",
+            FILE,
+            TWO,
+            "cat.json hole 0 0000001002",
+        ),
+        (
+            r#","fill":"FF""#,
+            FOUR,
+            "INTEL-HEX",
+            FILE,
+            TWO,
+            "A 1001 1000:0102ffff; ; 0",
+        ),
+        (
+            r#","fill":"FF""#,
+            large,
+            "INTEL-HEX",
+            FILE,
+            TWO,
+            "cat.json too large",
+        ),
     ];
     for (more, parts, format, source, data, wanted) in table {
         let told = one_block(alloc, more, "", parts, format, source, data)?;
@@ -465,17 +603,27 @@ fn checksums(rt: HostRuntime) -> Result<(), Fail> {
     ];
     for (alg, said, wanted) in table {
         let checks = checksum(alloc, alg, said)?;
-        let told = one_block(alloc, "", &checks, "", "MOTOROLA-S", FILE, "S107100001020304DE\nS9030000FC\n")?;
+        let told = one_block(
+            alloc,
+            "",
+            &checks,
+            "",
+            "MOTOROLA-S",
+            FILE,
+            "S107100001020304DE\nS9030000FC\n",
+        )?;
         assert_eq!(rt; told.as_str(), wanted);
     }
     Ok(())
 }
 
 /// The expected ident SW with two values.
-const EXPECTED: &str = r#",{"tag":"EXPECTED-IDENTS","kids":[{"tag":"EXPECTED-IDENT","kids":[{"tag":"SHORT-NAME","text":"SW"},{"tag":"IDENT-VALUES","kids":[{"tag":"IDENT-VALUE","text":"1"},{"tag":"IDENT-VALUE","text":"2"}]}]}]}"#;
+const EXPECTED: &str =
+    r#",{"tag":"EXPECTED-IDENTS","kids":[{"tag":"EXPECTED-IDENT","kids":[{"tag":"SHORT-NAME","text":"SW"},{"tag":"IDENT-VALUES","kids":[{"tag":"IDENT-VALUE","text":"1"},{"tag":"IDENT-VALUE","text":"2"}]}]}]}"#;
 
 /// Segments from 1000 on and from 2000 on, a byte each, 100 above the source, with an ident of its own.
-const PARTS: &str = r#",{"tag":"SEGMENTS","kids":[{"tag":"SEGMENT","kids":[{"tag":"SOURCE-START-ADDRESS","text":"1001"},{"tag":"SOURCE-END-ADDRESS","text":"1001"}]},{"tag":"SEGMENT","kids":[{"tag":"SOURCE-START-ADDRESS","text":"1000"},{"tag":"UNCOMPRESSED-SIZE","text":"1"}]}]},{"tag":"TARGET-ADDR-OFFSET","kids":[{"tag":"POSITIVE-OFFSET","text":"100"}]},{"tag":"OWN-IDENTS","kids":[{"tag":"OWN-IDENT","kids":[{"tag":"SHORT-NAME","text":"HW"},{"tag":"IDENT-VALUE","text":"7"}]}]}"#;
+const PARTS: &str =
+    r#",{"tag":"SEGMENTS","kids":[{"tag":"SEGMENT","kids":[{"tag":"SOURCE-START-ADDRESS","text":"1001"},{"tag":"SOURCE-END-ADDRESS","text":"1001"}]},{"tag":"SEGMENT","kids":[{"tag":"SOURCE-START-ADDRESS","text":"1000"},{"tag":"UNCOMPRESSED-SIZE","text":"1"}]}]},{"tag":"TARGET-ADDR-OFFSET","kids":[{"tag":"POSITIVE-OFFSET","text":"100"}]},{"tag":"OWN-IDENTS","kids":[{"tag":"OWN-IDENT","kids":[{"tag":"SHORT-NAME","text":"HW"},{"tag":"IDENT-VALUE","text":"7"}]}]}"#;
 
 #[test]
 fn sessions(rt: HostRuntime) -> Result<(), Fail> {
@@ -483,7 +631,12 @@ fn sessions(rt: HostRuntime) -> Result<(), Fail> {
     let below = r#",{"tag":"TARGET-ADDR-OFFSET","kids":[{"tag":"NEG-OFFSET","text":"1001"}]}"#;
     let table: [(&str, &str, &str, &str); 4] = [
         ("", EXPECTED, "", "o.json no did A SW"),
-        (r#","dids":{"SV":"F194","SW":"F195"}"#, EXPECTED, "", "A 1001 1000:0102 F195x2; ; 0"),
+        (
+            r#","dids":{"SV":"F194","SW":"F195"}"#,
+            EXPECTED,
+            "",
+            "A 1001 1000:0102 F195x2; ; 0",
+        ),
         ("", "", below, "cat.json out of range 0"),
         ("", "", PARTS, "A 1001 1101:02 1100:01; ; 0 own HW"),
     ];
@@ -497,20 +650,29 @@ fn sessions(rt: HostRuntime) -> Result<(), Fail> {
 #[test]
 fn two_datablocks(rt: HostRuntime) -> Result<(), Fail> {
     let alloc = rt.alloc();
-    let refs = r#"{"tag":"DATABLOCK-REFS","kids":[{"tag":"DATABLOCK-REF","attrs":{"ID-REF":"D1"}},{"tag":"DATABLOCK-REF","attrs":{"ID-REF":"D2"}}]}"#;
-    let segment = r#",{"tag":"SEGMENTS","kids":[{"tag":"SEGMENT","kids":[{"tag":"SOURCE-START-ADDRESS","text":"2000"},{"tag":"SOURCE-END-ADDRESS","text":"2003"}]}]}"#;
+    let refs =
+        r#"{"tag":"DATABLOCK-REFS","kids":[{"tag":"DATABLOCK-REF","attrs":{"ID-REF":"D1"}},{"tag":"DATABLOCK-REF","attrs":{"ID-REF":"D2"}}]}"#;
+    let segment =
+        r#",{"tag":"SEGMENTS","kids":[{"tag":"SEGMENT","kids":[{"tag":"SOURCE-START-ADDRESS","text":"2000"},{"tag":"SOURCE-END-ADDRESS","text":"2003"}]}]}"#;
     for (offset, wanted) in [
         ("1000", "cat.json overlap 0000001000"),
-        ("FFC", "B 1000 1000:616263; A 1001 1000:61626364 1004:61626364; ; 0; 1"),
+        (
+            "FFC",
+            "B 1000 1000:616263; A 1001 1000:61626364 1004:61626364; ; 0; 1",
+        ),
     ] {
         let first = block(alloc, "D1", FOUR)?;
-        let down = format!(in alloc; "{segment},{{\"tag\":\"TARGET-ADDR-OFFSET\",\"kids\":[{{\"tag\":\"NEG-OFFSET\",\"text\":\"{offset}\"}}]}}")?;
+        let down = format!(in alloc;
+            "{segment},{{\"tag\":\"TARGET-ADDR-OFFSET\",\"kids\":[{{\"tag\":\"NEG-OFFSET\",\"text\":\"{offset}\"}}]}}"
+        )?;
         let second = block(alloc, "D2", &down)?;
         let blocks = format!(in alloc; "{first},{second}")?;
         let flash = flash(alloc, "BINARY", FILE)?;
         let tree = catalogue(alloc, refs, &blocks, &flash)?;
         let before = raw(alloc, "B", 0x1000, "")?;
-        let tasks = format!(in alloc; "{before},{{\"name\":\"A\",\"unit\":\"1001\",\"check\":\"0202\",\"session\":\"S\"}}")?;
+        let tasks = format!(in alloc;
+            "{before},{{\"name\":\"A\",\"unit\":\"1001\",\"check\":\"0202\",\"session\":\"S\"}}"
+        )?;
         let text = order(alloc, &tasks)?;
         let told = answer(alloc, &text, &tree, "abcd")?;
         assert_eq!(rt; told.as_str(), wanted);

@@ -10,9 +10,9 @@ pub returns-in_err-bytes-clause-read : goal.returns-in_err-bytes-clause-read
 returns-in_err-bytes-clause-read g c =
     let p = err_from_is_err_and c.from_residual.result c.from_residual.ensures.1 in
     rw (p.1, p.2) (λ q h.
-        file_failed (came q) c.args.names.now c.loop-i.i c.as_str-name.result.now c.loop-i.files c.in_err-bytes.field-0.0 (rw c.as_str-name.ensures c.at.ensures)
-        (c.in_err-bytes.ensures.read q (later h c.loop-i.invariant.keeps c.loop-i.invariant.never_falls))
-        (c.loop-i.invariant.read q (earlier h c.in_err-bytes.ensures.never_falls)))
+    file_failed (came q) c.args.names.now c.loop-i.i c.as_str-name.result.now c.loop-i.files c.in_err-bytes.field-0.0 (rw c.as_str-name.ensures c.at.ensures)
+    (c.in_err-bytes.ensures.read q (later h c.loop-i.invariant.keeps c.loop-i.invariant.never_falls))
+    (c.loop-i.invariant.read q (earlier h c.in_err-bytes.ensures.never_falls)))
 
 pub loop-i-preserved : goal.loop-i-preserved
 loop-i-preserved g c =
