@@ -8,7 +8,9 @@ fn order_of(alloc: Global, tasks: u64, file: &str) -> Result<String, Fail> {
     let mut text = String::from_str(alloc, r#"{"tester":"0E80","tasks":["#)?;
     for n in 0..tasks {
         let comma = if n == 0 { "" } else { "," };
-        let task = format!(in alloc; "{comma}{{\"name\":\"T{n}\",\"unit\":\"1{n:03}\",\"check\":\"0202\",\"raw\":\"{file}\",\"at\":\"1000\"}}")?;
+        let task = format!(in alloc;
+            "{comma}{{\"name\":\"T{n}\",\"unit\":\"1{n:03}\",\"check\":\"0202\",\"raw\":\"{file}\",\"at\":\"1000\"}}"
+        )?;
         text.push_str(task.as_str())?;
     }
     text.push_str("]}")?;
@@ -31,9 +33,16 @@ fn line_of(alloc: Global, tasks: u64, file: &str, size: usize) -> Result<String,
 #[test]
 fn largest_order(rt: HostRuntime) -> Result<(), Fail> {
     let alloc = rt.alloc();
-    assert!(rt; line_of(alloc, 64, "b.bin", 1)?.as_str().starts_with("done plan "));
+    assert!(rt;
+        line_of(alloc, 64, "b.bin", 1)?
+            .as_str()
+            .starts_with("done plan ")
+    );
     for file in ["b.bin", "missing.bin"] {
-        assert_eq!(rt; line_of(alloc, 65, file, 1)?.as_str(), "input input o.json too many units");
+        assert_eq!(rt;
+            line_of(alloc, 65, file, 1)?.as_str(),
+            "input input o.json too many units"
+        );
     }
     Ok(())
 }

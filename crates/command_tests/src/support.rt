@@ -81,12 +81,7 @@ pub(crate) const FILES: [(&str, &str); 5] = [
 
 /// The files of the order, in one of which a piece of text is another. A piece that is not there
 /// leaves the file away.
-pub(crate) fn files_with(
-    alloc: Global,
-    file: &str,
-    old: &str,
-    new: &str,
-) -> Result<Files, Fail> {
+pub(crate) fn files_with(alloc: Global, file: &str, old: &str, new: &str) -> Result<Files, Fail> {
     let mut files = Files::new(alloc);
     for (name, text) in FILES {
         if name != file {

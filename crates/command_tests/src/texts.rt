@@ -15,7 +15,8 @@ units 3 bytes 19
 ";
 
 /// What `image` prints for the task with two datablocks: 01 02 03 04 FF FF FF FF, 0A 0B, 0C 0D.
-const IMAGE: &str = "done segment 0 0000101000 8 a2d1aed7ea54f64fafe25ec0ad1e4f5866b3bc0daa7e2820013016977c3014ac
+const IMAGE: &str =
+    "done segment 0 0000101000 8 a2d1aed7ea54f64fafe25ec0ad1e4f5866b3bc0daa7e2820013016977c3014ac
 segment 1 0000001800 2 bea0b72e71bfe7f15a88c25305bf96a9681e34d3aabe0c9a1b7093cb32d8ff05
 segment 2 0000002800 2 07653ec08000c93dedea7816c582fd08db6135d606ef57a1f55cdab8928a24c3
 own VER 312E30
@@ -30,8 +31,14 @@ fn texts(rt: HostRuntime) -> Result<(), Fail> {
     for (words, want) in [
         ("check o.json", CHECK),
         ("image o.json A", IMAGE),
-        ("image o.json B", "done segment 0 0000001000 4 9f64a747e1b97f131fabb6b447296c9b6f0201e79fb3c5356e6c77e89b6a806a\n"),
-        ("image o.json C", "done segment 0 0000002000 3 ba7816bf8f01cfea414140de5dae2223b00361a396177a9cb410ff61f20015ad\n"),
+        (
+            "image o.json B",
+            "done segment 0 0000001000 4 9f64a747e1b97f131fabb6b447296c9b6f0201e79fb3c5356e6c77e89b6a806a\n",
+        ),
+        (
+            "image o.json C",
+            "done segment 0 0000002000 3 ba7816bf8f01cfea414140de5dae2223b00361a396177a9cb410ff61f20015ad\n",
+        ),
         ("image o.json D", "input input o.json no task D\n"),
         ("check x.json", "shelf shelf x.json missing\n"),
         ("check", "usage usage\n"),
@@ -39,11 +46,18 @@ fn texts(rt: HostRuntime) -> Result<(), Fail> {
         ("check o.json A", "usage usage\n"),
         ("image o.json", "usage usage\n"),
         ("image o.json A-B", "usage usage\n"),
-        ("image o.json AAAAAAAAAAAAAAAAAAAAAAAAAAAAAAAAA", "usage usage\n"),
+        (
+            "image o.json AAAAAAAAAAAAAAAAAAAAAAAAAAAAAAAAA",
+            "usage usage\n",
+        ),
         ("status o.json", "usage usage\n"),
         ("run o.json 1", "usage usage\n"),
     ] {
-        assert_eq!(rt; told(alloc, &files, words, &[], &[])?.as_str(), want, "{words}");
+        assert_eq!(rt;
+            told(alloc, &files, words, &[], &[])?.as_str(),
+            want,
+            "{words}"
+        );
     }
     Ok(())
 }
@@ -60,7 +74,11 @@ fn failures_of_shelf_and_sink(rt: HostRuntime) -> Result<(), Fail> {
         (4, "shelf shelf c.bin failed\n"),
         (5, CHECK),
     ] {
-        assert_eq!(rt; told(alloc, &files, "check o.json", &[read], &[])?.as_str(), want, "{read}");
+        assert_eq!(rt;
+            told(alloc, &files, "check o.json", &[read], &[])?.as_str(),
+            want,
+            "{read}"
+        );
     }
     for (words, want) in [
         ("check o.json", "sink "),
@@ -69,7 +87,11 @@ fn failures_of_shelf_and_sink(rt: HostRuntime) -> Result<(), Fail> {
         ("check x.json", "shelf "),
         ("check", "usage "),
     ] {
-        assert_eq!(rt; told(alloc, &files, words, &[], &[0])?.as_str(), want, "{words}");
+        assert_eq!(rt;
+            told(alloc, &files, words, &[], &[0])?.as_str(),
+            want,
+            "{words}"
+        );
     }
     Ok(())
 }

@@ -120,7 +120,6 @@ served_for tells files old new kt before after ko kn status x c w e f s =
 
 module _ (tells : Bool) (files : List (List ℕ × List ℕ)) (old new : ℕ) (kt : Bool) (before after : List ℕ) (ko kn : ℕ) (c : Command) (status : Status)
     (s : IsServed tells files old new kt before after ko kn c status) where
-
   -- what was printed, where the status is none of want of memory
   printed : (status ≡ NoMemory → ⊥) → (s.gave ≡ Err fault.NoMemory → ⊥) × IsPrinted kt before after ko kn (answered c s.gave) status
   printed not_so = elim s.printed as (λ x. (s.gave ≡ Err fault.NoMemory → ⊥) × IsPrinted kt before after ko kn (answered c s.gave) status) [ inl w ↦ absurd (not_so w.0) | inr w ↦ w ]
@@ -185,10 +184,10 @@ module _ (tells : Bool) (files : List (List ℕ × List ℕ)) (old new : ℕ) (k
       → ((a b : Result Built BuildFault) → built files (order_of c) a → built files (order_of c) b → IsOne a b) → (s.gave ≡ Err fault.NoMemory → ⊥) → s.gave ≡ r
   same t none r is some law gave =
       elim (s.told t) as (λ x. s.gave ≡ r) [
-        inl e ↦ absurd (gave e)
-      | inr w ↦ elim w as (λ x. s.gave ≡ r) [
-          inl e ↦ absurd (none e)
-        | inr so ↦ elim (law s.gave r so is) as (λ x. s.gave ≡ r) [ inl e ↦ absurd (gave e) | inr v ↦ elim v as (λ x. s.gave ≡ r) [ inl e ↦ absurd (some e) | inr e ↦ e ] ]
+        | inl e ↦ absurd (gave e)
+        | inr w ↦ elim w as (λ x. s.gave ≡ r) [
+          | inl e ↦ absurd (none e)
+          | inr so ↦ elim (law s.gave r so is) as (λ x. s.gave ≡ r) [ inl e ↦ absurd (gave e) | inr v ↦ elim v as (λ x. s.gave ≡ r) [ inl e ↦ absurd (some e) | inr e ↦ e ] ]
         ]
       ]
 
@@ -197,8 +196,8 @@ module _ (tells : Bool) (files : List (List ℕ × List ℕ)) (old new : ℕ) (k
       → IsStarved before after status ⊎ IsPrinted kt before after ko kn (answered c r) status
   told_answer t none r is some law =
       elim s.printed as (λ x. IsStarved before after status ⊎ IsPrinted kt before after ko kn (answered c r) status) [
-        inl w ↦ inl w
-      | inr w ↦ inr (subst (λ (x : Result Built BuildFault). IsPrinted kt before after ko kn (answered c x) status) (same t none r is some law w.0) w.1)
+        | inl w ↦ inl w
+        | inr w ↦ inr (subst (λ (x : Result Built BuildFault). IsPrinted kt before after ko kn (answered c x) status) (same t none r is some law w.0) w.1)
       ]
 
   shows : (b : Built) → IsTrue kt → (Rises ko kn → ⊥) → (shown_for c b).status ≡ Done → IsPrinted kt before after ko kn (shown_for c b) status
@@ -213,17 +212,17 @@ module _ (tells : Bool) (files : List (List ℕ × List ℕ)) (old new : ℕ) (k
       let ok : Result Built BuildFault = Ok b in
       let some : ok ≡ Err fault.NoMemory → ⊥ = λ (e : ok ≡ Err fault.NoMemory). let never : ⊥ = cc in never in
       elim (told_answer t none ok is some law) as (λ x. (status ≡ NoMemory) ⊎ (status ≡ Done) × (after ≡ before ++ (shown_for c b).text)) [
-        inl w ↦ inl w.0
-      | inr w ↦ shows b k no_sink there w
+        | inl w ↦ inl w.0
+        | inr w ↦ shows b k no_sink there w
       ]
 
   pub is_plain : IsPlainStatus status
   is_plain =
       elim s.printed as (λ x. IsPlainStatus status) [
-        inl w ↦ subst IsPlainStatus (sym w.0) tt
-      | inr w ↦ elim (w.1) as (λ x. IsPlainStatus status) [
-          inl v ↦ plain_of s.gave (answered c s.gave).status status (leads c s.gave) v.0
-        | inr v ↦ plain_unwritten s.gave (answered c s.gave).status status (leads c s.gave) v.0
+        | inl w ↦ subst IsPlainStatus (sym w.0) tt
+        | inr w ↦ elim (w.1) as (λ x. IsPlainStatus status) [
+          | inl v ↦ plain_of s.gave (answered c s.gave).status status (leads c s.gave) v.0
+          | inr v ↦ plain_unwritten s.gave (answered c s.gave).status status (leads c s.gave) v.0
         ]
       ]
 

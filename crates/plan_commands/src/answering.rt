@@ -28,7 +28,7 @@ fn status_of(fault: &BuildFault) -> Status
 }
 
 /// What a refusal of the files answers; want of memory has no answer.
-fn refused(alloc: Global, fault: &BuildFault) -> Result<Answer, NoMemory>
+pub fn refused(alloc: Global, fault: &BuildFault) -> Result<Answer, NoMemory>
     ensures is { IfOk result (λ answer. answer ≡ refused fault.now) }
     ensures some { IfOk result (λ answer. ¬ (fault.now ≡ BuildFault.NoMemory)) }
 {
@@ -53,12 +53,7 @@ fn number_of(plan: &Plan, task: &str) -> Option<u16>
     None
 }
 
-fn image_of(
-    alloc: Global,
-    order: &str,
-    task: &str,
-    built: &Built,
-) -> Result<Answer, NoMemory>
+fn image_of(alloc: Global, order: &str, task: &str, built: &Built) -> Result<Answer, NoMemory>
     ensures { IfOk result (λ answer. answer ≡ image_of order.now task.now built.now (number_of task.now built.now.plan)) }
 {
     match number_of(&built.plan, task) {

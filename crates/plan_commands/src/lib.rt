@@ -10,10 +10,8 @@ mod serving;
 mod status;
 mod words;
 
-pub use answering::Answer;
+pub use answering::{Answer, refused};
+pub use printing::{print, print_usage};
 pub use serving::serve;
 pub use status::Status;
 pub use words::{Command, read};
-
-#[cfg(test)]
-mod tests;

@@ -66,12 +66,7 @@ fn check_in(alloc: Global, word: &str, order: &str) -> Result<Option<Command>, N
     }
 }
 
-fn image_in(
-    alloc: Global,
-    word: &str,
-    order: &str,
-    task: &str,
-) -> Result<Option<Command>, NoMemory>
+fn image_in(alloc: Global, word: &str, order: &str, task: &str) -> Result<Option<Command>, NoMemory>
     ensures is { IfOk result (λ command. command ≡ image_in word.now order.now task.now) }
     ensures none { image_in word.now order.now task.now ≡ None → result ≡ Ok None }
 {
@@ -95,7 +90,12 @@ pub fn read(alloc: Global, words: &[String]) -> Result<Option<Command>, NoMemory
         return check_in(alloc, words[0].as_str(), words[1].as_str());
     }
     if words.len() == 3 {
-        return image_in(alloc, words[0].as_str(), words[1].as_str(), words[2].as_str());
+        return image_in(
+            alloc,
+            words[0].as_str(),
+            words[1].as_str(),
+            words[2].as_str(),
+        );
     }
     Ok(None)
 }

@@ -66,12 +66,7 @@ fn put_after(out: &mut Bytes, plan: &Plan, after: &[u16]) -> Result<(), NoMemory
 }
 
 /// Puts the line of a unit.
-fn put_planned(
-    alloc: Global,
-    out: &mut Bytes,
-    plan: &Plan,
-    unit: &UnitPlan,
-) -> Result<(), NoMemory>
+fn put_planned(alloc: Global, out: &mut Bytes, plan: &Plan, unit: &UnitPlan) -> Result<(), NoMemory>
     requires { size_of unit.now.segments ≤ 16777216 }
     ensures { OnOk result (out.new ≡ out.old ++ planned_line plan.now unit.now) }
 {
@@ -123,12 +118,7 @@ fn put_task(out: &mut Bytes, n: u16, name: &Text, task: &TaskChecks) -> Result<(
     Ok(())
 }
 
-fn put_tasks(
-    out: &mut Bytes,
-    n: u16,
-    name: &Text,
-    tasks: &[TaskChecks],
-) -> Result<(), NoMemory>
+fn put_tasks(out: &mut Bytes, n: u16, name: &Text, tasks: &[TaskChecks]) -> Result<(), NoMemory>
     ensures { OnOk result (out.new ≡ out.old ++ flat_map (checksum_lines n name.now) tasks.now) }
 {
     for task in tasks {

@@ -46,11 +46,7 @@ fn put_segment(
     Ok(())
 }
 
-fn put_segments(
-    alloc: Global,
-    out: &mut Bytes,
-    segments: &Items<Segment>,
-) -> Result<(), NoMemory>
+fn put_segments(alloc: Global, out: &mut Bytes, segments: &Items<Segment>) -> Result<(), NoMemory>
     ensures { OnOk result (out.new ≡ out.old ++ segment_lines 0 segments.now) }
 {
     for i in 0..segments.len() {
@@ -71,12 +67,7 @@ fn put_own(alloc: Global, out: &mut Bytes, name: &Text, value: &[u8]) -> Result<
     Ok(())
 }
 
-fn put_values(
-    alloc: Global,
-    out: &mut Bytes,
-    name: &Text,
-    values: &[Bytes],
-) -> Result<(), NoMemory>
+fn put_values(alloc: Global, out: &mut Bytes, name: &Text, values: &[Bytes]) -> Result<(), NoMemory>
     ensures { OnOk result (out.new ≡ out.old ++ flat_map (own_line name.now) values.now) }
 {
     for value in values {

@@ -15,5 +15,8 @@ returns-in-Ok-clause-served g c =
     served_by g.F.Shelf.tells (g.F.Shelf.contents c.args.shelf.now) (g.F.Shelf.faults c.args.shelf.now) (g.F.Shelf.faults c.build-built.new.shelf) g.K.Sink.tells
     (g.K.Sink.written c.args.out.now) (g.K.Sink.written c.print.new.out) (g.K.Sink.faults c.args.out.now) (g.K.Sink.faults c.print.new.out)
     c.args.command.now c.print.result c.order.result.now c.build-built.result c.order.ensures c.build-built.ensures.read c.build-built.ensures.told c.build-built.ensures.outside
-    (inr (c.in-Ok.ensures.some, printed_by g.K.Sink.tells (g.K.Sink.written c.args.out.now) (g.K.Sink.written c.print.new.out) (g.K.Sink.faults c.args.out.now) (g.K.Sink.faults c.print.new.out)
-        c.in-Ok.answer _ c.print.result c.in-Ok.ensures.is c.print.ensures.printed))
+    (inr (
+      c.in-Ok.ensures.some,
+      printed_by g.K.Sink.tells (g.K.Sink.written c.args.out.now) (g.K.Sink.written c.print.new.out) (g.K.Sink.faults c.args.out.now) (g.K.Sink.faults c.print.new.out)
+          c.in-Ok.answer _ c.print.result c.in-Ok.ensures.is c.print.ensures.printed,
+    ))
