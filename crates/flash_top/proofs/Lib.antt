@@ -1,4 +1,5 @@
 pub mod Answers
 pub mod Closes
 pub mod Pieces
+pub mod Refusals
 pub mod Sounds

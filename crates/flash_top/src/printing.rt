@@ -11,8 +11,8 @@ use flash_base::{Bytes, Items, NoMemory};
 use flash_plan::{Outcome, Plan};
 use flash_shelf::Sink;
 use plan_build::BuildFault;
-use plan_commands::Status;
-use run_report::{refusal_line, report};
+use plan_commands::{Status, print, refused};
+use run_report::report;
 use std::alloc::Global;
 use thin_engine::Ended;
 
@@ -32,31 +32,16 @@ pub fn say<K: Sink>(out: &mut K, head: &[u8], name: &[u8], tail: &[u8])
     };
 }
 
-fn status_of(fault: &BuildFault) -> Status
-    ensures { result ≡ status_of fault.now }
-{
-    match fault {
-        BuildFault::Shelf { name: _, fault: _ } => Status::Shelf,
-        BuildFault::Input { name: _, cause: _ } => Status::Input,
-        BuildFault::NoMemory => Status::NoMemory,
-    }
-}
-
 fn print_refusal<K: Sink>(alloc: Global, out: &mut K, fault: &BuildFault) -> Status
     ensures never_falls { K.faults out.old ≤ K.faults out.new }
     ensures status { (result ≡ Status.NoMemory) ⊎ (result ≡ status_of fault.now) }
     ensures said { (result ≡ Status.NoMemory)
         ⊎ Says K.tells (K.written out.old) (K.written out.new) (K.faults out.old) (K.faults out.new) (refusal_line fault.now) }
 {
-    let status = status_of(fault);
-    if status == Status::NoMemory {
-        return status;
+    match refused(alloc, fault) {
+        Ok(answer) => print(out, &answer),
+        Err(_) => Status::NoMemory,
     }
-    let Ok(line) = refusal_line(alloc, fault) else {
-        return Status::NoMemory;
-    };
-    let _ = out.write(line.as_slice());
-    status
 }
 
 /// Prints why there is no plan; want of memory has no line.
