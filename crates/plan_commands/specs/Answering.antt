@@ -1,5 +1,5 @@
 -- What a command answers once it is known what the files give: its status, and the text that it prints.
-use Rattle.std.specs.Prelude.{ℕ, List, [], bytes_eq, Option, Some, None, Result, Ok, Err}
+use Rattle.std.specs.Prelude.{ℕ, List, bytes_eq, Option, Some, None, Result, Ok, Err}
 use Rattle.std.specs.List.{position_from}
 use Rattle.flash_plan.specs.declared.unit.UnitPlan.{UnitPlan}
 use Rattle.plan_build.specs.declared.built.Built.{Built}

@@ -1,5 +1,5 @@
 -- How a command ends: what its files gave, what was printed, and the status.
-use Rattle.std.specs.Prelude.{◌≡◌, ◌⊎◌, ℕ, Bool, IsTrue, List, [], ◌++◌, codes, Result, Ok, Err}
+use Rattle.std.specs.Prelude.{◌≡◌, ◌⊎◌, ℕ, Bool, IsTrue, List, ◌++◌, codes, Result, Err}
 use Rattle.flash_base.specs.Counts.{Rises}
 use Rattle.flash_shelf.specs.Outside.{AddsPart, CameFrom}
 use Rattle.plan_build.specs.Building.{built, built_by}

@@ -1,5 +1,5 @@
 -- The text of `image`: a line for each segment of a task, with the SHA-256 of its bytes, and one for each own ident value.
-use Rattle.std.specs.Prelude.{ℕ, zero, suc, List, [], ◌∷◌, ◌++◌, length, codes, decimal, ◌==◌, if◌then◌else◌}
+use Rattle.std.specs.Prelude.{ℕ, suc, List, [], ◌∷◌, ◌++◌, length, codes, decimal, ◌==◌, if◌then◌else◌}
 use Rattle.std.specs.List.{flat_map}
 use Rattle.hex.specs.Hex.{encode_lower, encode_upper}
 use Rattle.sha2.specs.Sha256.{sha256}

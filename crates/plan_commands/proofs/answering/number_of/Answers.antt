@@ -1,4 +1,4 @@
-use Rattle.std.proofs.Common.{◌≡◌, ◌<◌, length, bytes_eq, arith, ◌∙◌, ap}
+use Rattle.std.proofs.Common.{◌<◌, length, bytes_eq, arith, ◌∙◌, ap}
 use Rattle.flash_plan.specs.declared.unit.UnitPlan.{UnitPlan}
 use Rattle.plan_commands.proofs.Numbers.{found, passed}
 use Rattle.plan_commands.proofs.answering.number_of.Goals as goal

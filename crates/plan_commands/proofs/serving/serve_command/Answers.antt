@@ -1,4 +1,4 @@
-use Rattle.std.proofs.Common.{inl, inr, refl, subst}
+use Rattle.std.proofs.Common.{inl, inr, refl}
 use Rattle.plan_commands.specs.declared.status.Status.TheVariants.{NoMemory}
 use Rattle.plan_commands.proofs.Ends.{printed_by, served_by}
 use Rattle.plan_commands.proofs.serving.serve_command.Goals as goal

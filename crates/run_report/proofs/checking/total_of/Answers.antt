@@ -1,4 +1,4 @@
-use Rattle.std.proofs.Common.{◌≡◌, ◌<◌, length, arith, ◌∙◌, ap}
+use Rattle.std.proofs.Common.{◌<◌, length, arith, ◌∙◌, ap}
 use Rattle.flash_plan.specs.Plan.{size_of}
 use Rattle.run_report.proofs.Texts.{total_step}
 use Rattle.run_report.proofs.checking.total_of.Goals as goal
