@@ -12,11 +12,8 @@ use Rattle.thin_engine.specs.Undisturbed.{IsDriven}
 use Rattle.thin_engine.specs.declared.driving.Ended.{Ended}
 use Rattle.thin_engine.specs.declared.driving.Ended.TheVariants as ended
 use Rattle.unit_model.specs.Vehicle.{Vehicle}
-use Rattle.flash_top.specs.declared.building.Built.{Built}
-use Rattle.flash_top.specs.declared.building.BuildFault.{BuildFault}
-use Rattle.flash_top.specs.declared.building.BuildFault.TheVariants as fault
-use Rattle.flash_top.specs.declared.status.Status.{Status}
-use Rattle.flash_top.specs.declared.status.Status.TheVariants.{Done, Sink, NoMemory}
+use Rattle.plan_commands.specs.declared.status.Status.{Status}
+use Rattle.plan_commands.specs.declared.status.Status.TheVariants.{Done, Sink, NoMemory}
 use Rattle.flash_top.specs.Printing.{IsFinished, Prints}
 
 abbrev pub IsTold : List UnitPlan → Bool → DiskState → List ℕ → List ℕ → Type 0
@@ -59,8 +56,3 @@ module _ (P : List UnitPlan) (v0 v1 : Vehicle) (disk : DiskState) (tells : Bool)
   concludes e (inr (inr h)) recorded memory starved sink complete p =
       let text : Prints tells before after f f' (report_text P (outcome.Complete ∷ [])) status = subst (λ (x : Ended). IsFinished tells before after f f' P x status) h.0 p in
       by_status (complete h.0) sink h.1 (recorded h.0) text
-
-pub same_built : (x b : Built) (f f' : ℕ) (files : Result Built BuildFault) → (let r : Result Built BuildFault = Ok x in (r ≡ Err fault.NoMemory) ⊎ Rises f f' ⊎ (r ≡ files)) → files ≡ Ok b → (Rises f f' → ⊥) → x ≡ b
-same_built x b f f' files (inl h) e none = absurd cc
-same_built x b f f' files (inr (inl h)) e none = absurd (none h)
-same_built x b f f' files (inr (inr h)) e none = cc

@@ -1,6 +1,5 @@
+pub mod Answers
 pub mod Closes
-pub mod Firsts
 pub mod Pieces
-pub mod Plain
+pub mod Refusals
 pub mod Sounds
-pub mod Steps

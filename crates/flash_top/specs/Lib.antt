@@ -1,4 +1,4 @@
-pub mod Building
-pub mod Orders
+pub mod Form
 pub mod Printing
+pub mod Running
 pub mod Words

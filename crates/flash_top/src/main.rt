@@ -1,19 +1,17 @@
 //! The program: it programs the control unit that an order names, over a shop in memory.
 #![tactic(auto)]
 
-mod building;
 mod flashing;
-mod order;
+mod form;
 mod printing;
-mod status;
+mod running;
 #[cfg(test)]
 mod tests;
 mod words;
 
-pub use building::{BuildFault, Built, build};
 use flash_shelf::{FolderShelf, StreamSink};
-pub use flashing::flash;
-pub use status::Status;
+pub use flashing::{flash, flash_plain};
+pub use plan_commands::Status;
 use std::env;
 use std::env::Env;
 use std::process::ExitCode;

@@ -2,13 +2,16 @@ ghost use Rattle.std.specs.Prelude.{◌≡◌, ◌≢◌, ◌⊎◌, ◌≤◌, 
 ghost use Rattle.flash_base.specs.Counts.{Rises};
 ghost use Rattle.flash_plan.specs.Plan.{count_of};
 ghost use Rattle.run_report.specs.Report.{report_text};
-ghost use Rattle.flash_top.specs.Printing.{line_of, status_of, IsBefore, IsFinished, Prints, Says};
+ghost use Rattle.run_report.specs.Refusing.{refusal_line};
+ghost use Rattle.plan_commands.specs.Answering.{status_of};
+ghost use Rattle.flash_top.specs.Printing.{IsBefore, IsFinished, Prints, Says};
+ghost use Rattle.flash_top.specs.Running.{not_yet_line};
 
-use crate::building::BuildFault;
-use crate::status::Status;
 use flash_base::{Bytes, Items, NoMemory};
 use flash_plan::{Outcome, Plan};
 use flash_shelf::Sink;
+use plan_build::BuildFault;
+use plan_commands::{Status, print, refused};
 use run_report::report;
 use std::alloc::Global;
 use thin_engine::Ended;
@@ -29,31 +32,36 @@ pub fn say<K: Sink>(out: &mut K, head: &[u8], name: &[u8], tail: &[u8])
     };
 }
 
-/// Prints why there is no plan.
-pub fn refuse<K: Sink>(out: &mut K, order: &str, fault: &BuildFault) -> Status
+fn print_refusal<K: Sink>(alloc: Global, out: &mut K, fault: &BuildFault) -> Status
     ensures never_falls { K.faults out.old ≤ K.faults out.new }
-    ensures status { result ≡ status_of fault.now }
-    ensures said { Says K.tells (K.written out.old) (K.written out.new) (K.faults out.old) (K.faults out.new) (line_of order.now fault.now) }
+    ensures status { (result ≡ Status.NoMemory) ⊎ (result ≡ status_of fault.now) }
+    ensures said { (result ≡ Status.NoMemory)
+        ⊎ Says K.tells (K.written out.old) (K.written out.new) (K.faults out.old) (K.faults out.new) (refusal_line fault.now) }
 {
-    match fault {
-        BuildFault::Missing { name } => {
-            say(out, b"shelf ", name.as_str().as_bytes(), b" missing\n");
-            Status::Shelf
-        }
-        BuildFault::TooLarge { name } => {
-            say(out, b"shelf ", name.as_str().as_bytes(), b" too large\n");
-            Status::Shelf
-        }
-        BuildFault::Failed { name } => {
-            say(out, b"shelf ", name.as_str().as_bytes(), b" failed\n");
-            Status::Shelf
-        }
-        BuildFault::NotYet => {
-            say(out, b"input ", order.as_bytes(), b" not yet\n");
-            Status::Input
-        }
-        BuildFault::NoMemory => Status::NoMemory,
+    match refused(alloc, fault) {
+        Ok(answer) => print(out, &answer),
+        Err(_) => Status::NoMemory,
     }
+}
+
+/// Prints why there is no plan; want of memory has no line.
+pub fn refuse<K: Sink>(alloc: Global, out: &mut K, fault: BuildFault) -> Status
+    ensures never_falls { K.faults out.old ≤ K.faults out.new }
+    ensures status { (result ≡ Status.NoMemory) ⊎ (result ≡ status_of fault) }
+    ensures said { (result ≡ Status.NoMemory)
+        ⊎ Says K.tells (K.written out.old) (K.written out.new) (K.faults out.old) (K.faults out.new) (refusal_line fault) }
+{
+    print_refusal(alloc, out, &fault)
+}
+
+/// Prints that a plan is not served.
+pub fn not_yet<K: Sink>(out: &mut K, order: &str) -> Status
+    ensures never_falls { K.faults out.old ≤ K.faults out.new }
+    ensures status { result ≡ Status.Input }
+    ensures said { Says K.tells (K.written out.old) (K.written out.new) (K.faults out.old) (K.faults out.new) (not_yet_line order.now) }
+{
+    say(out, b"input ", order.as_bytes(), b" not yet\n");
+    Status::Input
 }
 
 /// The report of a plan with one unit.

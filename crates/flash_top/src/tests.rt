@@ -1,26 +1,13 @@
-use crate::building::{BuildFault, Built, build};
-use crate::flashing::flash;
-use crate::status::Status;
+use crate::flashing::{flash, flash_plain};
 use crate::words::order_in;
 use flash_base::{Bytes, Files, NoMemory, Text};
 use flash_shelf::{MemoryShelf, MemorySink};
+use plan_commands::Status;
 use std::alloc::Global;
 use std::sync::Wait;
 use std::test::Fail;
 use std::thread::Threads;
 use thin_shop::ThinShop;
-
-/// A word for each answer of the building.
-fn word(answer: &Result<Built, BuildFault>) -> &'static str {
-    match answer {
-        Ok(_) => "ok",
-        Err(BuildFault::Missing { name: _ }) => "missing",
-        Err(BuildFault::TooLarge { name: _ }) => "too large",
-        Err(BuildFault::Failed { name: _ }) => "failed",
-        Err(BuildFault::NotYet) => "not yet",
-        Err(BuildFault::NoMemory) => "no memory",
-    }
-}
 
 fn put(alloc: Global, files: &mut Files, name: &str, body: &[u8]) -> Result<(), NoMemory> {
     let name = Text::from_str(alloc, name)?;
@@ -28,63 +15,21 @@ fn put(alloc: Global, files: &mut Files, name: &str, body: &[u8]) -> Result<(), 
     files.push((name, body))
 }
 
-/// An order file, and raw files of 3, 0, 256 and 257 bytes.
+/// A catalogue with one session, whose image is the three bytes `abc` at address 1000.
+const CATALOGUE: &str =
+    "{\"tag\":\"ECU-MEM\",\"kids\":[{\"tag\":\"MEM\",\"kids\":[{\"tag\":\"SESSIONS\",\"kids\":[{\"tag\":\"SESSION\",\"attrs\":{\"ID\":\"S\"},\"kids\":[{\"tag\":\"SHORT-NAME\",\"text\":\"s\"},{\"tag\":\"DATABLOCK-REFS\",\"kids\":[{\"tag\":\"DATABLOCK-REF\",\"attrs\":{\"ID-REF\":\"D\"}}]}]}]},{\"tag\":\"DATABLOCKS\",\"kids\":[{\"tag\":\"DATABLOCK\",\"attrs\":{\"ID\":\"D\"},\"kids\":[{\"tag\":\"SHORT-NAME\",\"text\":\"d\"},{\"tag\":\"FLASHDATA-REF\",\"attrs\":{\"ID-REF\":\"F\"}},{\"tag\":\"SEGMENTS\",\"kids\":[{\"tag\":\"SEGMENT\",\"kids\":[{\"tag\":\"SOURCE-START-ADDRESS\",\"text\":\"1000\"},{\"tag\":\"UNCOMPRESSED-SIZE\",\"text\":\"3\"}]}]}]}]},{\"tag\":\"FLASHDATAS\",\"kids\":[{\"tag\":\"FLASHDATA\",\"attrs\":{\"ID\":\"F\"},\"kids\":[{\"tag\":\"DATAFORMAT\",\"attrs\":{\"SELECTION\":\"BINARY\"}},{\"tag\":\"DATA\",\"text\":\"616263\"}]}]}]}]}";
+
+/// An order file, the catalogue, and raw files of 3, 0, 256 and 257 bytes.
 fn shelf_of(alloc: Global, order: &str) -> Result<MemoryShelf, NoMemory> {
     let bytes = [0xA5u8; 257];
     let mut files = Files::new(alloc);
     put(alloc, &mut files, "one.json", order.as_bytes())?;
+    put(alloc, &mut files, "c.json", CATALOGUE.as_bytes())?;
     put(alloc, &mut files, "a.bin", b"abc")?;
     put(alloc, &mut files, "empty", b"")?;
     put(alloc, &mut files, "long", &bytes[..256])?;
     put(alloc, &mut files, "longer", &bytes)?;
     MemoryShelf::new(alloc, &files, &[])
-}
-
-/// Order files, each behind the word for its answer.
-const ORDERS: &str =
-    "ok\t{\"tester\":\"0E80\",\"relinks\":0,\"tasks\":[{\"name\":\"A\",\"unit\":\"1001\",\"check\":\"0202\",\"raw\":\"a.bin\",\"at\":\"1000\"}]}\n\
-ok\t{\"tester\":\"0E80\",\"relinks\":0,\"tasks\":[{\"name\":\"A\",\"unit\":\"1001\",\"check\":\"0202\",\"raw\":\"a.bin\",\"at\":\"FFFFFFFD\"}]}\n\
-not yet\t{\"tester\":\"0E80\",\"relinks\":0,\"tasks\":[{\"name\":\"A\",\"unit\":\"1001\",\"check\":\"0202\",\"raw\":\"a.bin\",\"at\":\"FFFFFFFE\"}]}\n\
-not yet\t{\"tester\":\"0E80\",\"relinks\":0,\"tasks\":[{\"name\":\"A\",\"unit\":\"1001\",\"check\":\"0202\",\"raw\":\"a.bin\",\"at\":\"100000000\"}]}\n\
-not yet\t{\"tester\":\"0E80\",\"relinks\":0,\"tasks\":[{\"name\":\"A\",\"unit\":\"1001\",\"check\":\"0202\",\"raw\":\"a.bin\",\"at\":\"\"}]}\n\
-not yet\t{\"tester\":\"0E80\",\"relinks\":1,\"tasks\":[{\"name\":\"A\",\"unit\":\"1001\",\"check\":\"0202\",\"raw\":\"a.bin\",\"at\":\"1000\"}]}\n\
-not yet\t{\"tester\":\"0E80\",\"relinks\":\"0\",\"tasks\":[{\"name\":\"A\",\"unit\":\"1001\",\"check\":\"0202\",\"raw\":\"a.bin\",\"at\":\"1000\"}]}\n\
-not yet\t{\"tester\":\"0E80\",\"relinks\":0.0,\"tasks\":[{\"name\":\"A\",\"unit\":\"1001\",\"check\":\"0202\",\"raw\":\"a.bin\",\"at\":\"1000\"}]}\n\
-not yet\t{\"tester\":\"0E8\",\"relinks\":0,\"tasks\":[{\"name\":\"A\",\"unit\":\"1001\",\"check\":\"0202\",\"raw\":\"a.bin\",\"at\":\"1000\"}]}\n\
-not yet\t{\"tester\":\"0E8G\",\"relinks\":0,\"tasks\":[{\"name\":\"A\",\"unit\":\"1001\",\"check\":\"0202\",\"raw\":\"a.bin\",\"at\":\"1000\"}]}\n\
-not yet\t{\"tester\":3712,\"relinks\":0,\"tasks\":[{\"name\":\"A\",\"unit\":\"1001\",\"check\":\"0202\",\"raw\":\"a.bin\",\"at\":\"1000\"}]}\n\
-not yet\t{\"tester\":\"0E80\",\"relinks\":0,\"tasks\":[{\"name\":\"\",\"unit\":\"1001\",\"check\":\"0202\",\"raw\":\"a.bin\",\"at\":\"1000\"}]}\n\
-not yet\t{\"tester\":\"0E80\",\"relinks\":0,\"tasks\":[{\"name\":\"A-B\",\"unit\":\"1001\",\"check\":\"0202\",\"raw\":\"a.bin\",\"at\":\"1000\"}]}\n\
-ok\t{\"tester\":\"0E80\",\"relinks\":0,\"tasks\":[{\"name\":\"AAAAAAAAAAAAAAAAAAAAAAAAAAAAAAAA\",\"unit\":\"1001\",\"check\":\"0202\",\"raw\":\"a.bin\",\"at\":\"1000\"}]}\n\
-not yet\t{\"tester\":\"0E80\",\"relinks\":0,\"tasks\":[{\"name\":\"AAAAAAAAAAAAAAAAAAAAAAAAAAAAAAAAA\",\"unit\":\"1001\",\"check\":\"0202\",\"raw\":\"a.bin\",\"at\":\"1000\"}]}\n\
-not yet\t{\"tester\":\"0E80\",\"relinks\":0,\"tasks\":[{\"name\":\"A\",\"unit\":\"1001\",\"check\":\"FF00\",\"raw\":\"a.bin\",\"at\":\"1000\"}]}\n\
-not yet\t{\"tester\":\"0E80\",\"relinks\":0,\"tasks\":[{\"name\":\"A\",\"unit\":\"1001\",\"check\":\"ff01\",\"raw\":\"a.bin\",\"at\":\"1000\"}]}\n\
-missing\t{\"tester\":\"0E80\",\"relinks\":0,\"tasks\":[{\"name\":\"A\",\"unit\":\"1001\",\"check\":\"0202\",\"raw\":\"b.bin\",\"at\":\"1000\"}]}\n\
-not yet\t{\"tester\":\"0E80\",\"relinks\":0,\"tasks\":[{\"name\":\"A\",\"unit\":\"1001\",\"check\":\"0202\",\"raw\":\"-a\",\"at\":\"1000\"}]}\n\
-not yet\t{\"tester\":\"0E80\",\"relinks\":0,\"tasks\":[{\"name\":\"A\",\"unit\":\"1001\",\"check\":\"0202\",\"raw\":\"empty\",\"at\":\"1000\"}]}\n\
-ok\t{\"tester\":\"0E80\",\"relinks\":0,\"tasks\":[{\"name\":\"A\",\"unit\":\"1001\",\"check\":\"0202\",\"raw\":\"long\",\"at\":\"1000\"}]}\n\
-not yet\t{\"tester\":\"0E80\",\"relinks\":0,\"tasks\":[{\"name\":\"A\",\"unit\":\"1001\",\"check\":\"0202\",\"raw\":\"longer\",\"at\":\"1000\"}]}\n\
-not yet\t{\"tester\":\"0E80\",\"relinks\":0,\"tasks\":[{\"name\":\"A\",\"unit\":\"1001\",\"check\":\"0202\",\"raw\":\"a.bin\",\"at\":\"1000\",\"width\":\"44\"}]}\n\
-not yet\t{\"tester\":\"0E80\",\"relinks\":0,\"tasks\":[{\"name\":\"A\",\"unit\":\"1001\",\"check\":\"0202\",\"raw\":\"a.bin\",\"at\":\"1000\"}],\"catalogue\":\"c.json\"}\n\
-not yet\t{\"tester\":\"0E80\",\"relinks\":0,\"tasks\":[]}\n\
-not yet\t[]\n\
-not yet\t\n\
-not yet\t{";
-
-#[test]
-fn orders(rt: HostRuntime) -> Result<(), Fail> {
-    let alloc = rt.alloc();
-    assert_eq!(rt; ORDERS.split('\n').count(), 28);
-    for line in ORDERS.split('\n') {
-        let (want, order) = line.split_once('\t').ok_or("a tab")?;
-        let mut shelf = shelf_of(alloc, order)?;
-        assert_eq!(rt;
-            word(&build(alloc, &mut shelf, "one.json")),
-            want,
-            "at {order}"
-        );
-    }
-    Ok(())
 }
 
 #[test]
@@ -243,43 +188,147 @@ fn is_untouched(shop: &ThinShop) -> bool {
     shop.car().heard().is_empty() && shop.disk().bytes().is_empty()
 }
 
-/// The order of the smallest run with a file that is not there.
-const OTHER_FILE: &str =
-    "{\"tester\":\"0E80\",\"relinks\":0,\"tasks\":[{\"name\":\"A\",\"unit\":\"1001\",\"check\":\"0202\",\"raw\":\"b.bin\",\"at\":\"1000\"}]}";
-
-/// What is refused before a run: the words, the order file, the status and the line.
+/// Words that are in no form.
 #[test]
-fn refusals(rt: HostRuntime) -> Result<(), Fail> {
+fn refused_words(rt: HostRuntime) -> Result<(), Fail> {
     let alloc = rt.alloc();
-    for (command, order, want, line) in [
-        ("run", SMALLEST, Status::Usage, "usage\n"),
-        ("run one.json 0", SMALLEST, Status::Usage, "usage\n"),
-        ("run one.json 01", SMALLEST, Status::Usage, "usage\n"),
-        ("run one.json 17", SMALLEST, Status::Usage, "usage\n"),
-        ("run -x 1", SMALLEST, Status::Usage, "usage\n"),
-        (
-            "run one.json 1",
-            OTHER_FILE,
-            Status::Shelf,
-            "shelf b.bin missing\n",
-        ),
-        (
-            "run two.json 1",
-            SMALLEST,
-            Status::Shelf,
-            "shelf two.json missing\n",
-        ),
-        (
-            "run one.json 1",
-            "[]",
-            Status::Input,
-            "input one.json not yet\n",
-        ),
+    for command in [
+        "run",
+        "run one.json 0",
+        "run one.json 01",
+        "run one.json 17",
+        "run -x 1",
+        "check -x",
+        "image one.json A-B",
+        "status one.json",
+        "drill 0",
     ] {
-        let (shop, status, sink) = flash_over(&rt, alloc, command, order, &[])?;
-        assert!(rt; status == want, "at {command}");
-        assert!(rt; sink.written() == line.as_bytes(), "at {command}");
+        let (shop, status, sink) = flash_over(&rt, alloc, command, SMALLEST, &[])?;
+        assert!(rt; status == Status::Usage, "at {command}");
+        assert!(rt; sink.written() == b"usage\n".as_slice(), "at {command}");
         assert!(rt; is_untouched(&shop), "at {command}");
     }
+    Ok(())
+}
+
+/// Order files, each behind what a run of it answers: `done`, or its line. A plan that is not served is refused last.
+const ORDERS: &str =
+    "done\t{\"tester\":\"0E80\",\"relinks\":0,\"tasks\":[{\"name\":\"A\",\"unit\":\"1001\",\"check\":\"0202\",\"raw\":\"a.bin\",\"at\":\"1000\"}]}\n\
+done\t{\"tester\":\"0E80\",\"relinks\":0,\"tasks\":[{\"name\":\"A\",\"unit\":\"1001\",\"check\":\"0202\",\"raw\":\"a.bin\",\"at\":\"1000\",\"width\":\"44\",\"key\":{\"rule\":\"none\"},\"idents\":[],\"after\":[]}]}\n\
+done\t{\"tester\":\"0E80\",\"relinks\":0,\"tasks\":[{\"name\":\"A\",\"unit\":\"1001\",\"check\":\"0202\",\"raw\":\"long\",\"at\":\"1000\"}]}\n\
+input one.json not yet\t{\"tester\":\"0E80\",\"relinks\":0,\"tasks\":[{\"name\":\"A\",\"unit\":\"1001\",\"check\":\"0202\",\"raw\":\"longer\",\"at\":\"1000\"}]}\n\
+input one.json not yet\t{\"tester\":\"0E80\",\"relinks\":1,\"tasks\":[{\"name\":\"A\",\"unit\":\"1001\",\"check\":\"0202\",\"raw\":\"a.bin\",\"at\":\"1000\"}]}\n\
+input one.json not yet\t{\"tester\":\"0E80\",\"tasks\":[{\"name\":\"A\",\"unit\":\"1001\",\"check\":\"0202\",\"raw\":\"a.bin\",\"at\":\"1000\"}]}\n\
+input one.json not yet\t{\"tester\":\"0E80\",\"relinks\":0,\"tasks\":[]}\n\
+input one.json not yet\t{\"tester\":\"0E80\",\"relinks\":0,\"tasks\":[{\"name\":\"A\",\"unit\":\"1001\",\"check\":\"0202\",\"raw\":\"a.bin\",\"at\":\"1000\"},{\"name\":\"B\",\"unit\":\"1002\",\"check\":\"0202\",\"raw\":\"a.bin\",\"at\":\"1000\"}]}\n\
+input one.json not yet\t{\"tester\":\"0E80\",\"relinks\":0,\"tasks\":[{\"name\":\"A\",\"unit\":\"1001\",\"check\":\"0202\",\"raw\":\"a.bin\",\"at\":\"1000\",\"width\":\"43\"}]}\n\
+input one.json not yet\t{\"tester\":\"0E80\",\"relinks\":0,\"tasks\":[{\"name\":\"A\",\"unit\":\"1001\",\"check\":\"0202\",\"raw\":\"a.bin\",\"at\":\"1000\",\"width\":\"34\"}]}\n\
+input one.json not yet\t{\"tester\":\"0E80\",\"relinks\":0,\"tasks\":[{\"name\":\"A\",\"unit\":\"1001\",\"check\":\"0202\",\"raw\":\"a.bin\",\"at\":\"1000\",\"key\":{\"rule\":\"xor\",\"level\":\"01\",\"mask\":\"5A\"}}]}\n\
+input one.json not yet\t{\"tester\":\"0E80\",\"relinks\":0,\"tasks\":[{\"name\":\"A\",\"unit\":\"1001\",\"check\":\"0202\",\"raw\":\"a.bin\",\"at\":\"1000\",\"key\":{\"rule\":\"digest\",\"level\":\"01\",\"length\":4,\"secret\":\"6162\"}}]}\n\
+input one.json not yet\t{\"tester\":\"0E80\",\"relinks\":0,\"tasks\":[{\"name\":\"A\",\"unit\":\"1001\",\"check\":\"0202\",\"raw\":\"a.bin\",\"at\":\"1000\",\"idents\":[{\"did\":\"F195\",\"values\":[\"31\"]}]}]}\n\
+input one.json cycle A\t{\"tester\":\"0E80\",\"relinks\":1,\"tasks\":[{\"name\":\"A\",\"unit\":\"1001\",\"check\":\"0202\",\"raw\":\"a.bin\",\"at\":\"1000\",\"after\":[\"A\"]}]}\n\
+input one.json unknown after A\t{\"tester\":\"0E80\",\"relinks\":0,\"tasks\":[{\"name\":\"A\",\"unit\":\"1001\",\"check\":\"0202\",\"raw\":\"a.bin\",\"at\":\"1000\",\"after\":[\"B\"],\"width\":\"43\"}]}\n\
+input one.json out of range 0\t{\"tester\":\"0E80\",\"relinks\":1,\"tasks\":[{\"name\":\"A\",\"unit\":\"1001\",\"check\":\"0202\",\"raw\":\"a.bin\",\"at\":\"FFFFFFFE\"}]}\n\
+input one.json empty raw A\t{\"tester\":\"0E80\",\"relinks\":1,\"tasks\":[{\"name\":\"A\",\"unit\":\"1001\",\"check\":\"0202\",\"raw\":\"empty\",\"at\":\"1000\"}]}\n\
+input one.json too wide A\t{\"tester\":\"0E80\",\"relinks\":0,\"tasks\":[{\"name\":\"A\",\"unit\":\"1001\",\"check\":\"0202\",\"raw\":\"longer\",\"at\":\"1000\",\"width\":\"14\"}]}\n\
+input one.json bad field 0 check\t{\"tester\":\"0E80\",\"relinks\":1,\"tasks\":[{\"name\":\"A\",\"unit\":\"1001\",\"check\":\"FF00\",\"raw\":\"a.bin\",\"at\":\"1000\"}]}\n\
+input one.json bad field - tester\t[]\n\
+input one.json not json\t\n\
+shelf b.bin missing\t{\"tester\":\"0E80\",\"relinks\":1,\"tasks\":[{\"name\":\"A\",\"unit\":\"1001\",\"check\":\"0202\",\"raw\":\"b.bin\",\"at\":\"1000\"}]}\n\
+shelf b.json missing\t{\"tester\":\"0E80\",\"relinks\":1,\"catalogue\":\"b.json\",\"tasks\":[{\"name\":\"A\",\"unit\":\"1001\",\"check\":\"0202\",\"raw\":\"a.bin\",\"at\":\"1000\"}]}";
+
+fn status_of(line: &str) -> Status {
+    if line == "done" {
+        Status::Done
+    } else if line.starts_with("shelf") {
+        Status::Shelf
+    } else {
+        Status::Input
+    }
+}
+
+/// Whether the text is the line.
+fn is_line(text: &[u8], line: &str) -> bool {
+    text.len() == line.len() + 1 && text.starts_with(line.as_bytes()) && text.ends_with(b"\n")
+}
+
+#[test]
+fn orders(rt: HostRuntime) -> Result<(), Fail> {
+    let alloc = rt.alloc();
+    assert_eq!(rt; ORDERS.split('\n').count(), 23);
+    for row in ORDERS.split('\n') {
+        let (line, order) = row.split_once('\t').ok_or("a tab")?;
+        let (shop, status, sink) = flash_over(&rt, alloc, "run one.json 1", order, &[])?;
+        assert!(rt; status == status_of(line), "at {row}");
+        let refused = is_untouched(&shop) && is_line(sink.written(), line);
+        assert!(rt; refused == (line != "done"), "at {row}");
+    }
+    Ok(())
+}
+
+/// The order of the smallest run with a session of the catalogue in place of the file.
+const WITH_SESSION: &str =
+    "{\"tester\":\"0E80\",\"relinks\":0,\"catalogue\":\"c.json\",\"tasks\":[{\"name\":\"A\",\"unit\":\"1001\",\"check\":\"0202\",\"session\":\"S\"}]}";
+
+#[test]
+fn run_of_a_session(rt: HostRuntime) -> Result<(), Fail> {
+    let alloc = rt.alloc();
+    let (shop, status, sink) = flash_over(&rt, alloc, "run one.json 1", WITH_SESSION, &[])?;
+    assert!(rt; is_done(status));
+    assert!(rt; sink.written() == REPORT.as_bytes());
+    assert!(rt; is_programmed(&shop));
+    assert!(rt; spells(JOURNAL, shop.disk().bytes()));
+    Ok(())
+}
+
+/// The plan of the smallest run, shown.
+const SHOWN: &str = "plan a41528293bb2c3c3d84ba53557cfbe530f6031fc9bae916ec7108fcf4f683f7e\n\
+unit A 1001 segments 1 bytes 3 after -\n\
+units 1 bytes 3\n";
+
+/// Its one segment, with the SHA-256 of `abc` (FIPS 180-4).
+const SEGMENT: &str =
+    "segment 0 0000001000 3 ba7816bf8f01cfea414140de5dae2223b00361a396177a9cb410ff61f20015ad\n";
+
+#[test]
+fn plain_commands(rt: HostRuntime) -> Result<(), Fail> {
+    let alloc = rt.alloc();
+    for (command, want, text) in [
+        ("check one.json", Status::Done, SHOWN),
+        ("image one.json A", Status::Done, SEGMENT),
+        (
+            "image one.json B",
+            Status::Input,
+            "input one.json no task B\n",
+        ),
+        ("check two.json", Status::Shelf, "shelf two.json missing\n"),
+    ] {
+        let (shop, status, sink) = flash_over(&rt, alloc, command, SMALLEST, &[])?;
+        assert!(rt; status == want, "at {command}");
+        assert!(rt; sink.written() == text.as_bytes(), "at {command}");
+        assert!(rt; is_untouched(&shop), "at {command}");
+    }
+    Ok(())
+}
+
+/// `flash_plain` knows no run.
+#[test]
+fn plain_knows_no_run(rt: HostRuntime) -> Result<(), Fail> {
+    let alloc = rt.alloc();
+    let mut shelf = shelf_of(alloc, SMALLEST)?;
+    let words = words_of(alloc, "run one.json 1")?;
+    let mut sink = MemorySink::new(alloc, &[])?;
+    let mut shop = ThinShop::new(alloc)?;
+    let status = flash_plain(
+        &rt,
+        alloc,
+        words.as_slice(),
+        &mut shelf,
+        &mut shop,
+        &mut sink,
+    );
+    assert!(rt; status == Status::Usage);
+    assert!(rt; sink.written() == b"usage\n".as_slice());
+    assert!(rt; is_untouched(&shop));
     Ok(())
 }

@@ -1,11 +1,11 @@
 ghost use Rattle.std.specs.Prelude.{◌≡◌, option_map, map, string_bytes};
-ghost use Rattle.flash_top.specs.Words.{words_of};
+ghost use Rattle.flash_top.specs.Words.{run_order};
 
 use text_forms::is_file_name;
 
 /// The order file that the words name: `run ORDER 1`.
 pub fn order_in(words: &[String]) -> Option<&str>
-    ensures { option_map (λ t. t.now) result ≡ words_of (map string_bytes words.now) }
+    ensures { option_map (λ t. t.now) result ≡ run_order (map string_bytes words.now) }
 {
     if words.len() != 3 {
         return None;
