@@ -1,5 +1,5 @@
 -- What stopped a run, by its whole list of events.
-use Rattle.std.specs.Prelude.{◌≡◌, ℕ, Bool, true, nat_lt, List, [], ◌∷◌, ◌++◌, Option, Some, None, if◌then◌else◌}
+use Rattle.std.specs.Prelude.{◌≡◌, Bool, true, nat_lt, List, [], ◌∷◌, ◌++◌, Option, Some, None, if◌then◌else◌}
 use Rattle.bay_core.specs.Core.{core_of, core_start, is_disk_failure, refused_stop}
 use Rattle.bay_core.specs.Legal.{is_legal}
 use Rattle.bay_core.specs.declared.event.Event.{Event}
