@@ -21,7 +21,8 @@ pub fn the_stop_follows_from_the_events()
 {}
 
 /// The definitions on connections that were worked out by hand: an activation answer byte by byte,
-/// a denied one, each kind of bytes that are no frame, alive checks and messages.
+/// a denied one, each kind of bytes that are no frame, quiet polls, alive checks, messages, and what
+/// stops a run.
 pub fn worked_connections()
     ensures { AreWorked }
 {}
