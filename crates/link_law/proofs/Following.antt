@@ -227,7 +227,7 @@ module _ (rules : LinkRules) (P : List UnitPlan) (es : List Event) (c : Core) (s
   collects u (Piece bytes) f = pieces.collected rules P es u bytes c.link (ap is_open (up_is c.link.phase f.up)) (not_true _ f.inbox) s
   collects u Lost f = failure rules P es c.link s (Collected u Lost) (record { silent = record { no_dial = refl; none = refl; bytes = refl }; failed = refl; no_quiet = refl; no_ask = refl; no_say = refl; loss = refl; no_take = λ a. and_false ((plan_of P u).address == a) }) (ap is_down (up_is c.link.phase f.up))
 
-  each_event : (e : Event) → is_allowed P c e ≡ true → Stands rules P (es ++ (e ∷ [])) (link_after rules P e c.link)
+  pub each_event : (e : Event) → is_allowed P c e ≡ true → Stands rules P (es ++ (e ∷ [])) (link_after rules P e c.link)
   each_event (Claimed u) ok = idle rules P es c.link s (Claimed u) (record { silent = record { no_dial = refl; none = refl; bytes = refl }; works = refl; no_wait = refl; no_quiet = refl; no_ask = refl; no_say = refl; no_loss = refl; no_take = λ a. refl })
   each_event (Began u) ok = idle rules P es c.link s (Began u) (record { silent = record { no_dial = refl; none = refl; bytes = refl }; works = refl; no_wait = refl; no_quiet = refl; no_ask = refl; no_say = refl; no_loss = refl; no_take = λ a. refl })
   each_event (Sent u place lost) ok = sent rules P es c.link s u place lost (up_is c.link.phase (sent_facts P c u place lost ok).up)
@@ -245,7 +245,7 @@ along rules P es (e ∷ events) c legal s =
     subst (λ (xs : List Event). Stands rules P xs (core_of rules P c (e ∷ events)).link) (append_assoc es (e ∷ []) events)
     (along rules P (es ++ (e ∷ [])) events (core_after rules P e c) both.1 (each_event rules P es c s e both.0))
 
-starts : (rules : LinkRules) (P : List UnitPlan) → Stands rules P [] link_start
+pub starts : (rules : LinkRules) (P : List UnitPlan) → Stands rules P [] link_start
 starts rules P = record {
   link = record {
     bytes = refl;

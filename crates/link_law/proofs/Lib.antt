@@ -11,4 +11,5 @@ pub mod Quieting
 pub mod Piecing
 pub mod Collecting
 pub mod Following
+pub mod Stopping
 pub mod Worked

@@ -12,7 +12,8 @@ use Rattle.link_law.specs.Happened.{one, has, count, behind_last}
 use Rattle.link_law.specs.Kinds.{bytes_in, is_dial, is_failed_call, is_quiet_wait}
 use Rattle.link_law.specs.Looked.{answer_in, is_broken}
 use Rattle.link_law.specs.Follows.{last_dial, phase_in, phase_of}
-use Rattle.link_law.specs.Rows.{AreWorked, asks, quiets}
+use Rattle.link_law.specs.Rows.{AreWorked, asks, quiets, hears, accepts, denies}
+use Rattle.link_law.specs.Stopped.{first_cause}
 
 -- ------ quiet polls
 none_of : (kind : Event → Bool) (n : ℕ) → kind (Tended (Polled Quiet)) ≡ false → has kind (quiets n) ≡ false
@@ -64,4 +65,8 @@ worked = record {
   unit = refl;
   taken_now = λ u is. ap (λ (a : ℕ). 0 + (0 + (one (a == 4097 && true) + 0))) is;
   taken_later = λ u is. ap (λ (a : ℕ). 0 + (0 + (one (a == 4097 && true) + (one (a == 4097 && true) + 0)))) is;
+  lost_once = λ rules is. ap (λ (n : ℕ). first_cause (record { tester = rules.tester; relinks = n }) [] (hears (3 ∷ 253 ∷ []))) is;
+  lost_again = λ rules is. ap (λ (n : ℕ). first_cause (record { tester = rules.tester; relinks = n }) [] (hears (3 ∷ 253 ∷ []) ++ hears accepts)) is;
+  lost_twice = λ rules is. ap (λ (n : ℕ). first_cause (record { tester = rules.tester; relinks = n }) [] (hears (3 ∷ 253 ∷ []) ++ hears (3 ∷ 253 ∷ []))) is;
+  stopped = λ rules is. ap (λ (n : ℕ). first_cause (record { tester = rules.tester; relinks = n }) [] (hears denies)) is;
 }

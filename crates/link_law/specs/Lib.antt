@@ -3,3 +3,4 @@ pub mod Happened
 pub mod Kinds
 pub mod Looked
 pub mod Rows
+pub mod Stopped

@@ -1,6 +1,8 @@
 -- Connections worked out by hand, byte by byte (ISO 13400-2:2019, section 9): tester 0E80, gateway 4000, a unit with the
 -- address 1001.
-use Rattle.std.specs.Prelude.{◌≡◌, ℕ, zero, suc, true, false, nat_le, List, [], ◌∷◌, ◌++◌, take, if◌then◌else◌}
+use Rattle.std.specs.Prelude.{◌≡◌, ℕ, zero, suc, true, false, nat_le, List, [], ◌∷◌, ◌++◌, take, if◌then◌else◌, Some, None}
+use Rattle.flash_plan.specs.declared.outcome.Outcome.TheVariants.{LinkLost, LinkRefused}
+use Rattle.flash_plan.specs.declared.unit.LinkRules.{LinkRules}
 use Rattle.flash_plan.specs.declared.unit.UnitPlan.{UnitPlan}
 use Rattle.run_model.specs.Link.{Down, Fresh, Waits, Up, Denied}
 use Rattle.run_model.specs.Ways.{Reply, Unheard}
@@ -11,6 +13,7 @@ use Rattle.bay_core.specs.declared.event.Event.TheVariants.{Sent, Collected, Ten
 use Rattle.link_law.specs.Happened.{count_after}
 use Rattle.link_law.specs.Looked.{words_of}
 use Rattle.link_law.specs.Follows.{phase_of, is_loss, is_owed, since_dial, taken}
+use Rattle.link_law.specs.Stopped.{first_cause}
 
 -- 03 FC 00 06 00 00 00 09 0E 80 40 00 10 00 00 00 00: the activation is accepted
 abbrev pub accepts : List ℕ
@@ -91,3 +94,8 @@ pub record AreWorked : Type 0 where
   -- two come at once: the first is taken with its piece, the second was kept
   pub taken_now : (u : UnitPlan) → u.address ≡ 4097 → taken 3712 (u ∷ []) 4097 (since_dial (collects (Collected 0 (Piece (pends ++ answers)) ∷ []))) ≡ 1
   pub taken_later : (u : UnitPlan) → u.address ≡ 4097 → taken 3712 (u ∷ []) 4097 (since_dial (collects (Collected 0 (Piece (pends ++ answers)) ∷ Collected 0 Kept ∷ []))) ≡ 2
+  -- a loss stops a run that may make no connection anew; with one more it takes two; a denial stops it
+  pub lost_once : (rules : LinkRules) → rules.relinks ≡ 0 → first_cause rules [] (hears (3 ∷ 253 ∷ [])) ≡ Some (LinkLost 1)
+  pub lost_again : (rules : LinkRules) → rules.relinks ≡ 1 → first_cause rules [] (hears (3 ∷ 253 ∷ []) ++ hears accepts) ≡ None
+  pub lost_twice : (rules : LinkRules) → rules.relinks ≡ 1 → first_cause rules [] (hears (3 ∷ 253 ∷ []) ++ hears (3 ∷ 253 ∷ [])) ≡ Some (LinkLost 2)
+  pub stopped : (rules : LinkRules) → rules.relinks ≡ 0 → first_cause rules [] (hears denies) ≡ Some (LinkRefused 1)

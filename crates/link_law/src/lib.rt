@@ -6,9 +6,12 @@
 //! - `Kinds`: what an event is for the link.
 //! - `Looked`: what the frames of one connection say, and which of them are looked at.
 //! - `Follows`: what a whole list of events says of the link.
+//! - `Stopped`: what stopped a run.
 //! - `Rows`: connections worked out by hand.
 #![tactic(auto)]
 
 mod laws;
 
-pub use laws::{the_link_follows_from_its_events, worked_connections};
+pub use laws::{
+    the_link_follows_from_its_events, the_stop_follows_from_the_events, worked_connections,
+};
