@@ -22,10 +22,9 @@ use Rattle.bay_core.specs.Legal.{is_allowed, is_end, is_stop, is_memory, is_bloc
 use Rattle.bay_core.specs.declared.event.Event.{Event}
 use Rattle.bay_core.specs.declared.event.Event.TheVariants.{Claimed, Began, Sent, Collected, Tended, Completed, DiskFailed, Ended}
 use Rattle.outcome_law.proofs.Growing.{VehicleGrows, rose_then}
-use Rattle.outcome_law.specs.LinkCounting.{IsLostBy, IsPhaseCounted, IsLinkCounted}
+use Rattle.outcome_law.specs.LinkCounting.{IsPhaseCounted, IsLinkCounted}
 use Rattle.outcome_law.specs.OutcomeCounting.{Rests, IsStopCounted, StopCounted}
 use Rattle.outcome_law.specs.Outcomes.{IsBlockedBy}
-use Rattle.outcome_law.specs.Rising.{Rose}
 
 -- ------ outcomes that compare as equal are
 same_is : (a b : Outcome) → same_outcome a b ≡ true → a ≡ b
