@@ -1,6 +1,6 @@
 -- Each recorded outcome has its cause.
 use Rattle.std.proofs.Common.{◌≡◌, ◌⊎◌, inl, inr, ℕ, zero, suc, ◌+◌, ◌<◌, ◌≤◌, true, false, List, [], ◌∷◌, length, Some, None, refl, sym, ◌∙◌, ap, subst, arith}
-use Rattle.std.specs.Prelude.{Bool, Option, ◌==◌, ◌&&◌, ◌||◌, nat_lt, is_some, is_none, Contains, slice_index_or, unwrap_or, if◌then◌else◌}
+use Rattle.std.specs.Prelude.{Bool, Option, ◌==◌, ◌&&◌, ◌||◌, nat_lt, is_some, Contains, slice_index_or, unwrap_or, if◌then◌else◌}
 use Rattle.std.proofs.lemmas.Bool.{cases_Bool, false≢true, and_parts, eqb-true, ltb-true, ltb-false}
 use Rattle.flash_base.specs.Lists.{Each}
 use Rattle.flash_plan.specs.Outcomes.{same_outcome}
@@ -189,10 +189,6 @@ with_other u n s slots e = rw e refl
 
 with_own : (u n : ℕ) (s : Slot) (slots : ℕ → Slot) → (n == u) ≡ true → with_slot u s slots n ≡ s
 with_own u n s slots e = rw e refl
-
-is_none_of : (o : Option Outcome) → is_none o ≡ true → o ≡ None
-is_none_of None e = refl
-is_none_of (Some x) e = absurd (false≢true e)
 
 -- ------ an event
 module _ (rules : LinkRules) (P : List UnitPlan) (c : Core) (accepted : IsAccepted P) where
