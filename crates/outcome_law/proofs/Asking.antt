@@ -287,32 +287,11 @@ module _ (tester t : ℕ) (bytes : List ℕ) (l : Link) (v w : Vehicle) (c : IsC
         moved (inl e) = rw e (append-nil (Y ++ (Reply one.body ∷ [])))
         moved (inr e) = rw e (ap (λ (ws : List Spoken). ws ++ (Reply one.body ∷ [])) (append-nil Y))
 
-    let_holds : (k : ℕ) → HoldsAtMost tester a k v.gateway → HoldsAtMost tester a k let_out
-    let_holds k (inl none) = inl (held_filter tester a (λ h. not (waits h)) v.gateway.held ∙ ap (filter (λ h. not (waits h))) none)
-    let_holds k (inr lone) = go (cases_Bool (waits lone.one))
-      where
-        filtered : held_of a let_out.held ≡ filter (λ h. not (waits h)) (lone.one ∷ [])
-        filtered = held_filter tester a (λ h. not (waits h)) v.gateway.held ∙ ap (filter (λ h. not (waits h))) lone.held
-
-        dropped : waits lone.one ≡ true → filter (λ h. not (waits h)) (lone.one ∷ []) ≡ []
-        dropped e = rw e refl
-
-        stayed : waits lone.one ≡ false → filter (λ h. not (waits h)) (lone.one ∷ []) ≡ lone.one ∷ []
-        stayed e = rw e refl
-
-        go : (waits lone.one ≡ true) ⊎ (waits lone.one ≡ false) → HoldsAtMost tester a k let_out
-        go (inl e) = inl (filtered ∙ dropped e)
-        go (inr e) = inr (record { one = lone.one; held = filtered ∙ stayed e; service = lone.service; later = lone.later })
-
   -- ------ another unit
   answered_alike : (a : ℕ) (frame : List ℕ) → IsWhole frame → words_in tester a (stream_of frame).frames ≡ [] → Alike tester a l.rest v.gateway (answered frame v.gateway.held)
   answered_alike a frame wf none =
       let x = alike_ready tester a l.rest v.gateway frame c.ready wf none in
       record { ready = x.ready; later = refl; held = refl; order = λ from. refl; whole = x.whole; tick = refl }
-
-  alike_holds : (a k : ℕ) (g g2 : Gateway) → Alike tester a l.rest g g2 → HoldsAtMost tester a k g → HoldsAtMost tester a k g2
-  alike_holds a k g g2 x (inl none) = inl (x.held ∙ none)
-  alike_holds a k g g2 x (inr lone) = inr (record { one = lone.one; held = x.held ∙ lone.held; service = lone.service; later = x.later ∙ lone.later })
 
   -- ------ what another unit keeps
   let_come : (a : ℕ) (inbox : List (ℕ × Spoken)) → come tester a inbox l.rest let_out ≡ [] → come tester a inbox l.rest v.gateway ≡ []
@@ -583,9 +562,6 @@ module _ (tester : ℕ) (plan : UnitPlan) (talk : Talk) (l : Link) (v w first : 
       | inl e ↦ inl (let here : new.counts.late ≡ one_more was = is ∙ ap (λ (b : Bool). raise_if b was) e in omega (arith, grows, here))
       | inr e ↦ inr (on e)
     ]
-
-    no_held_now : (h : HeardNow) → SaidIt tester plan.address asked l v w c up l.inbox nothing h → {T : Type 0} → (one : HeldAnswer) → held_of plan.address w.gateway.held ≡ one ∷ [] → T
-    no_held_now h it one e = absurd (cons_nil one [] (sym e ∙ it.held))
 
     obeys_known : (h : HeardNow) → Obeys old asked v.gateway.tick h.replies new → Known f new
     obeys_known h o =

@@ -1,6 +1,6 @@
 -- Each recorded outcome has its cause.
 use Rattle.std.proofs.Common.{◌≡◌, ◌⊎◌, inl, inr, ℕ, zero, suc, ◌+◌, ◌<◌, ◌≤◌, true, false, List, [], ◌∷◌, length, Some, None, refl, sym, ◌∙◌, ap, subst, arith}
-use Rattle.std.specs.Prelude.{Bool, Option, ◌==◌, ◌&&◌, ◌||◌, nat_lt, is_some, is_none, Contains, slice_index_or, unwrap_or, if◌then◌else◌}
+use Rattle.std.specs.Prelude.{Bool, Option, ◌==◌, ◌&&◌, ◌||◌, nat_lt, is_some, Contains, slice_index_or, unwrap_or, if◌then◌else◌}
 use Rattle.std.proofs.lemmas.Bool.{cases_Bool, false≢true, and_parts, eqb-true, ltb-true, ltb-false}
 use Rattle.flash_base.specs.Lists.{Each}
 use Rattle.flash_plan.specs.Outcomes.{same_outcome}
@@ -22,10 +22,9 @@ use Rattle.bay_core.specs.Legal.{is_allowed, is_end, is_stop, is_memory, is_bloc
 use Rattle.bay_core.specs.declared.event.Event.{Event}
 use Rattle.bay_core.specs.declared.event.Event.TheVariants.{Claimed, Began, Sent, Collected, Tended, Completed, DiskFailed, Ended}
 use Rattle.outcome_law.proofs.Growing.{VehicleGrows, rose_then}
-use Rattle.outcome_law.specs.LinkCounting.{IsLostBy, IsPhaseCounted, IsLinkCounted}
+use Rattle.outcome_law.specs.LinkCounting.{IsPhaseCounted, IsLinkCounted}
 use Rattle.outcome_law.specs.OutcomeCounting.{Rests, IsStopCounted, StopCounted}
 use Rattle.outcome_law.specs.Outcomes.{IsBlockedBy}
-use Rattle.outcome_law.specs.Rising.{Rose}
 
 -- ------ outcomes that compare as equal are
 same_is : (a b : Outcome) → same_outcome a b ≡ true → a ≡ b
@@ -190,10 +189,6 @@ with_other u n s slots e = rw e refl
 
 with_own : (u n : ℕ) (s : Slot) (slots : ℕ → Slot) → (n == u) ≡ true → with_slot u s slots n ≡ s
 with_own u n s slots e = rw e refl
-
-is_none_of : (o : Option Outcome) → is_none o ≡ true → o ≡ None
-is_none_of None e = refl
-is_none_of (Some x) e = absurd (false≢true e)
 
 -- ------ an event
 module _ (rules : LinkRules) (P : List UnitPlan) (c : Core) (accepted : IsAccepted P) where

@@ -23,7 +23,6 @@ use Rattle.unit_model.specs.declared.reply.Due.{Due}
 use Rattle.unit_model.specs.declared.reply.Due.TheVariants.{At, Held}
 use Rattle.unit_model.specs.declared.reply.UnitReply.{UnitReply}
 use Rattle.run_model.proofs.Hearing.{found_address}
-use Rattle.run_model.specs.States.{SameButCounts}
 use Rattle.outcome_law.specs.Counting.{SameMake, Kept, KeptIn}
 use Rattle.outcome_law.specs.Rising.{RoseBy, Grows, CountsGrow}
 
@@ -86,9 +85,6 @@ nacked_up code c = record { refused = λ n. up_same _; odd = up_same _; failed =
 -- a count that rose, and then did not fall
 pub rose_then : (n a b c : ℕ) → RoseBy n a b → Grows b c → RoseBy n a c
 rose_then n a b c f g = omega (arith, f, g)
-
-pub then_rose : (n a b c : ℕ) → Grows a b → RoseBy n b c → RoseBy n a c
-then_rose n a b c f g = omega (arith, f, g)
 
 -- ------ a unit
 abbrev KeptCounts : ControlUnit → ControlUnit × List ℕ → Type 0
@@ -171,9 +167,6 @@ make_then u w x f g = frame u x (g.idents ∙ f.idents) (g.key ∙ f.key) (g.che
 
 pub make_is : (u w x : ControlUnit) → x ≡ w → SameMake u w → SameMake u x
 make_is u w x is m = subst (λ (y : ControlUnit). SameMake u y) (sym is) m
-
-pub make_counts : (u w : ControlUnit) → SameButCounts u w → SameMake u w
-make_counts u w same = frame u w (λ i. (same.same i).idents) (λ i. (same.same i).key) (λ i. (same.same i).check) (λ i. (same.same i).block) (λ i. (same.same i).seed) (λ a i. is_some (byte_at (same.same i).memory a))
 
 pub fill_domain : (at n x : ℕ) (m : ByteMap) (a : ℕ) → is_some (byte_at (fill at n x m) a) ≡ is_some (byte_at m a)
 fill_domain at n x [] a = refl

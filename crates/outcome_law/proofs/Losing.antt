@@ -162,13 +162,6 @@ waiting_open Fresh e = absurd (false≢true e)
 waiting_open Up e = refl
 waiting_open (Denied code) e = absurd (false≢true e)
 
-up_not_waiting : (p : Phase) → is_up p ≡ true → is_waiting p ≡ false
-up_not_waiting Down e = refl
-up_not_waiting Fresh e = refl
-up_not_waiting Waits e = absurd (false≢true e)
-up_not_waiting Up e = refl
-up_not_waiting (Denied code) e = refl
-
 end_phase : (bad : Option Bad) (m : Link) → ((see_end bad m).phase ≡ m.phase) ⊎ ((see_end bad m).phase ≡ Down)
 end_phase None m = inl refl
 end_phase (Some bad) m = elim (cases_Bool (is_open m.phase)) [ inl e ↦ rw e (inr refl) | inr e ↦ rw e (inl refl) ]
@@ -265,9 +258,6 @@ module _ (rules : LinkRules) (P : List UnitPlan) (piece : List ℕ) (l : Link) (
     ]
   ]
     where
-      still_live : is_live (hear_piece rules.tester (addresses_of P) piece l).phase ≡ true
-      still_live = open_live _ (waiting_open _ waiting)
-
       life : (stream_of (l.rest ++ piece)).bad ≡ None
       life = (piece_lives rules.tester (addresses_of P) piece l opened (open_live _ (waiting_open _ waiting))).0
 

@@ -1,8 +1,8 @@
 -- The laws of recorded outcomes, over every legal list of events.
-use Rattle.std.proofs.Common.{◌≡◌, inl, inr, ℕ, ◌+◌, ◌<◌, true, false, List, [], ◌∷◌, Some, None, refl, sym, ap, subst, arith}
-use Rattle.std.specs.Prelude.{Bool, Option, ◌||◌, is_some, MatchOption, unwrap_or}
+use Rattle.std.proofs.Common.{◌≡◌, inl, inr, ℕ, ◌+◌, true, false, List, [], ◌∷◌, Some, None, refl, sym, ap, subst, arith}
+use Rattle.std.specs.Prelude.{Bool, Option, ◌||◌, is_some, unwrap_or}
 use Rattle.std.proofs.lemmas.Bool.{cases_Bool, false≢true, both_ways, and_parts}
-use Rattle.flash_plan.specs.Plan.{IsAccepted, plan_of, count_of}
+use Rattle.flash_plan.specs.Plan.{IsAccepted, plan_of}
 use Rattle.flash_plan.specs.declared.outcome.Entry.{Entry}
 use Rattle.flash_plan.specs.declared.outcome.Entry.TheVariants as entry
 use Rattle.flash_plan.specs.declared.outcome.Outcome.{Outcome}
@@ -14,7 +14,7 @@ use Rattle.unit_model.specs.Vehicle.{Vehicle, unit_at}
 use Rattle.run_model.specs.Matching.{IsMatching}
 use Rattle.run_model.specs.Troubles.{IsUnitCalm, IsVehicleCalm}
 use Rattle.bay_core.proofs.OneStep.{step_law, core_law}
-use Rattle.bay_core.specs.Core.{Core, core_start, core_after, core_of, is_disk_failure}
+use Rattle.bay_core.specs.Core.{Core, core_start, core_after, core_of}
 use Rattle.bay_core.specs.Joint.{IsJoint}
 use Rattle.bay_core.specs.Law.{State, MovesAll}
 use Rattle.bay_core.specs.Legal.{is_allowed, is_legal}
@@ -27,9 +27,9 @@ use Rattle.outcome_law.proofs.Runs.{start as units_start, end_cause, counted_run
 use Rattle.outcome_law.proofs.Steps.{moves_grow}
 use Rattle.outcome_law.specs.Causes.{IsCaused}
 use Rattle.outcome_law.specs.Law.{IsRun, last_state, IsCalmUnit}
-use Rattle.outcome_law.specs.LinkCounting.{is_fault, fault_of, faults_of, IsLostBy, IsLinkCounted}
+use Rattle.outcome_law.specs.LinkCounting.{is_fault, fault_of, faults_of}
 use Rattle.outcome_law.specs.OutcomeCounting.{Rests, IsStopCounted, StopCounted, AreOutcomesCounted, OutcomeCountingLaw, StartLaw, CountedLaw}
-use Rattle.outcome_law.specs.Outcomes.{IsBlockedBy, IsOutcomeCaused, OutcomeLaw, IsUntroubled, MatchesAt, IsOfRun, RecordedLaw, UntroubledLaw}
+use Rattle.outcome_law.specs.Outcomes.{IsOutcomeCaused, OutcomeLaw, IsUntroubled, MatchesAt, IsOfRun, RecordedLaw, UntroubledLaw}
 
 -- ------ one event
 pub outcome_counting_law : OutcomeCountingLaw

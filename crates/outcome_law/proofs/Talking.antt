@@ -25,7 +25,7 @@ use Rattle.bay_core.specs.Joint.{IsTalk}
 use Rattle.outcome_law.proofs.Fair.{IsFair, IsFairEnd, IsFairNext, fair}
 use Rattle.outcome_law.proofs.Growing.{leaves_made}
 use Rattle.outcome_law.specs.Causes.{IsCaused, IsCausedBy}
-use Rattle.outcome_law.specs.Counting.{SameMake, Kept, KeptIn, Takes, TakesIn, IsIdentPlace, IsEndCaused, BusyBy, IsTalkCounted, IsCounted, IsHeardCounted, IsMissedCounted, IsAwaitCounted}
+use Rattle.outcome_law.specs.Counting.{SameMake, Kept, KeptIn, Takes, TakesIn, IsIdentPlace, IsEndCaused, IsTalkCounted, IsCounted, IsHeardCounted, IsMissedCounted, IsAwaitCounted}
 use Rattle.outcome_law.specs.Rising.{RoseBy}
 
 -- ------ what a place asks of the unit stays where lock, key, block number and addresses stay
@@ -129,11 +129,6 @@ takes_end (Some u) outcome = tt
 -- a conversation that ends with its cause
 pub ended_counted : (plan : UnitPlan) (begun : Bool) (first now : Option ControlUnit) (t : Talk) (outcome : Outcome) → IsCaused plan begun first now outcome → IsTalkCounted plan begun first now t → IsTalkCounted plan begun first now (end_talk outcome t)
 ended_counted plan begun first now t outcome cause is = record { ident = tt; ended = cause; busy = is.busy; takes = λ idle. takes_end now outcome; left = λ e. absurd (false≢true (sym e)) }
-
-busy_none : (first now : Option ControlUnit) → KeptIn first now → BusyBy 0 first now
-busy_none None now kept = refl
-busy_none (Some u) None kept = absurd kept
-busy_none (Some u) (Some w) kept = kept.counts.busy
 
 -- ------ the word in front
 module _ (plan : UnitPlan) (ok : IsAcceptedUnit plan) (begun recorded : Bool) (tick : ℕ) (t : Talk) (sane : IsTalk plan recorded t) (awaiting : t.awaiting ≡ true) (held : List HeldAnswer) where

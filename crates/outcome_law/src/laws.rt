@@ -14,7 +14,7 @@ ghost use Rattle.outcome_law.specs.Outcomes.{OutcomeLaw, RecordedLaw, Untroubled
 /// What the counts of the vehicle say of each conversation and of the link is kept by each allowed event, beside the joint
 /// state: of a unit whose answer is awaited, what its counts rose by since the start of the run explains what it has on the
 /// way, and when it comes; losses of the link are covered by calls that failed, bytes that were garbled and activations that
-/// were not answered in time.
+/// were not answered in time. It holds at the start of a run, and says the cause of each outcome.
 pub fn each_event_keeps_the_counting()
     ensures start { StartLaw }
     ensures units { CountingLaw }
