@@ -23,4 +23,6 @@ pub use built::{Built, TaskChecks, TaskOwn};
 pub use fault::{BuildFault, Cause};
 
 #[cfg(test)]
+mod test_words;
+#[cfg(test)]
 mod tests;

@@ -1,212 +1,9 @@
-use crate::{BuildFault, Built, Cause, build};
-use ecu_mem::Ident;
-use flash_base::{Bytes, Files, Items, Text};
-use flash_plan::{UnitPlan, What};
-use flash_shelf::{MemoryShelf, ShelfFault};
+use crate::build;
+use crate::test_words::{refused, told};
+use flash_base::{Bytes, Files, Text};
+use flash_shelf::MemoryShelf;
 use std::alloc::Global;
 use std::test::Fail;
-
-fn digits(alloc: Global, bytes: &[u8]) -> Result<String, Fail> {
-    let mut text = String::new(alloc);
-    for byte in bytes {
-        text = format!(in alloc; "{text}{byte:02x}")?;
-    }
-    Ok(text)
-}
-
-fn place(alloc: Global, places: &[u64]) -> Result<String, Fail> {
-    let mut text = String::new(alloc);
-    for place in places {
-        text = format!(in alloc; "{text}/{place}")?;
-    }
-    if places.is_empty() {
-        return Ok(String::from_str(alloc, "/")?);
-    }
-    Ok(text)
-}
-
-fn amount(what: What) -> &'static str {
-    match what {
-        What::Units => "units",
-        What::Segments => "segments",
-        What::Bytes => "bytes",
-        What::Total => "total",
-        What::Idents => "idents",
-    }
-}
-
-/// A refusal of the order in words.
-fn of_order(alloc: Global, cause: &Cause) -> Result<String, Fail> {
-    match cause {
-        Cause::BadField { task, field } => match task {
-            None => Ok(format!(in alloc; "bad field - {}", field.as_str())?),
-            Some(n) => Ok(format!(in alloc; "bad field {} {}", *n, field.as_str())?),
-        },
-        Cause::NoDid { task, name } => Ok(format!(in alloc;
-            "no did {} {}",
-            task.as_str(),
-            name.as_str()
-        )?),
-        Cause::TooMany { what } => Ok(format!(in alloc; "too many {}", amount(*what))?),
-        Cause::SameUnit { address } => Ok(format!(in alloc; "same unit {:04X}", *address)?),
-        _ => of_task(alloc, cause),
-    }
-}
-
-/// A refusal that has a task's name in words.
-fn of_task(alloc: Global, cause: &Cause) -> Result<String, Fail> {
-    let (word, name) = match cause {
-        Cause::NoCatalogue { task } => ("no catalogue", task),
-        Cause::NoSession { task } => ("no session", task),
-        Cause::EmptyRaw { task } => ("empty raw", task),
-        Cause::SameName { name } => ("same name", name),
-        Cause::UnknownAfter { name } => ("unknown after", name),
-        Cause::Cycle { name } => ("cycle", name),
-        Cause::TooWide { name } => ("too wide", name),
-        _ => return of_tree(alloc, cause),
-    };
-    Ok(format!(in alloc; "{word} {}", name.as_str())?)
-}
-
-/// A refusal of the catalogue's tree in words.
-fn of_tree(alloc: Global, cause: &Cause) -> Result<String, Fail> {
-    match cause {
-        Cause::NotJson => Ok(String::from_str(alloc, "not json")?),
-        Cause::NotTree { path } => {
-            let at = place(alloc, path.as_slice())?;
-            Ok(format!(in alloc; "not a tree {at}")?)
-        }
-        Cause::Missing { path, tag } => {
-            let at = place(alloc, path.as_slice())?;
-            Ok(format!(in alloc; "missing {at} {}", tag.as_str())?)
-        }
-        Cause::BadNumber { path } => {
-            let at = place(alloc, path.as_slice())?;
-            Ok(format!(in alloc; "bad number {at}")?)
-        }
-        _ => of_id(alloc, cause),
-    }
-}
-
-/// A refusal that has an ID in words.
-fn of_id(alloc: Global, cause: &Cause) -> Result<String, Fail> {
-    let (word, id) = match cause {
-        Cause::Twice { id } => ("twice", id),
-        Cause::Dangling { id } => ("dangling", id),
-        Cause::Compressed { id } => ("compressed", id),
-        Cause::UserDefined { id } => ("user defined", id),
-        Cause::BadText { id } => ("bad text", id),
-        Cause::NoSegment { id } => ("no segment", id),
-        _ => return of_lines(alloc, cause),
-    };
-    Ok(format!(in alloc; "{word} {}", id.as_str())?)
-}
-
-/// A refusal of record lines in words.
-fn of_lines(alloc: Global, cause: &Cause) -> Result<String, Fail> {
-    match cause {
-        Cause::BadLine { n } => Ok(format!(in alloc; "bad line {}", *n)?),
-        Cause::BadSum { n } => Ok(format!(in alloc; "bad sum {}", *n)?),
-        Cause::BadCount { said, seen } => Ok(format!(in alloc; "bad count {} {}", *said, *seen)?),
-        Cause::NoEnd => Ok(String::from_str(alloc, "no end")?),
-        Cause::AfterEnd { n } => Ok(format!(in alloc; "after end {}", *n)?),
-        Cause::Conflict { at } => Ok(format!(in alloc; "conflict {:010X}", *at)?),
-        _ => of_image(alloc, cause),
-    }
-}
-
-/// A refusal of a session's image in words.
-fn of_image(alloc: Global, cause: &Cause) -> Result<String, Fail> {
-    match cause {
-        Cause::BinarySize { id, said, seen } => {
-            Ok(format!(in alloc; "binary size {} {} {}", id.as_str(), *said, *seen)?)
-        }
-        Cause::Hole { segment, at } => Ok(format!(in alloc; "hole {} {:010X}", *segment, *at)?),
-        Cause::OutOfRange { segment } => Ok(format!(in alloc; "out of range {}", *segment)?),
-        Cause::Overlap { at } => Ok(format!(in alloc; "overlap {:010X}", *at)?),
-        Cause::ChecksumDiffers { name, said, got } => {
-            let said = digits(alloc, said.as_slice())?;
-            let got = digits(alloc, got.as_slice())?;
-            Ok(format!(in alloc; "checksum differs {} {said} {got}", name.as_str())?)
-        }
-        Cause::TooLarge => Ok(String::from_str(alloc, "too large")?),
-        _ => Ok(String::from_str(alloc, "another cause")?),
-    }
-}
-
-fn of_shelf(fault: &ShelfFault) -> &'static str {
-    match fault {
-        ShelfFault::Missing => "missing",
-        ShelfFault::TooLarge => "too large",
-        ShelfFault::Failed => "failed",
-        ShelfFault::NoMemory => "no memory",
-    }
-}
-
-fn refused(alloc: Global, fault: &BuildFault) -> Result<String, Fail> {
-    match fault {
-        BuildFault::Shelf { name, fault } => {
-            Ok(format!(in alloc; "shelf {} {}", name.as_str(), of_shelf(fault))?)
-        }
-        BuildFault::Input { name, cause } => {
-            let cause = of_order(alloc, cause)?;
-            Ok(format!(in alloc; "{} {cause}", name.as_str())?)
-        }
-        BuildFault::NoMemory => Ok(String::from_str(alloc, "no memory")?),
-    }
-}
-
-fn told_unit(alloc: Global, unit: &UnitPlan) -> Result<String, Fail> {
-    let mut text = format!(in alloc; "{} {:04X}", unit.name.as_str(), unit.address)?;
-    for segment in unit.segments.as_slice() {
-        let body = digits(alloc, segment.body.as_slice())?;
-        text = format!(in alloc; "{text} {:x}:{body}", segment.at)?;
-    }
-    for wanted in unit.idents.as_slice() {
-        text = format!(in alloc; "{text} {:04X}x{}", wanted.did, wanted.values.len())?;
-    }
-    for n in unit.after.as_slice() {
-        text = format!(in alloc; "{text} after {n}")?;
-    }
-    Ok(text)
-}
-
-fn told_own(alloc: Global, idents: &[Ident]) -> Result<String, Fail> {
-    let mut text = String::new(alloc);
-    for ident in idents {
-        text = format!(in alloc; "{text} own {}", ident.name.as_str())?;
-    }
-    Ok(text)
-}
-
-fn told_rest(alloc: Global, built: &Built) -> Result<String, Fail> {
-    let mut text = String::new(alloc);
-    for checks in built.checks.as_slice() {
-        for check in checks.checks.as_slice() {
-            text = format!(in alloc;
-                "{text}; {} {} {}",
-                checks.task,
-                check.name.as_str(),
-                check.done
-            )?;
-        }
-    }
-    for own in built.own.as_slice() {
-        let idents = told_own(alloc, own.own.as_slice())?;
-        text = format!(in alloc; "{text}; {}{idents}", own.task)?;
-    }
-    Ok(text)
-}
-
-fn told(alloc: Global, built: &Built) -> Result<String, Fail> {
-    let mut text = String::new(alloc);
-    for n in 0..built.plan.units() {
-        let unit = told_unit(alloc, built.plan.unit(n))?;
-        text = format!(in alloc; "{text}{unit}; ")?;
-    }
-    let rest = told_rest(alloc, built)?;
-    Ok(format!(in alloc; "{text}{rest}")?)
-}
 
 fn put(alloc: Global, files: &mut Files, name: &str, body: &str) -> Result<(), Fail> {
     let name = Text::from_str(alloc, name)?;
@@ -294,48 +91,80 @@ fn orders(rt: HostRuntime) -> Result<(), Fail> {
     Ok(())
 }
 
+/// The second of two tasks, what the first waits for, and the answer.
+struct Pair {
+    name: &'static str,
+    unit: u16,
+    after: &'static str,
+    first_after: &'static str,
+    wanted: &'static str,
+}
+
+const PAIRS: &[Pair] = &[
+    Pair {
+        name: "B",
+        unit: 0x1002,
+        after: r#","after":["A"]"#,
+        first_after: "",
+        wanted: "A 1001 1000:616263; B 1002 1000:616263 after 0; ; 0; 1",
+    },
+    Pair {
+        name: "A",
+        unit: 0x1002,
+        after: "",
+        first_after: "",
+        wanted: "o.json same name A",
+    },
+    Pair {
+        name: "B",
+        unit: 0x1001,
+        after: "",
+        first_after: "",
+        wanted: "o.json same unit 1001",
+    },
+    Pair {
+        name: "B",
+        unit: 0x1002,
+        after: r#","after":["C"]"#,
+        first_after: "",
+        wanted: "o.json unknown after B",
+    },
+    Pair {
+        name: "B",
+        unit: 0x1002,
+        after: r#","after":["A"]"#,
+        first_after: r#","after":["B"]"#,
+        wanted: "o.json cycle A",
+    },
+    Pair {
+        name: "B",
+        unit: 0x1002,
+        after: r#","after":["B"]"#,
+        first_after: "",
+        wanted: "o.json cycle B",
+    },
+];
+
+fn of_pair(alloc: Global, pair: &Pair) -> Result<String, Fail> {
+    let first = raw(alloc, "A", 0x1001, pair.first_after)?;
+    let second = raw(alloc, pair.name, pair.unit, pair.after)?;
+    let both = format!(in alloc; "{first},{second}")?;
+    let text = order(alloc, &both)?;
+    answer(alloc, &text, EMPTY, "")
+}
+
 #[test]
 fn names_and_barriers(rt: HostRuntime) -> Result<(), Fail> {
     let alloc = rt.alloc();
-    let table: [(&str, u16, &str, &str, &str); 6] = [
-        (
-            "B",
-            0x1002,
-            r#","after":["A"]"#,
-            "",
-            "A 1001 1000:616263; B 1002 1000:616263 after 0; ; 0; 1",
-        ),
-        ("A", 0x1002, "", "", "o.json same name A"),
-        ("B", 0x1001, "", "", "o.json same unit 1001"),
-        (
-            "B",
-            0x1002,
-            r#","after":["C"]"#,
-            "",
-            "o.json unknown after B",
-        ),
-        (
-            "B",
-            0x1002,
-            r#","after":["A"]"#,
-            r#","after":["B"]"#,
-            "o.json cycle A",
-        ),
-        ("B", 0x1002, r#","after":["B"]"#, "", "o.json cycle B"),
-    ];
-    for (name, unit, after, first_after, wanted) in table {
-        let first = raw(alloc, "A", 0x1001, first_after)?;
-        let second = raw(alloc, name, unit, after)?;
-        let both = format!(in alloc; "{first},{second}")?;
-        let text = order(alloc, &both)?;
-        let told = answer(alloc, &text, EMPTY, "")?;
-        assert_eq!(rt; told.as_str(), wanted);
+    for pair in PAIRS {
+        let told = of_pair(alloc, pair)?;
+        assert_eq!(rt; told.as_str(), pair.wanted);
     }
     Ok(())
 }
 
 /// So many tasks, whose file is there or is not.
-fn many(alloc: Global, count: u16, file: &str) -> Result<String, Fail> {
+fn order_of_many(alloc: Global, count: u16, file: &str) -> Result<String, Fail> {
     let mut tasks = String::new(alloc);
     for n in 0..count {
         let comma = if n == 0 { "" } else { "," };
@@ -346,46 +175,86 @@ fn many(alloc: Global, count: u16, file: &str) -> Result<String, Fail> {
     order(alloc, &tasks)
 }
 
+/// So many tasks with a file, a catalogue, and how the answer begins.
+struct Many {
+    count: u16,
+    file: &'static str,
+    catalogue: &'static str,
+    wanted: &'static str,
+}
+
+const COUNTS: &[Many] = &[
+    Many {
+        count: 64,
+        file: "a.bin",
+        catalogue: EMPTY,
+        wanted: "T0 0000 1000:616263; ",
+    },
+    Many {
+        count: 64,
+        file: "none",
+        catalogue: EMPTY,
+        wanted: "shelf none missing",
+    },
+    Many {
+        count: 65,
+        file: "none",
+        catalogue: EMPTY,
+        wanted: "o.json too many units",
+    },
+    Many {
+        count: 65,
+        file: "none",
+        catalogue: "{",
+        wanted: "cat.json not json",
+    },
+    Many {
+        count: 1001,
+        file: "none",
+        catalogue: EMPTY,
+        wanted: "o.json bad field - tasks",
+    },
+];
+
 #[test]
 fn how_many_tasks(rt: HostRuntime) -> Result<(), Fail> {
     let alloc = rt.alloc();
-    let table: [(u16, &str, &str, &str); 5] = [
-        (64, "a.bin", EMPTY, "T0 0000 1000:616263; "),
-        (64, "none", EMPTY, "shelf none missing"),
-        (65, "none", EMPTY, "o.json too many units"),
-        (65, "none", "{", "cat.json not json"),
-        (1001, "none", EMPTY, "o.json bad field - tasks"),
-    ];
-    for (count, file, catalogue, wanted) in table {
-        let text = many(alloc, count, file)?;
-        let told = answer(alloc, &text, catalogue, "")?;
-        assert!(rt; told.as_str().starts_with(wanted));
+    for row in COUNTS {
+        let text = order_of_many(alloc, row.count, row.file)?;
+        let told = answer(alloc, &text, row.catalogue, "")?;
+        assert!(rt; told.as_str().starts_with(row.wanted));
     }
     Ok(())
 }
 
+/// The answer of a task with a file over a shelf whose call with this number fails.
+fn failing(alloc: Global, call: u64) -> Result<String, Fail> {
+    let task = raw(alloc, "A", 0x1001, "")?;
+    let text = order(alloc, &task)?;
+    let mut files = Files::new(alloc);
+    put(alloc, &mut files, "o.json", &text)?;
+    put(alloc, &mut files, "cat.json", EMPTY)?;
+    put(alloc, &mut files, "a.bin", "abc")?;
+    let mut shelf = MemoryShelf::new(alloc, &files, &[call])?;
+    match build(alloc, &mut shelf, "o.json") {
+        Ok(built) => told(alloc, &built),
+        Err(fault) => refused(alloc, &fault),
+    }
+}
+
+const CALLS: &[(u64, &str)] = &[
+    (0, "shelf o.json failed"),
+    (1, "shelf cat.json failed"),
+    (2, "shelf a.bin failed"),
+    (3, "A 1001 1000:616263; ; 0"),
+];
+
 #[test]
 fn failing_reads(rt: HostRuntime) -> Result<(), Fail> {
     let alloc = rt.alloc();
-    let table: [(u64, &str); 4] = [
-        (0, "shelf o.json failed"),
-        (1, "shelf cat.json failed"),
-        (2, "shelf a.bin failed"),
-        (3, "A 1001 1000:616263; ; 0"),
-    ];
-    for (call, wanted) in table {
-        let task = raw(alloc, "A", 0x1001, "")?;
-        let text = order(alloc, &task)?;
-        let mut files = Files::new(alloc);
-        put(alloc, &mut files, "o.json", &text)?;
-        put(alloc, &mut files, "cat.json", EMPTY)?;
-        put(alloc, &mut files, "a.bin", "abc")?;
-        let mut shelf = MemoryShelf::new(alloc, &files, &[call])?;
-        let told = match build(alloc, &mut shelf, "o.json") {
-            Ok(built) => told(alloc, &built)?,
-            Err(fault) => refused(alloc, &fault)?,
-        };
-        assert_eq!(rt; told.as_str(), wanted);
+    for (call, wanted) in CALLS {
+        let told = failing(alloc, *call)?;
+        assert_eq!(rt; told.as_str(), *wanted);
     }
     Ok(())
 }
@@ -405,29 +274,30 @@ const NO_BLOCK: &str =
 const TWO_S1: &str =
     r#"{"tag":"ECU-MEM","kids":[{"tag":"MEM","kids":[{"tag":"SESSIONS","kids":[{"tag":"SESSION","attrs":{"ID":"S1"},"kids":[{"tag":"SHORT-NAME"}]},{"tag":"SESSION","attrs":{"ID":"S1"},"kids":[{"tag":"SHORT-NAME"}]}]}]}]}"#;
 
+const CATALOGUES: &[(&str, &str)] = &[
+    ("{", "cat.json not json"),
+    (r#"{"kids":[]}"#, "cat.json not a tree /"),
+    (
+        r#"{"tag":"ECU-MEM","kids":[{"tag":"X"},{}]}"#,
+        "cat.json not a tree /1",
+    ),
+    (r#"{"tag":"ECU-MEM"}"#, "cat.json missing / MEM"),
+    (BAD_START, "cat.json bad number /0/0/0/2/0/0"),
+    (TWO_S1, "cat.json twice S1"),
+    (NO_BLOCK, "cat.json dangling X"),
+    (EMPTY, "o.json no session A"),
+];
+
 #[test]
 fn catalogues(rt: HostRuntime) -> Result<(), Fail> {
     let alloc = rt.alloc();
-    let table: [(&str, &str); 8] = [
-        ("{", "cat.json not json"),
-        (r#"{"kids":[]}"#, "cat.json not a tree /"),
-        (
-            r#"{"tag":"ECU-MEM","kids":[{"tag":"X"},{}]}"#,
-            "cat.json not a tree /1",
-        ),
-        (r#"{"tag":"ECU-MEM"}"#, "cat.json missing / MEM"),
-        (BAD_START, "cat.json bad number /0/0/0/2/0/0"),
-        (TWO_S1, "cat.json twice S1"),
-        (NO_BLOCK, "cat.json dangling X"),
-        (EMPTY, "o.json no session A"),
-    ];
-    for (catalogue, wanted) in table {
-        let text = order(
-            alloc,
-            r#"{"name":"A","unit":"1001","check":"0202","session":"S"}"#,
-        )?;
+    let text = order(
+        alloc,
+        r#"{"name":"A","unit":"1001","check":"0202","session":"S"}"#,
+    )?;
+    for (catalogue, wanted) in CATALOGUES {
         let told = answer(alloc, &text, catalogue, "")?;
-        assert_eq!(rt; told.as_str(), wanted);
+        assert_eq!(rt; told.as_str(), *wanted);
     }
     Ok(())
 }
@@ -471,166 +341,56 @@ const FOUR: &str =
 /// Two bytes at 1000.
 const TWO: &str = ":021000000102EB\n:00000001FF\n";
 
-/// One task with the session S of one datablock, in words.
-fn one_block(
-    alloc: Global,
-    more: &str,
-    session: &str,
-    parts: &str,
-    format: &str,
-    source: &str,
-    data: &str,
-) -> Result<String, Fail> {
+/// One task with the session S of the datablock D1: further members of the task, parts of the session and of
+/// the datablock, the flash data with their file, and the answer.
+struct Row {
+    more: &'static str,
+    session: &'static str,
+    parts: &'static str,
+    format: &'static str,
+    source: &'static str,
+    data: &'static str,
+    wanted: &'static str,
+}
+
+fn of_row(alloc: Global, row: &Row) -> Result<String, Fail> {
     let task = format!(in alloc;
-        "{{\"name\":\"A\",\"unit\":\"1001\",\"check\":\"0202\",\"session\":\"S\"{more}}}"
+        "{{\"name\":\"A\",\"unit\":\"1001\",\"check\":\"0202\",\"session\":\"S\"{}}}",
+        row.more
     )?;
     let text = order(alloc, &task)?;
-    let session = format!(in alloc; "{ONE}{session}")?;
-    let blocks = block(alloc, "D1", parts)?;
-    let flash = flash(alloc, format, source)?;
+    let session = format!(in alloc; "{ONE}{}", row.session)?;
+    let blocks = block(alloc, "D1", row.parts)?;
+    let flash = flash(alloc, row.format, row.source)?;
     let tree = catalogue(alloc, &session, &blocks, &flash)?;
-    answer(alloc, &text, &tree, data)
+    answer(alloc, &text, &tree, row.data)
 }
 
-#[test]
-fn records(rt: HostRuntime) -> Result<(), Fail> {
-    let alloc = rt.alloc();
-    let inside = r#"{"tag":"DATA","text":":021000000102EB"}"#;
-    let table: [(&str, &str, &str, &str); 9] = [
-        ("INTEL-HEX", FILE, TWO, "A 1001 1000:0102; ; 0"),
-        (
-            "INTEL-HEX",
-            FILE,
-            ":020000021000EC\n:02FFFF000102FD\n",
-            "u.hex no end",
-        ),
-        ("INTEL-HEX", inside, "", "cat.json no end"),
-        ("INTEL-HEX", FILE, "\n:0", "u.hex bad line 2"),
-        ("INTEL-HEX", FILE, ":021000000102EC\n", "u.hex bad sum 1"),
-        (
-            "INTEL-HEX",
-            FILE,
-            ":00000001FF\n:00000001FF\n",
-            "u.hex after end 2",
-        ),
-        (
-            "INTEL-HEX",
-            FILE,
-            ":0110000001EE\n:0110000002ED\n:00000001FF\n",
-            "u.hex conflict 0000001000",
-        ),
-        (
-            "MOTOROLA-S",
-            FILE,
-            "S107100001020304DE\nS5030002FA\nS9030000FC\n",
-            "u.hex bad count 2 1",
-        ),
-        (
-            "MOTOROLA-S",
-            FILE,
-            "S107100001020304DE\nS9030000FC\n",
-            "A 1001 1000:01020304; ; 0",
-        ),
-    ];
-    for (format, source, data, wanted) in table {
-        let told = one_block(alloc, "", "", "", format, source, data)?;
-        assert_eq!(rt; told.as_str(), wanted);
-    }
-    Ok(())
-}
+/// Data inside the catalogue.
+const INSIDE: &str = r#"{"tag":"DATA","text":":021000000102EB"}"#;
 
-#[test]
-fn flash_data(rt: HostRuntime) -> Result<(), Fail> {
-    let alloc = rt.alloc();
-    let method =
-        r#"{"tag":"ENCRYPT-COMPRESS-METHOD","text":"01"},{"tag":"DATAFILE","text":"u.hex"}"#;
-    let gone = r#"{"tag":"ENCRYPT-COMPRESS-METHOD","text":"01"},{"tag":"DATAFILE","text":"v.hex"}"#;
-    let inside = r#"{"tag":"DATA","text":"0102030"}"#;
-    let large =
-        r#",{"tag":"SEGMENTS","kids":[{"tag":"SEGMENT","kids":[{"tag":"SOURCE-START-ADDRESS","text":"0"},{"tag":"UNCOMPRESSED-SIZE","text":"16777217"}]}]}"#;
-    let table: [(&str, &str, &str, &str, &str, &str); 9] = [
-        ("", FOUR, "INTEL-HEX", method, "", "cat.json compressed F"),
-        ("", FOUR, "INTEL-HEX", gone, "", "shelf v.hex missing"),
-        (
-            "",
-            FOUR,
-            "USER-DEFINED",
-            FILE,
-            "",
-            "cat.json user defined F",
-        ),
-        ("", FOUR, "BINARY", inside, "", "cat.json bad text F"),
-        ("", "", "BINARY", FILE, "abcd", "cat.json no segment D1"),
-        (
-            "",
-            FOUR,
-            "BINARY",
-            FILE,
-            "abcde",
-            "cat.json binary size D1 4 5",
-        ),
-        (
-            "",
-            FOUR,
-            "INTEL-HEX",
-            FILE,
-            TWO,
-            "cat.json hole 0 0000001002",
-        ),
-        (
-            r#","fill":"FF""#,
-            FOUR,
-            "INTEL-HEX",
-            FILE,
-            TWO,
-            "A 1001 1000:0102ffff; ; 0",
-        ),
-        (
-            r#","fill":"FF""#,
-            large,
-            "INTEL-HEX",
-            FILE,
-            TWO,
-            "cat.json too large",
-        ),
-    ];
-    for (more, parts, format, source, data, wanted) in table {
-        let told = one_block(alloc, more, "", parts, format, source, data)?;
-        assert_eq!(rt; told.as_str(), wanted);
-    }
-    Ok(())
-}
+const ODD_INSIDE: &str = r#"{"tag":"DATA","text":"0102030"}"#;
 
-/// A checksum of four bytes from 1000 on.
-fn checksum(alloc: Global, alg: &str, said: &str) -> Result<String, Fail> {
-    Ok(format!(in alloc;
-        ",{{\"tag\":\"CHECKSUMS\",\"kids\":[{{\"tag\":\"CHECKSUM\",\"kids\":[{{\"tag\":\"SHORT-NAME\",\"text\":\"C1\"}},{{\"tag\":\"SOURCE-START-ADDRESS\",\"text\":\"1000\"}},{{\"tag\":\"UNCOMPRESSED-SIZE\",\"text\":\"4\"}},{{\"tag\":\"CHECKSUM-ALG\",\"text\":\"{alg}\"}},{{\"tag\":\"CHECKSUM-RESULT\",\"text\":\"{said}\"}}]}}]}}"
-    )?)
-}
+const METHOD: &str =
+    r#"{"tag":"ENCRYPT-COMPRESS-METHOD","text":"01"},{"tag":"DATAFILE","text":"u.hex"}"#;
 
-#[test]
-fn checksums(rt: HostRuntime) -> Result<(), Fail> {
-    let alloc = rt.alloc();
-    let table = [
-        ("SUM-16", "000A", "A 1001 1000:01020304; ; 0 C1 true; 0"),
-        ("SUM-16", "000B", "cat.json checksum differs C1 000b 000a"),
-        ("CRC32", "00", "A 1001 1000:01020304; ; 0 C1 false; 0"),
-    ];
-    for (alg, said, wanted) in table {
-        let checks = checksum(alloc, alg, said)?;
-        let told = one_block(
-            alloc,
-            "",
-            &checks,
-            "",
-            "MOTOROLA-S",
-            FILE,
-            "S107100001020304DE\nS9030000FC\n",
-        )?;
-        assert_eq!(rt; told.as_str(), wanted);
-    }
-    Ok(())
-}
+/// Data in a file that is not there.
+const GONE: &str =
+    r#"{"tag":"ENCRYPT-COMPRESS-METHOD","text":"01"},{"tag":"DATAFILE","text":"v.hex"}"#;
+
+/// A segment of more bytes than a session may have.
+const LARGE: &str =
+    r#",{"tag":"SEGMENTS","kids":[{"tag":"SEGMENT","kids":[{"tag":"SOURCE-START-ADDRESS","text":"0"},{"tag":"UNCOMPRESSED-SIZE","text":"16777217"}]}]}"#;
+
+/// Checksums of four bytes from 1000 on.
+const SUM_10: &str =
+    r#",{"tag":"CHECKSUMS","kids":[{"tag":"CHECKSUM","kids":[{"tag":"SHORT-NAME","text":"C1"},{"tag":"SOURCE-START-ADDRESS","text":"1000"},{"tag":"UNCOMPRESSED-SIZE","text":"4"},{"tag":"CHECKSUM-ALG","text":"SUM-16"},{"tag":"CHECKSUM-RESULT","text":"000A"}]}]}"#;
+
+const SUM_11: &str =
+    r#",{"tag":"CHECKSUMS","kids":[{"tag":"CHECKSUM","kids":[{"tag":"SHORT-NAME","text":"C1"},{"tag":"SOURCE-START-ADDRESS","text":"1000"},{"tag":"UNCOMPRESSED-SIZE","text":"4"},{"tag":"CHECKSUM-ALG","text":"SUM-16"},{"tag":"CHECKSUM-RESULT","text":"000B"}]}]}"#;
+
+const CRC: &str =
+    r#",{"tag":"CHECKSUMS","kids":[{"tag":"CHECKSUM","kids":[{"tag":"SHORT-NAME","text":"C1"},{"tag":"SOURCE-START-ADDRESS","text":"1000"},{"tag":"UNCOMPRESSED-SIZE","text":"4"},{"tag":"CHECKSUM-ALG","text":"CRC32"},{"tag":"CHECKSUM-RESULT","text":"00"}]}]}"#;
 
 /// The expected ident SW with two values.
 const EXPECTED: &str =
@@ -640,57 +400,289 @@ const EXPECTED: &str =
 const PARTS: &str =
     r#",{"tag":"SEGMENTS","kids":[{"tag":"SEGMENT","kids":[{"tag":"SOURCE-START-ADDRESS","text":"1001"},{"tag":"SOURCE-END-ADDRESS","text":"1001"}]},{"tag":"SEGMENT","kids":[{"tag":"SOURCE-START-ADDRESS","text":"1000"},{"tag":"UNCOMPRESSED-SIZE","text":"1"}]}]},{"tag":"TARGET-ADDR-OFFSET","kids":[{"tag":"POSITIVE-OFFSET","text":"100"}]},{"tag":"OWN-IDENTS","kids":[{"tag":"OWN-IDENT","kids":[{"tag":"SHORT-NAME","text":"HW"},{"tag":"IDENT-VALUE","text":"7"}]}]}"#;
 
+/// An offset below the source.
+const BELOW: &str = r#",{"tag":"TARGET-ADDR-OFFSET","kids":[{"tag":"NEG-OFFSET","text":"1001"}]}"#;
+
+/// Four bytes at 1000 as S-records.
+const FOUR_S: &str = "S107100001020304DE\nS9030000FC\n";
+
+const SESSIONS: &[Row] = &[
+    Row {
+        more: "",
+        session: "",
+        parts: "",
+        format: "INTEL-HEX",
+        source: FILE,
+        data: TWO,
+        wanted: "A 1001 1000:0102; ; 0",
+    },
+    Row {
+        more: "",
+        session: "",
+        parts: "",
+        format: "INTEL-HEX",
+        source: FILE,
+        data: ":020000021000EC\n:02FFFF000102FD\n",
+        wanted: "u.hex no end",
+    },
+    Row {
+        more: "",
+        session: "",
+        parts: "",
+        format: "INTEL-HEX",
+        source: INSIDE,
+        data: "",
+        wanted: "cat.json no end",
+    },
+    Row {
+        more: "",
+        session: "",
+        parts: "",
+        format: "INTEL-HEX",
+        source: FILE,
+        data: "\n:0",
+        wanted: "u.hex bad line 2",
+    },
+    Row {
+        more: "",
+        session: "",
+        parts: "",
+        format: "INTEL-HEX",
+        source: FILE,
+        data: ":021000000102EC\n",
+        wanted: "u.hex bad sum 1",
+    },
+    Row {
+        more: "",
+        session: "",
+        parts: "",
+        format: "INTEL-HEX",
+        source: FILE,
+        data: ":00000001FF\n:00000001FF\n",
+        wanted: "u.hex after end 2",
+    },
+    Row {
+        more: "",
+        session: "",
+        parts: "",
+        format: "INTEL-HEX",
+        source: FILE,
+        data: ":0110000001EE\n:0110000002ED\n:00000001FF\n",
+        wanted: "u.hex conflict 0000001000",
+    },
+    Row {
+        more: "",
+        session: "",
+        parts: "",
+        format: "MOTOROLA-S",
+        source: FILE,
+        data: "S107100001020304DE\nS5030002FA\nS9030000FC\n",
+        wanted: "u.hex bad count 2 1",
+    },
+    Row {
+        more: "",
+        session: "",
+        parts: "",
+        format: "MOTOROLA-S",
+        source: FILE,
+        data: FOUR_S,
+        wanted: "A 1001 1000:01020304; ; 0",
+    },
+    Row {
+        more: "",
+        session: "",
+        parts: FOUR,
+        format: "INTEL-HEX",
+        source: METHOD,
+        data: "",
+        wanted: "cat.json compressed F",
+    },
+    Row {
+        more: "",
+        session: "",
+        parts: FOUR,
+        format: "INTEL-HEX",
+        source: GONE,
+        data: "",
+        wanted: "shelf v.hex missing",
+    },
+    Row {
+        more: "",
+        session: "",
+        parts: FOUR,
+        format: "USER-DEFINED",
+        source: FILE,
+        data: "",
+        wanted: "cat.json user defined F",
+    },
+    Row {
+        more: "",
+        session: "",
+        parts: FOUR,
+        format: "BINARY",
+        source: ODD_INSIDE,
+        data: "",
+        wanted: "cat.json bad text F",
+    },
+    Row {
+        more: "",
+        session: "",
+        parts: "",
+        format: "BINARY",
+        source: FILE,
+        data: "abcd",
+        wanted: "cat.json no segment D1",
+    },
+    Row {
+        more: "",
+        session: "",
+        parts: FOUR,
+        format: "BINARY",
+        source: FILE,
+        data: "abcde",
+        wanted: "cat.json binary size D1 4 5",
+    },
+    Row {
+        more: "",
+        session: "",
+        parts: FOUR,
+        format: "INTEL-HEX",
+        source: FILE,
+        data: TWO,
+        wanted: "cat.json hole 0 0000001002",
+    },
+    Row {
+        more: r#","fill":"FF""#,
+        session: "",
+        parts: FOUR,
+        format: "INTEL-HEX",
+        source: FILE,
+        data: TWO,
+        wanted: "A 1001 1000:0102ffff; ; 0",
+    },
+    Row {
+        more: r#","fill":"FF""#,
+        session: "",
+        parts: LARGE,
+        format: "INTEL-HEX",
+        source: FILE,
+        data: TWO,
+        wanted: "cat.json too large",
+    },
+    Row {
+        more: "",
+        session: SUM_10,
+        parts: "",
+        format: "MOTOROLA-S",
+        source: FILE,
+        data: FOUR_S,
+        wanted: "A 1001 1000:01020304; ; 0 C1 true; 0",
+    },
+    Row {
+        more: "",
+        session: SUM_11,
+        parts: "",
+        format: "MOTOROLA-S",
+        source: FILE,
+        data: FOUR_S,
+        wanted: "cat.json checksum differs C1 000b 000a",
+    },
+    Row {
+        more: "",
+        session: CRC,
+        parts: "",
+        format: "MOTOROLA-S",
+        source: FILE,
+        data: FOUR_S,
+        wanted: "A 1001 1000:01020304; ; 0 C1 false; 0",
+    },
+    Row {
+        more: "",
+        session: EXPECTED,
+        parts: "",
+        format: "INTEL-HEX",
+        source: FILE,
+        data: TWO,
+        wanted: "o.json no did A SW",
+    },
+    Row {
+        more: r#","dids":{"SV":"F194","SW":"F195"}"#,
+        session: EXPECTED,
+        parts: "",
+        format: "INTEL-HEX",
+        source: FILE,
+        data: TWO,
+        wanted: "A 1001 1000:0102 F195x2; ; 0",
+    },
+    Row {
+        more: "",
+        session: "",
+        parts: BELOW,
+        format: "INTEL-HEX",
+        source: FILE,
+        data: TWO,
+        wanted: "cat.json out of range 0",
+    },
+    Row {
+        more: "",
+        session: "",
+        parts: PARTS,
+        format: "INTEL-HEX",
+        source: FILE,
+        data: TWO,
+        wanted: "A 1001 1101:02 1100:01; ; 0 own HW",
+    },
+];
+
 #[test]
 fn sessions(rt: HostRuntime) -> Result<(), Fail> {
     let alloc = rt.alloc();
-    let below = r#",{"tag":"TARGET-ADDR-OFFSET","kids":[{"tag":"NEG-OFFSET","text":"1001"}]}"#;
-    let table: [(&str, &str, &str, &str); 4] = [
-        ("", EXPECTED, "", "o.json no did A SW"),
-        (
-            r#","dids":{"SV":"F194","SW":"F195"}"#,
-            EXPECTED,
-            "",
-            "A 1001 1000:0102 F195x2; ; 0",
-        ),
-        ("", "", below, "cat.json out of range 0"),
-        ("", "", PARTS, "A 1001 1101:02 1100:01; ; 0 own HW"),
-    ];
-    for (more, session, parts, wanted) in table {
-        let told = one_block(alloc, more, session, parts, "INTEL-HEX", FILE, TWO)?;
-        assert_eq!(rt; told.as_str(), wanted);
+    for row in SESSIONS {
+        let told = of_row(alloc, row)?;
+        assert_eq!(rt; told.as_str(), row.wanted);
     }
     Ok(())
 }
 
+const BOTH: &str =
+    r#"{"tag":"DATABLOCK-REFS","kids":[{"tag":"DATABLOCK-REF","attrs":{"ID-REF":"D1"}},{"tag":"DATABLOCK-REF","attrs":{"ID-REF":"D2"}}]}"#;
+
+/// A segment of four bytes from 2000 on.
+const SECOND: &str =
+    r#",{"tag":"SEGMENTS","kids":[{"tag":"SEGMENT","kids":[{"tag":"SOURCE-START-ADDRESS","text":"2000"},{"tag":"SOURCE-END-ADDRESS","text":"2003"}]}]}"#;
+
+/// A task with a file, and a session of two datablocks of four bytes each, the second moved down.
+fn two_blocks(alloc: Global, offset: &str) -> Result<String, Fail> {
+    let first = block(alloc, "D1", FOUR)?;
+    let down = format!(in alloc;
+        "{SECOND},{{\"tag\":\"TARGET-ADDR-OFFSET\",\"kids\":[{{\"tag\":\"NEG-OFFSET\",\"text\":\"{offset}\"}}]}}"
+    )?;
+    let second = block(alloc, "D2", &down)?;
+    let blocks = format!(in alloc; "{first},{second}")?;
+    let flash = flash(alloc, "BINARY", FILE)?;
+    let tree = catalogue(alloc, BOTH, &blocks, &flash)?;
+    let before = raw(alloc, "B", 0x1000, "")?;
+    let tasks = format!(in alloc;
+        "{before},{{\"name\":\"A\",\"unit\":\"1001\",\"check\":\"0202\",\"session\":\"S\"}}"
+    )?;
+    let text = order(alloc, &tasks)?;
+    answer(alloc, &text, &tree, "abcd")
+}
+
+const OFFSETS: &[(&str, &str)] = &[
+    ("1000", "cat.json overlap 0000001000"),
+    (
+        "FFC",
+        "B 1000 1000:616263; A 1001 1000:61626364 1004:61626364; ; 0; 1",
+    ),
+];
+
 #[test]
 fn two_datablocks(rt: HostRuntime) -> Result<(), Fail> {
     let alloc = rt.alloc();
-    let refs =
-        r#"{"tag":"DATABLOCK-REFS","kids":[{"tag":"DATABLOCK-REF","attrs":{"ID-REF":"D1"}},{"tag":"DATABLOCK-REF","attrs":{"ID-REF":"D2"}}]}"#;
-    let segment =
-        r#",{"tag":"SEGMENTS","kids":[{"tag":"SEGMENT","kids":[{"tag":"SOURCE-START-ADDRESS","text":"2000"},{"tag":"SOURCE-END-ADDRESS","text":"2003"}]}]}"#;
-    for (offset, wanted) in [
-        ("1000", "cat.json overlap 0000001000"),
-        (
-            "FFC",
-            "B 1000 1000:616263; A 1001 1000:61626364 1004:61626364; ; 0; 1",
-        ),
-    ] {
-        let first = block(alloc, "D1", FOUR)?;
-        let down = format!(in alloc;
-            "{segment},{{\"tag\":\"TARGET-ADDR-OFFSET\",\"kids\":[{{\"tag\":\"NEG-OFFSET\",\"text\":\"{offset}\"}}]}}"
-        )?;
-        let second = block(alloc, "D2", &down)?;
-        let blocks = format!(in alloc; "{first},{second}")?;
-        let flash = flash(alloc, "BINARY", FILE)?;
-        let tree = catalogue(alloc, refs, &blocks, &flash)?;
-        let before = raw(alloc, "B", 0x1000, "")?;
-        let tasks = format!(in alloc;
-            "{before},{{\"name\":\"A\",\"unit\":\"1001\",\"check\":\"0202\",\"session\":\"S\"}}"
-        )?;
-        let text = order(alloc, &tasks)?;
-        let told = answer(alloc, &text, &tree, "abcd")?;
-        assert_eq!(rt; told.as_str(), wanted);
+    for (offset, wanted) in OFFSETS {
+        let told = two_blocks(alloc, offset)?;
+        assert_eq!(rt; told.as_str(), *wanted);
     }
     Ok(())
 }
