@@ -2,9 +2,10 @@
 use Rattle.std.proofs.Common.{◌≡◌, ◌⊎◌, inl, inr, ℕ, Bool, false, List, Result, Ok, Err, subst, refl}
 use Rattle.flash_base.specs.Counts.{Rises}
 use Rattle.flash_shelf.specs.declared.shelf.ShelfFault.{ShelfFault}
+use Rattle.flash_shelf.specs.declared.shelf.ShelfFault.TheVariants as shelf
 use Rattle.plan_build.specs.Building.{built}
 use Rattle.plan_build.specs.Laws.{FilesGiveOneAnswer, IsOne}
-use Rattle.plan_build.specs.Whole.{IfShelf}
+use Rattle.plan_build.specs.Whole.{IfShelf, IsOutside}
 use Rattle.plan_build.specs.declared.built.Built.{Built}
 use Rattle.plan_build.specs.declared.fault.BuildFault.{BuildFault}
 use Rattle.plan_build.specs.declared.fault.BuildFault.TheVariants.{Shelf, Input, NoMemory}
@@ -135,12 +136,18 @@ module _ (order : List ℕ) (G : Result Built BuildFault → Type 0) (T : List �
   shelf_refused_told f f' e is d t (inr (inl m)) = inl m
   shelf_refused_told f f' e is d t (inr (inr given)) = inr (shelf_said e is d t given)
 
-  -- the shelf's own cause, by the file's name
+  -- the shelf's own cause, by the file's name, which is no want of memory
+  outside : (P : List ℕ → ShelfFault → Type 0) (name : List ℕ) (why : ShelfFault) → IsOutside P name why → (¬ (why ≡ shelf.NoMemory)) × P name why
+  outside P name shelf.Missing h = (λ e. cc, h)
+  outside P name shelf.TooLarge h = (λ e. cc, h)
+  outside P name shelf.Failed h = (λ e. cc, h)
+  outside P name shelf.NoMemory h = absurd h
+
   pub shelf_named : (P : List ℕ → ShelfFault → Type 0) (e : BuildFault) → s ≡ status.Shelf → (s ≡ status.NoMemory) ⊎ (s ≡ status_of e) → (s ≡ status.NoMemory) ⊎ T (refusal_line e)
-      → (let r : Result Built BuildFault = Err e in IfShelf r P) → (name : List ℕ) × (why : ShelfFault) × P name why × T (refusal_line (Shelf name why))
+      → (let r : Result Built BuildFault = Err e in IfShelf r P) → (name : List ℕ) × (why : ShelfFault) × (¬ (why ≡ shelf.NoMemory)) × P name why × T (refusal_line (Shelf name why))
   shelf_named P e is (inl m) t h = absurd cc
   shelf_named P e is (inr d) (inl m) h = absurd cc
-  shelf_named P (Shelf name why) is (inr d) (inr t) h = (name, why, h, t)
+  shelf_named P (Shelf name why) is (inr d) (inr t) h = let o = outside P name why h in (name, why, o.0, o.1, t)
   shelf_named P (Input name cause) is (inr d) (inr t) h = absurd cc
   shelf_named P NoMemory is (inr d) (inr t) h = absurd cc
 

@@ -125,7 +125,7 @@ pub fn flash<R: Threads + Wait + Sync, F: Shelf, S: Shop + Send, K: Sink>(
         → Rises (F.faults shelf.old) (F.faults shelf.new) ⊎ (result.1 ≡ Status.Input) ⊎ (result.1 ≡ Status.NoMemory) }
 
     // It is refused as `Shelf` for a file that the shelf did not give, which the line names.
-    ensures shelf { result.1 ≡ Status.Shelf → (order : List ℕ) → run_order (map string_bytes words.now) ≡ Some order → (name : List ℕ) × (why : ShelfFault)
+    ensures shelf { result.1 ≡ Status.Shelf → (order : List ℕ) → run_order (map string_bytes words.now) ≡ Some order → (name : List ℕ) × (why : ShelfFault) × (¬ (why ≡ ShelfFault.NoMemory))
         × CameFrom F.tells (F.contents shelf.old) name (F.faults shelf.old) (F.faults shelf.new) (Err why)
         × Says K.tells (K.written out.old) (K.written out.new) (K.faults out.old) (K.faults out.new) (refusal_line (BuildFault.Shelf name why)) }
     ensures shelf_told { IsTrue F.tells → result.1 ≡ Status.Shelf → (order : List ℕ) → run_order (map string_bytes words.now) ≡ Some order

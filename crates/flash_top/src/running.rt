@@ -24,7 +24,8 @@ ghost use Rattle.flash_top.specs.Running.{is_served, not_yet_line, refused_line,
 use crate::form::is_first_form;
 use crate::printing::{finish, not_yet, refuse};
 use flash_shelf::{Shelf, Sink};
-use plan_build::{Built, build, files_give_one_answer};
+use plan_build::laws::files_give_one_answer;
+use plan_build::{Built, build};
 use plan_commands::Status;
 use shop_model::Shop;
 use std::alloc::Global;
@@ -89,7 +90,7 @@ pub fn run<F: Shelf, S: Shop, K: Sink>(
         × Says K.tells (K.written out.old) (K.written out.new) (K.faults out.old) (K.faults out.new) (refused_line order.now r)) }
     ensures input_too { IsTrue F.tells → (r : Result Built BuildFault) → built (F.contents shelf.old) order.now r → IsInput r
         → Rises (F.faults shelf.old) (F.faults shelf.new) ⊎ (result ≡ Status.Input) ⊎ (result ≡ Status.NoMemory) }
-    ensures shelf { result ≡ Status.Shelf → (name : List ℕ) × (why : ShelfFault)
+    ensures shelf { result ≡ Status.Shelf → (name : List ℕ) × (why : ShelfFault) × (¬ (why ≡ ShelfFault.NoMemory))
         × CameFrom F.tells (F.contents shelf.old) name (F.faults shelf.old) (F.faults shelf.new) (Err why)
         × Says K.tells (K.written out.old) (K.written out.new) (K.faults out.old) (K.faults out.new) (refusal_line (BuildFault.Shelf name why)) }
     ensures shelf_told { IsTrue F.tells → result ≡ Status.Shelf → Rises (F.faults shelf.old) (F.faults shelf.new)

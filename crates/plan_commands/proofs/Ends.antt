@@ -4,10 +4,11 @@ use Rattle.std.specs.Prelude.{Option, Some, None, Result, Ok, Err}
 use Rattle.flash_base.specs.Counts.{Rises}
 use Rattle.flash_shelf.specs.Outside.{CameFrom}
 use Rattle.flash_shelf.specs.declared.shelf.ShelfFault.{ShelfFault}
+use Rattle.flash_shelf.specs.declared.shelf.ShelfFault.TheVariants as why_not
 use Rattle.plan_build.specs.Building.{built, built_by}
 use Rattle.plan_build.specs.Fetched.{came, period}
 use Rattle.plan_build.specs.Laws.{IsOne}
-use Rattle.plan_build.specs.Whole.{IfShelf}
+use Rattle.plan_build.specs.Whole.{IfShelf, IsOutside}
 use Rattle.plan_build.specs.declared.built.Built.{Built}
 use Rattle.plan_build.specs.declared.fault.BuildFault.{BuildFault}
 use Rattle.plan_build.specs.declared.fault.BuildFault.TheVariants as fault
@@ -145,7 +146,14 @@ module _ (tells : Bool) (files : List (List ℕ × List ℕ)) (old new : ℕ) (k
   shelf_of r (shelf name why is e) x = (name, why, is)
   shelf_of r (memory is e) x = absurd cc
 
-  pub shelf_cause : status ≡ Shelf → (name : List ℕ) × (why : ShelfFault) × CameFrom tells files name old new (Err why)
+  -- a fault of the shelf is no want of memory
+  outside : (P : List ℕ → ShelfFault → Type 0) (name : List ℕ) (why : ShelfFault) → IsOutside P name why → (¬ (why ≡ why_not.NoMemory)) × P name why
+  outside P name why_not.Missing h = (λ e. cc, h)
+  outside P name why_not.TooLarge h = (λ e. cc, h)
+  outside P name why_not.Failed h = (λ e. cc, h)
+  outside P name why_not.NoMemory h = absurd h
+
+  pub shelf_cause : status ≡ Shelf → (name : List ℕ) × (why : ShelfFault) × (¬ (why ≡ why_not.NoMemory)) × CameFrom tells files name old new (Err why)
       × IsPrinted kt before after ko kn (refused (fault.Shelf name why)) status
   shelf_cause is =
       let p = printed (λ (e : status ≡ NoMemory). let never : ⊥ = cc in never) in
@@ -153,7 +161,8 @@ module _ (tells : Bool) (files : List (List ℕ × List ℕ)) (old new : ℕ) (k
       let f = shelf_of s.gave (leads c s.gave) x in
       let came_so = subst (λ (r : Result Built BuildFault). IfShelf r (λ name why. CameFrom tells files name old new (Err why))) f.2 s.outside in
       let said = subst (λ (r : Result Built BuildFault). IsPrinted kt before after ko kn (answered c r) status) f.2 p.1 in
-      (f.0, f.1, came_so, said)
+      let o = outside (λ (name : List ℕ) (why : ShelfFault). CameFrom tells files name old new (Err why)) f.0 f.1 came_so in
+      (f.0, f.1, o.0, o.1, said)
 
   pub sink_cause : status ≡ Sink → Rises ko kn
   sink_cause is =

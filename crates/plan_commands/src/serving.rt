@@ -81,7 +81,7 @@ pub fn serve<F: Shelf, K: Sink>(
 
     // `Shelf` comes of a file that the shelf did not give, which the line names.
     ensures shelf { result ≡ Status.Shelf → (c : Command) → command_of (map string_bytes words.now) ≡ Some c
-        → (name : List ℕ) × (why : ShelfFault) × CameFrom F.tells (F.contents shelf.old) name (F.faults shelf.old) (F.faults shelf.new) (Err why)
+        → (name : List ℕ) × (why : ShelfFault) × (¬ (why ≡ ShelfFault.NoMemory)) × CameFrom F.tells (F.contents shelf.old) name (F.faults shelf.old) (F.faults shelf.new) (Err why)
         × IsPrinted K.tells (K.written out.old) (K.written out.new) (K.faults out.old) (K.faults out.new) (refused (BuildFault.Shelf name why)) result }
 
     ensures sink { result ≡ Status.Sink → Rises (K.faults out.old) (K.faults out.new) }
