@@ -1,4 +1,5 @@
 pub mod Asking
+pub mod Blocking
 pub mod Clock
 pub mod Ending
 pub mod Fair

@@ -1,5 +1,5 @@
 -- The causes of the outcomes that are recorded of units.
-use Rattle.std.specs.Prelude.{◌≡◌, ℕ, ◌+◌, ◌<◌, Bool, true, false, List, Option, Some, None, is_some, Contains}
+use Rattle.std.specs.Prelude.{◌≡◌, ◌⊎◌, ℕ, ◌+◌, ◌<◌, Bool, true, false, List, Option, Some, None, is_some, Contains}
 use Rattle.flash_plan.specs.Plan.{plan_of, count_of}
 use Rattle.flash_plan.specs.declared.outcome.Entry.{Entry}
 use Rattle.flash_plan.specs.declared.outcome.Entry.TheVariants as entry
@@ -73,9 +73,26 @@ MatchesAt begun plan None = ⊥
 MatchesAt begun plan (Some u) = IsMatching begun plan u
 
 -- Where no append failed, no call of the link failed or was garbled and the vehicle has not departed, a unit that matches is
--- complete, or there was no memory for it or for one that it waits for.
+-- complete, or there was no memory for it, or one that it waits for is not complete.
 abbrev pub UntroubledLaw : Type 0
 UntroubledLaw = (rules : LinkRules) (P : List UnitPlan) (found : Entry → Bool) (events : List Event) (s : State) (states : List State) (v0 : Vehicle) (n : ℕ) (outcome : Outcome)
     → IsRun rules P found events s states v0 → n < count_of P → (((core_of rules P (core_start P found) events).slots n).outcome ≡ Some outcome)
     → has_failure events ≡ false → faults_of events s states ≡ 0 → IsVehicleCalm s.vehicle (last_state s states).vehicle
     → MatchesAt (found (entry.Begun n)) (plan_of P n) (unit_at s.vehicle.units (plan_of P n).address) → IsUntroubled outcome
+
+-- every unit of the plan matches by what was found
+abbrev pub AllMatch : List UnitPlan → (Entry → Bool) → Vehicle → Type 0
+AllMatch P found v = (n : ℕ) → n < count_of P → MatchesAt (found (entry.Begun n)) (plan_of P n) (unit_at v.units (plan_of P n).address)
+
+-- there was no memory for some unit
+pub record LacksMemory (P : List UnitPlan) (c : Core) : Type 0 where
+  pub unit : ℕ
+  pub below : unit < count_of P
+  pub none : (c.slots unit).outcome ≡ Some NoMemory
+
+-- So where every unit matches, each outcome is complete, but for want of memory.
+abbrev pub CompleteLaw : Type 0
+CompleteLaw = (rules : LinkRules) (P : List UnitPlan) (found : Entry → Bool) (events : List Event) (s : State) (states : List State) (v0 : Vehicle) (n : ℕ) (outcome : Outcome)
+    → IsRun rules P found events s states v0 → n < count_of P → (((core_of rules P (core_start P found) events).slots n).outcome ≡ Some outcome)
+    → has_failure events ≡ false → faults_of events s states ≡ 0 → IsVehicleCalm s.vehicle (last_state s states).vehicle → AllMatch P found s.vehicle
+    → (outcome ≡ Complete) ⊎ LacksMemory P (core_of rules P (core_start P found) events)

@@ -9,7 +9,7 @@ ghost use Rattle.outcome_law.specs.Law.{
   ObedientLaw,
 };
 ghost use Rattle.outcome_law.specs.OutcomeCounting.{CountedLaw, OutcomeCountingLaw, StartLaw};
-ghost use Rattle.outcome_law.specs.Outcomes.{OutcomeLaw, RecordedLaw, UntroubledLaw};
+ghost use Rattle.outcome_law.specs.Outcomes.{CompleteLaw, OutcomeLaw, RecordedLaw, UntroubledLaw};
 
 /// What the counts of the vehicle say of each conversation and of the link is kept by each allowed event, beside the joint
 /// state: of a unit whose answer is awaited, what its counts rose by since the start of the run explains what it has on the
@@ -40,10 +40,12 @@ pub fn a_calm_unit_that_matches_is_not_refused()
 /// At each place of its script the obedient answer of a unit that matches is positive and leaves fewer requests. So the
 /// conversation with one that has not departed does not end but at Done, where it is after as many answers as an attempt has
 /// requests; and its outcome, where it has one, is complete or comes of the run and not of the unit. Where nothing failed at
-/// all it is complete, or there was no memory for it or for one that it waits for.
+/// all it is complete, or there was no memory for it, or it is blocked; and where every unit matches, each outcome is
+/// complete, or there was no memory for some unit.
 pub fn a_calm_unit_that_matches_reaches_done()
     ensures answers { ObedientLaw }
     ensures goes_on { DoneLaw }
     ensures recorded { RecordedLaw }
     ensures untroubled { UntroubledLaw }
+    ensures complete { CompleteLaw }
 {}

@@ -1,0 +1,118 @@
+-- Where nothing failed and every unit matches, each outcome is complete, but for want of memory: what blocks a unit is blocked
+-- itself or lacked memory, and no unit stands before itself.
+use Rattle.std.proofs.Common.{◌≡◌, ◌⊎◌, inl, inr, ℕ, zero, suc, ◌+◌, ◌<◌, ◌≤◌, true, false, List, [], ◌∷◌, length, Some, None, refl, sym, ◌∙◌, ap, subst, arith}
+use Rattle.std.specs.Prelude.{Bool, Option, ◌==◌, is_some, Contains, slice_index_or}
+use Rattle.std.specs.List.{IsDistinct, AllByRecursion, list_any}
+use Rattle.std.proofs.lemmas.Bool.{cases_Bool, false≢true, both_ways, eqb-true, ne_eqb}
+use Rattle.std.proofs.lemmas.Map.Steps.{length-le_from_distinct_below}
+use Rattle.flash_base.specs.Lists.{Each}
+use Rattle.flash_plan.specs.Plan.{StandsBefore, next_to, before, plan_of, count_of}
+use Rattle.flash_plan.specs.declared.outcome.Entry.{Entry}
+use Rattle.flash_plan.specs.declared.outcome.Entry.TheVariants as entry
+use Rattle.flash_plan.specs.declared.outcome.Outcome.{Outcome}
+use Rattle.flash_plan.specs.declared.outcome.Outcome.TheVariants.{Complete, IdentMismatch, Refused, BadAnswer, CheckFailed, Undelivered, NoAnswer, PendingLimit, BusyLimit, LinkLost, LinkRefused, DiskFault, NoMemory, Blocked}
+use Rattle.flash_plan.specs.declared.unit.LinkRules.{LinkRules}
+use Rattle.flash_plan.specs.declared.unit.UnitPlan.{UnitPlan}
+use Rattle.unit_model.specs.Vehicle.{Vehicle}
+use Rattle.run_model.specs.Troubles.{IsVehicleCalm}
+use Rattle.bay_core.specs.Core.{Core, core_start, core_of}
+use Rattle.bay_core.specs.Law.{State}
+use Rattle.bay_core.specs.Stops.{has_failure}
+use Rattle.bay_core.specs.declared.event.Event.{Event}
+use Rattle.outcome_law.proofs.Recorded.{outcome_law, untroubled_law}
+use Rattle.outcome_law.specs.Law.{IsRun, last_state}
+use Rattle.outcome_law.specs.LinkCounting.{faults_of}
+use Rattle.outcome_law.specs.Outcomes.{IsBlockedBy, IsOutcomeCaused, IsUntroubled, AllMatch, LacksMemory, CompleteLaw}
+
+-- ------ numbers below a bound, each once
+all_apart : (n : ℕ) (vs : List ℕ) → Each (λ v. n ≡ v → ⊥) vs → AllByRecursion (λ y. (n == y) ≡ false) vs
+all_apart n [] all = tt
+all_apart n (v ∷ vs) all = (ne_eqb n v all.0, all_apart n vs all.1)
+
+one_more : (n : ℕ) (vs : List ℕ) → Each (λ v. n ≡ v → ⊥) vs → IsDistinct (λ a b. a == b) vs → IsDistinct (λ a b. a == b) (n ∷ vs)
+unfolding IsDistinct
+one_more n vs all distinct = (all_apart n vs all, distinct)
+
+none_yet : IsDistinct (λ (a b : ℕ). a == b) []
+unfolding IsDistinct
+none_yet = tt
+
+any_below : (bound q : ℕ) (vs : List ℕ) → Each (λ v. v < bound) vs → list_any (λ x. q == x) vs ≡ true → q < bound
+any_below bound q [] all e = absurd (false≢true e)
+any_below bound q (v ∷ vs) all e = elim (cases_Bool (q == v)) [
+  | inl f ↦ let is : q ≡ v = eqb-true q v f in let lt : v < bound = all.0 in omega (arith, is, lt)
+  | inr f ↦ any_below bound q vs all.1 (rw f at e)
+]
+
+few : (bound : ℕ) (vs : List ℕ) → IsDistinct (λ a b. a == b) vs → Each (λ v. v < bound) vs → length vs ≤ bound
+few bound vs distinct all = length-le_from_distinct_below vs bound distinct (λ q e. any_below bound q vs all e)
+
+stands_on : (P : List UnitPlan) (w v u : ℕ) → StandsBefore P w v → StandsBefore P v u → StandsBefore P w u
+stands_on P w v u a (next_to x c) = before x v c a
+stands_on P w v u a (before x y c s) = before x y c (stands_on P w v y a s)
+
+stands_all : (P : List UnitPlan) (w n : ℕ) (vs : List ℕ) → StandsBefore P w n → Each (StandsBefore P n) vs → Each (StandsBefore P w) vs
+stands_all P w n [] a all = tt
+stands_all P w n (v ∷ vs) a all = (stands_on P w n v a all.0, stands_all P w n vs a all.1)
+
+apart_all : (P : List UnitPlan) (n : ℕ) (vs : List ℕ) → (StandsBefore P n n → ⊥) → Each (StandsBefore P n) vs → Each (λ v. n ≡ v → ⊥) vs
+apart_all P n [] no_cycle all = tt
+apart_all P n (v ∷ vs) no_cycle all = (λ is. no_cycle (subst (λ (k : ℕ). StandsBefore P n k) (sym is) all.0), apart_all P n vs no_cycle all.1)
+
+each_of : (Q : ℕ → Type 0) (xs : List ℕ) (x : ℕ) → Each Q xs → Contains xs x → Q x
+each_of Q [] x all (k, lt, is) = absurd (omega (arith, lt))
+each_of Q (y ∷ ys) x all (k, lt, is) = at (λ later. each_of Q ys x all.1 later) k lt is
+  where
+    at : (Contains ys x → Q x) → (k : ℕ) → k < suc (length ys) → slice_index_or (y ∷ ys) k x ≡ x → Q x
+    at again zero lt is = subst Q is all.0
+    at again (suc k) lt is = again (k, omega (arith, lt), is)
+
+module _ (rules : LinkRules) (P : List UnitPlan) (found : Entry → Bool) (events : List Event) (s : State) (states : List State) (v0 : Vehicle) (run : IsRun rules P found events s states v0) (failed : has_failure events ≡ false) (faults : faults_of events s states ≡ 0)
+    (calm : IsVehicleCalm s.vehicle (last_state s states).vehicle) (matching : AllMatch P found s.vehicle) where
+  abbrev c : Core
+  c = core_of rules P (core_start P found) events
+
+  abbrev Ends : Outcome → Type 0
+  Ends o = (o ≡ Complete) ⊎ LacksMemory P (core_of rules P (core_start P found) events)
+
+  of_some : (o : Option Outcome) → is_some o ≡ true → (x : Outcome) × (o ≡ Some x)
+  of_some None e = absurd (false≢true e)
+  of_some (Some x) e = (x, refl)
+
+  not_complete : (n : ℕ) (o : Outcome) → n < count_of P → ((core_of rules P (core_start P found) events).slots n).outcome ≡ Some o → (core_of rules P (core_start P found) events).recorded (entry.Complete n) ≡ false → o ≡ Complete → ⊥
+  not_complete n o lt at none is = both_ways _ none (outcome_law rules P found events s states v0 n Complete run lt (at ∙ ap (λ (x : Outcome). Some x) is))
+
+  -- from a unit to the one that blocks it; vs are those that it stands before
+  along : (fuel : ℕ) (vs : List ℕ) (n : ℕ) (o : Outcome) → n < count_of P → IsDistinct (λ a b. a == b) vs → Each (λ v. v < count_of P) vs → Each (StandsBefore P n) vs → count_of P ≤ fuel + length vs
+      → ((core_of rules P (core_start P found) events).slots n).outcome ≡ Some o → IsUntroubled o → IsOutcomeCaused rules (plan_of P n) (core_of rules P (core_start P found) events) n (has_failure events) (faults_of events s states) s.vehicle (last_state s states).vehicle o → Ends o
+  along fuel vs n Complete lt distinct below stands enough at is cause = inl refl
+  along fuel vs n NoMemory lt distinct below stands enough at is cause = inr (record { unit = n; below = lt; none = at })
+  along zero vs n (Blocked by) lt distinct below stands enough at is cause =
+      let more : suc (length vs) ≤ count_of P = few (count_of P) (n ∷ vs) (one_more n vs (apart_all P n vs (run.accepted.no_cycle n) stands) distinct) (lt, below) in
+      absurd (omega (arith, more, enough))
+  along (suc fuel) vs n (Blocked by) lt distinct below stands enough at is cause =
+      let blocked : IsBlockedBy (plan_of P n) (core_of rules P (core_start P found) events) by = cause in
+      let by_lt : by < count_of P = each_of (λ w. w < count_of P) (plan_of P n).after by (run.accepted.after n lt) blocked.listed in
+      let next = of_some ((core_of rules P (core_start P found) events).slots by).outcome blocked.ended in
+      let stands_by : StandsBefore P by n = next_to n blocked.listed in
+      elim (along fuel (n ∷ vs) by next.0 by_lt (one_more n vs (apart_all P n vs (run.accepted.no_cycle n) stands) distinct) (lt, below) (stands_by, stands_all P by n vs stands_by stands) (omega (arith, enough)) next.1
+      (untroubled_law rules P found events s states v0 by next.0 run by_lt next.1 failed faults calm (matching by by_lt)) (outcome_law rules P found events s states v0 by next.0 run by_lt next.1)) [
+        | inl complete ↦ absurd (not_complete by next.0 by_lt next.1 blocked.incomplete complete)
+        | inr memory ↦ inr memory
+      ]
+  along fuel vs n (IdentMismatch did) lt distinct below stands enough at is cause = absurd is
+  along fuel vs n (Refused sid nrc) lt distinct below stands enough at is cause = absurd is
+  along fuel vs n (BadAnswer sid) lt distinct below stands enough at is cause = absurd is
+  along fuel vs n (CheckFailed routine segment status) lt distinct below stands enough at is cause = absurd is
+  along fuel vs n (Undelivered code) lt distinct below stands enough at is cause = absurd is
+  along fuel vs n (NoAnswer sid) lt distinct below stands enough at is cause = absurd is
+  along fuel vs n (PendingLimit sid) lt distinct below stands enough at is cause = absurd is
+  along fuel vs n (BusyLimit sid) lt distinct below stands enough at is cause = absurd is
+  along fuel vs n (LinkLost times) lt distinct below stands enough at is cause = absurd is
+  along fuel vs n (LinkRefused code) lt distinct below stands enough at is cause = absurd is
+  along fuel vs n DiskFault lt distinct below stands enough at is cause = absurd is
+
+pub complete_law : CompleteLaw
+complete_law rules P found events s states v0 n o run lt at failed faults calm matching =
+    along rules P found events s states v0 run failed faults calm matching (count_of P) [] n o lt none_yet tt tt (omega arith) at
+    (untroubled_law rules P found events s states v0 n o run lt at failed faults calm (matching n lt)) (outcome_law rules P found events s states v0 n o run lt at)
