@@ -60,3 +60,57 @@ fn most_bytes(rt: HostRuntime) -> Result<(), Fail> {
     }
     Ok(())
 }
+
+/// The elements of so many segments of one byte each, from address 0 on.
+fn segments_of(alloc: Global, segments: u64) -> Result<String, Fail> {
+    let mut text = String::new(alloc);
+    for n in 0..segments {
+        let comma = if n == 0 { "" } else { "," };
+        let segment = format!(in alloc;
+            "{comma}{{\"tag\":\"SEGMENT\",\"kids\":[{{\"tag\":\"SOURCE-START-ADDRESS\",\"text\":\"{n:x}\"}},{{\"tag\":\"UNCOMPRESSED-SIZE\",\"text\":\"1\"}}]}}"
+        )?;
+        text.push_str(segment.as_str())?;
+    }
+    Ok(text)
+}
+
+/// A catalogue with one session, of which one datablock has these segments and a file.
+fn catalogue_with(alloc: Global, segments: &str) -> Result<String, Fail> {
+    let block = format!(in alloc;
+        "{{\"tag\":\"DATABLOCK\",\"attrs\":{{\"ID\":\"D\"}},\"kids\":[{{\"tag\":\"SHORT-NAME\"}},{{\"tag\":\"FLASHDATA-REF\",\"attrs\":{{\"ID-REF\":\"F\"}}}},{{\"tag\":\"SEGMENTS\",\"kids\":[{segments}]}}]}}"
+    )?;
+    let mut text = String::from_str(
+        alloc,
+        r#"{"tag":"ECU-MEM","kids":[{"tag":"MEM","kids":[{"tag":"SESSIONS","kids":[{"tag":"SESSION","attrs":{"ID":"S"},"kids":[{"tag":"SHORT-NAME"},{"tag":"DATABLOCK-REFS","kids":[{"tag":"DATABLOCK-REF","attrs":{"ID-REF":"D"}}]}]}]},{"tag":"DATABLOCKS","kids":["#,
+    )?;
+    text.push_str(block.as_str())?;
+    text.push_str(
+        r#"]},{"tag":"FLASHDATAS","kids":[{"tag":"FLASHDATA","attrs":{"ID":"F"},"kids":[{"tag":"DATAFORMAT","attrs":{"SELECTION":"BINARY"}},{"tag":"DATAFILE","text":"b.bin"}]}]}]}]}"#,
+    )?;
+    Ok(text)
+}
+
+/// 256 segments of a unit are accepted, 257 are not.
+#[test]
+fn most_segments(rt: HostRuntime) -> Result<(), Fail> {
+    let alloc = rt.alloc();
+    for (segments, want) in [
+        (256, "done plan "),
+        (257, "input input o.json too many segments\n"),
+    ] {
+        let catalogue = catalogue_with(alloc, segments_of(alloc, segments)?.as_str())?;
+        let body = Vec::from_elem(alloc, 0u8, segments as usize)?;
+        let mut files = Files::new(alloc);
+        put(
+            alloc,
+            &mut files,
+            "o.json",
+            br#"{"tester":"0E80","catalogue":"c.json","tasks":[{"name":"A","unit":"1001","check":"0202","session":"S"}]}"#,
+        )?;
+        put(alloc, &mut files, "c.json", catalogue.as_bytes())?;
+        put(alloc, &mut files, "b.bin", body.as_slice())?;
+        let text = told(alloc, &files, "check o.json", &[], &[])?;
+        assert!(rt; text.as_str().starts_with(want));
+    }
+    Ok(())
+}
