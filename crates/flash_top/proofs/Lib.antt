@@ -3,3 +3,4 @@ pub mod Closes
 pub mod Pieces
 pub mod Refusals
 pub mod Sounds
+pub mod WordForms

@@ -1,4 +1,4 @@
-use Rattle.std.proofs.Common.{◌≡◌, ℕ, true, List, Result, Ok, Err, Some, subst, sym}
+use Rattle.std.proofs.Common.{inl, ◌≡◌, ℕ, true, List, Result, Ok, Err, Some, subst, sym}
 use Rattle.flash_shelf.specs.Outside.{CameFrom}
 use Rattle.flash_shelf.specs.declared.shelf.ShelfFault.{ShelfFault}
 use Rattle.plan_build.specs.Building.{built}
@@ -10,7 +10,7 @@ use Rattle.thin_engine.specs.Sounding.{KeepsSound}
 use Rattle.thin_engine.specs.Undisturbed.{none_recorded}
 use Rattle.flash_top.specs.Printing.{Says}
 use Rattle.flash_top.specs.Running.{Gave, is_served}
-use Rattle.flash_top.proofs.Answers.{input_too, shelf_too, input_refused, input_refused_told, shelf_refused_told, shelf_named, input_last, input_last_told, same_built}
+use Rattle.flash_top.proofs.Answers.{input_too, shelf_too, input_refused, input_refused_told, shelf_refused_told, shelf_named, input_last, input_last_told, same_built, never_done, only_starved}
 use Rattle.flash_top.proofs.Closes.{IsTold, IsClosed}
 use Rattle.flash_top.proofs.Sounds.{sound_still}
 use Rattle.flash_top.proofs.running.run.Goals as goal
@@ -54,6 +54,17 @@ returns-in-Err-clause-shelf_too g c = λ tf.
 
 pub returns-in-Err-clause-sound : goal.returns-in-Err-clause-sound
 returns-in-Err-clause-sound g c = λ tf td tv b files no_shelf. sound_still b.plan (g.S.Shop.history c.args.shop.now)
+
+pub returns-in-Err-clause-done : goal.returns-in-Err-clause-done
+returns-in-Err-clause-done g c = λ tf tk is. absurd (never_done c.in-Err.fault c.refuse.result c.refuse.ensures.status is)
+
+pub returns-in-Err-clause-tester : goal.returns-in-Err-clause-tester
+returns-in-Err-clause-tester g c = λ tf tv b files matches no_shelf untroubled plain is. absurd (never_done c.in-Err.fault c.refuse.result c.refuse.ensures.status is)
+
+pub returns-in-Err-clause-complete : goal.returns-in-Err-clause-complete
+returns-in-Err-clause-complete g c = λ tf td tv tk b files served empty matches no_shelf no_sink untroubled plain.
+    inl (only_starved (g.F.Shelf.faults c.args.shelf.now) (g.F.Shelf.faults c.build.new.shelf) c.in-Err.fault c.refuse.result c.refuse.ensures.status no_shelf
+    c.files_give_one_answer.ensures (g.F.Shelf.contents c.args.shelf.now) c.args.order.now b (c.in-Err.ensures.told tf) files)
 
 -- ------ a plan
 pub returns-in-Ok-clause-input : goal.returns-in-Ok-clause-input
