@@ -1,10 +1,10 @@
-ghost use Rattle.std.specs.Prelude.{◌≡◌, ◌<◌, ◌^◌, ◌&&◌, ◌||◌, List, [], take, length, true, IfOk, EachIndex, slice_index};
-ghost use Rattle.bay_core.specs.Legal.{is_clear, is_open_unit, may_begin, may_finish, may_record, is_blocked, may_end, is_end};
-ghost use Rattle.flash_plan.specs.Plan.{count_of, plan_of, IsAcceptedUnit};
+ghost use Rattle.std.specs.Prelude.{◌≡◌, ◌<◌, ◌^◌, ◌&&◌, ◌||◌, List, [], take, length, true, not, IfOk, EachIndex, slice_index};
+ghost use Rattle.bay_core.specs.Legal.{is_clear, is_open_unit, may_begin, may_finish, may_record, is_blocked, may_end, is_end, has_word};
+ghost use Rattle.flash_plan.specs.Plan.{count_of, plan_of};
 ghost use Rattle.flash_plan.specs.declared.unit.UnitPlan.{UnitPlan};
 ghost use Rattle.link_state.specs.State.{Shows};
 ghost use Rattle.unit_session.specs.Session.{IsOf, talk_of};
-ghost use Rattle.bay_replay.specs.Hears.{HasTold, with_session, first_open};
+ghost use Rattle.bay_replay.specs.Hears.{HearsFirst, KeepsSession, first_open};
 ghost use Rattle.bay_replay.specs.Held.{Told, Holds, HoldsBody, Steps, Takes, IsSeen, IsBoardOf, told_settled, told_lost, is_stopped, may_send, may_collect};
 ghost use Rattle.bay_replay.specs.Replays.{told_by, TakesAt};
 ghost use Rattle.bay_replay.specs.Units.{unit_of};
@@ -16,7 +16,7 @@ use barrier_board::{Board, Claimed};
 use bay_core::{Event, Events, Heard, Tend};
 use flash_base::{Bytes, NoMemory};
 use flash_plan::{Entries, Entry, LinkRules, Outcome, Plan};
-use link_state::{LinkState, Message};
+use link_state::LinkState;
 use std::alloc::Global;
 use unit_session::UnitSession;
 
@@ -68,7 +68,12 @@ impl Core {
     }
 
     /// The state before any event.
-    pub(crate) fn start(alloc: Global, plan: &Plan, rules: &LinkRules, found: &Entries) -> Result<Core, NoMemory>
+    pub(crate) fn start(
+        alloc: Global,
+        plan: &Plan,
+        rules: &LinkRules,
+        found: &Entries,
+    ) -> Result<Core, NoMemory>
         ensures { IfOk result (λ k. Holds plan.now k (told_by rules.now plan.now found.now [])) }
     {
         plan.is_accepted();
@@ -137,7 +142,9 @@ impl Core {
             return false;
         }
         let kept = self.units.at(unit);
-        sessions::is_sending(&kept.session, plan.unit(unit)) && place == kept.session.number() && self.is_clear(plan)
+        sessions::is_sending(&kept.session, plan.unit(unit))
+            && place == kept.session.number()
+            && self.is_clear(plan)
     }
 
     /// Whether an answer of the unit may be looked for now.
@@ -252,7 +259,7 @@ impl Core {
     /// Keeps this conversation of a unit.
     fn keep(&mut self, unit: u16, session: UnitSession)
         requires { unit < length self.old.units }
-        ensures { self.new ≡ with_session unit session self.old }
+        ensures { KeepsSession unit session self.old self.new }
     {
         let mut kept = self.units.at(unit);
         kept.session = session;
@@ -307,24 +314,39 @@ impl Core {
         }
         let mut session = self.units.at(unit).session;
         session.sent(self.link.ticks());
-        self.keep(unit, session);
         lose(&mut self.link, lost);
+        self.keep(unit, session);
         true
     }
 
-    /// The unit hears a message.
-    fn hear(&mut self, plan: &Plan, unit: u16, message: &Message)
-        requires accepted { IsAcceptedUnit (plan_of plan.now unit) }
+    /// Takes the oldest message of a unit that waits, and the unit hears it; whether there was one.
+    fn hear(&mut self, plan: &Plan, unit: u16) -> bool
         requires within { unit < count_of plan.now }
-        requires units { unit < length self.old.units }
-        requires of { IsOf (plan_of plan.now unit) (unit_of self.old.units unit).session }
-        requires wait { (talk_of (plan_of plan.now unit) (unit_of self.old.units unit).session).awaiting ≡ true }
-        ensures { HasTold (plan_of plan.now unit) unit message.now self.old self.new }
+        requires size { length self.old.units ≡ count_of plan.now }
+        requires fits { IsOf (plan_of plan.now unit) (unit_of self.old.units unit).session }
+        requires waits { (talk_of (plan_of plan.now unit) (unit_of self.old.units unit).session).awaiting ≡ true }
+        ensures { (told : Told) → HoldsBody plan.now self.old told → HearsFirst plan.now unit told result self.new }
     {
+        plan.is_accepted();
+        let Some(message) = self.link.take(plan.unit(unit).address) else {
+            return false;
+        };
         let tick = self.link.ticks();
         let session = self.units.at(unit).session;
-        let session = sessions::heard(session, plan.unit(unit), message, tick);
+        let session = sessions::heard(session, plan.unit(unit), &message, tick);
         self.keep(unit, session);
+        true
+    }
+
+    /// Whether there is no message of a unit.
+    fn lacks_word(&mut self, plan: &Plan, unit: u16) -> bool
+        ghost told: { Told }
+        requires holds { Holds plan.now self.old told }
+        requires within { unit < count_of plan.now }
+        ensures lacks { result ≡ not (has_word plan.now told.core unit) }
+        ensures same { result ≡ true → Holds plan.now self.new told }
+    {
+        self.link.take(plan.unit(unit).address).is_none()
     }
 
     fn collect_kept(&mut self, plan: &Plan, unit: u16) -> bool
@@ -332,17 +354,7 @@ impl Core {
         requires { Holds plan.now self.old told }
         ensures { Steps plan.now (Event.Collected unit Heard.Kept) told result self.new }
     {
-        plan.is_accepted();
-        if !self.may_collect(plan, unit) {
-            return false;
-        }
-        match self.link.take(plan.unit(unit).address) {
-            Some(message) => {
-                self.hear(plan, unit, &message);
-                true
-            }
-            None => false,
-        }
+        self.may_collect(plan, unit) && self.hear(plan, unit)
     }
 
     fn collect_quiet(&mut self, plan: &Plan, unit: u16) -> bool
@@ -351,7 +363,10 @@ impl Core {
         requires ticks { told.core.link.ticks < 2 ^ 63 }
         ensures { Steps plan.now (Event.Collected unit Heard.Quiet) told result self.new }
     {
-        if !self.may_collect(plan, unit) || self.link.take(plan.unit(unit).address).is_some() {
+        if !self.may_collect(plan, unit) {
+            return false;
+        }
+        if !self.lacks_word(plan, unit) {
             return false;
         }
         self.link.quiet();
@@ -366,15 +381,14 @@ impl Core {
         requires { Holds plan.now self.old told }
         ensures { IfOk result (λ ok. Steps plan.now (Event.Collected unit (Heard.Piece bytes.now)) told ok self.new) }
     {
-        plan.is_accepted();
-        let address = plan.unit(unit).address;
-        if !self.may_collect(plan, unit) || self.link.take(address).is_some() {
+        if !self.may_collect(plan, unit) {
+            return Ok(false);
+        }
+        if !self.lacks_word(plan, unit) {
             return Ok(false);
         }
         self.link.piece(bytes.as_slice())?;
-        if let Some(message) = self.link.take(address) {
-            self.hear(plan, unit, &message);
-        }
+        let _ = self.hear(plan, unit);
         Ok(true)
     }
 
@@ -383,7 +397,10 @@ impl Core {
         requires { Holds plan.now self.old told }
         ensures { Steps plan.now (Event.Collected unit Heard.Lost) told result self.new }
     {
-        if !self.may_collect(plan, unit) || self.link.take(plan.unit(unit).address).is_some() {
+        if !self.may_collect(plan, unit) {
+            return false;
+        }
+        if !self.lacks_word(plan, unit) {
             return false;
         }
         self.link.drop_it();
@@ -409,7 +426,10 @@ impl Core {
         requires { Holds plan.now self.old told }
         ensures { Steps plan.now (Event.Tended (Tend.Dialed lost)) told result self.new }
     {
-        if self.stop.is_some() || !is_down(&self.link) {
+        if self.stop.is_some() {
+            return false;
+        }
+        if !is_down(&self.link) {
             return false;
         }
         self.link.dialed(lost);
@@ -421,7 +441,10 @@ impl Core {
         requires { Holds plan.now self.old told }
         ensures { Steps plan.now (Event.Tended (Tend.Asked lost)) told result self.new }
     {
-        if self.stop.is_some() || !is_fresh(&self.link) {
+        if self.stop.is_some() {
+            return false;
+        }
+        if !is_fresh(&self.link) {
             return false;
         }
         self.link.asked(lost);
@@ -433,7 +456,13 @@ impl Core {
         requires { Holds plan.now self.old told }
         ensures { Steps plan.now (Event.Tended (Tend.Said lost)) told result self.new }
     {
-        if self.stop.is_some() || !is_up(&self.link) || !self.link.owes() {
+        if self.stop.is_some() {
+            return false;
+        }
+        if !is_up(&self.link) {
+            return false;
+        }
+        if !self.link.owes() {
             return false;
         }
         self.link.said(lost);
@@ -446,16 +475,27 @@ impl Core {
         requires ticks { told.core.link.ticks < 2 ^ 63 }
         ensures { IfOk result (λ ok. Steps plan.now (Event.Tended (Tend.Polled got.now)) told ok self.new) }
     {
-        if self.stop.is_some() || !is_waiting(&self.link) {
+        if self.stop.is_some() {
+            return Ok(false);
+        }
+        if !is_waiting(&self.link) {
             return Ok(false);
         }
         match got {
-            Heard::Kept => return Ok(false),
-            Heard::Quiet => self.link.quiet(),
-            Heard::Piece(bytes) => self.link.piece(bytes.as_slice())?,
-            Heard::Lost => self.link.drop_it(),
+            Heard::Kept => Ok(false),
+            Heard::Quiet => {
+                self.link.quiet();
+                Ok(true)
+            }
+            Heard::Piece(bytes) => {
+                self.link.piece(bytes.as_slice())?;
+                Ok(true)
+            }
+            Heard::Lost => {
+                self.link.drop_it();
+                Ok(true)
+            }
         }
-        Ok(true)
     }
 
     fn tend(&mut self, plan: &Plan, step: &Tend) -> Result<bool, NoMemory>
@@ -572,7 +612,14 @@ impl Core {
     }
 
     /// Takes the event with this number, where it is allowed after those before it.
-    pub(crate) fn step_at(&mut self, plan: &Plan, rules: &LinkRules, found: &Entries, events: &Events, i: usize) -> Result<bool, NoMemory>
+    pub(crate) fn step_at(
+        &mut self,
+        plan: &Plan,
+        rules: &LinkRules,
+        found: &Entries,
+        events: &Events,
+        i: usize,
+    ) -> Result<bool, NoMemory>
         requires within { i < length events.now }
         requires few { i < 2 ^ 63 }
         requires holds { Holds plan.now self.old (told_by rules.now plan.now found.now (take i events.now)) }
