@@ -26,7 +26,7 @@ use Rattle.run_model.specs.Ways.{Spoken}
 use Rattle.unit_session.specs.Session as session
 use Rattle.unit_session.specs.Session.{talk_of, is_begun}
 use Rattle.unit_session.specs.declared.session.UnitSession.{UnitSession}
-use Rattle.bay_replay.specs.declared.core.Core as kept
+use Rattle.bay_replay.specs.declared.state.Core as kept
 use Rattle.bay_replay.specs.declared.units.Unit.{Unit as Kept}
 use Rattle.bay_replay.specs.Units.{unit_of}
 use Rattle.bay_replay.specs.Held.{Told, HoldsSlot, HoldsSlots, HoldsBody, Holds, Steps, told_own}
@@ -60,8 +60,8 @@ talked_body P k k2 t u said f l2 m lt b shows labels keeps known talk fits ends 
   posts = ap (λ (ps : List Post). length ps) keeps.board ∙ b.posts;
   units = ap (λ (us : List Kept). length us) keeps.units ∙ length-set k.units u _ ∙ b.units;
   slots = subst (λ (ps : List Post). HoldsSlots P ps k2.units t.core.recorded (with_slot u (with_talk f (t.core.slots u)) t.core.slots)) (sym keeps.board)
-    (unit_slots P k.board k.units k2.units t.core.recorded t.core.slots u (with_talk f (t.core.slots u)) (record (unit_of k.units u) { session = said }) (omega (arith, lt, b.units)) keeps.units b.slots
-    (talked_slot (plan_of P u) (post_of k.board u) (unit_of k.units u) t.core.recorded u (t.core.slots u) said f (b.slots u lt) known talk fits ends));
+      (unit_slots P k.board k.units k2.units t.core.recorded t.core.slots u (with_talk f (t.core.slots u)) (record (unit_of k.units u) { session = said }) (omega (arith, lt, b.units)) keeps.units b.slots
+      (talked_slot (plan_of P u) (post_of k.board u) (unit_of k.units u) t.core.recorded u (t.core.slots u) said f (b.slots u lt) known talk fits ends));
   link = subst (λ (l : LinkState). Shows l m) (sym keeps.link) shows;
   labels = subst (IsOf t.rules.tester (addresses_of P)) (sym keeps.link) labels;
   doubt = keeps.doubted ∙ b.doubt;
@@ -77,7 +77,7 @@ unheard_body P k t u l2 lt b shows labels none = record {
   posts = b.posts;
   units = b.units;
   slots = subst (λ (w : Option Spoken). HoldsSlots P k.board k.units t.core.recorded (with_slot u (with_talk (talk_takes (plan_of P u) t.core.link.ticks w) (t.core.slots u)) t.core.slots)) (sym none)
-    (same_slots P k.board k.units t.core.recorded t.core.slots u lt b.slots);
+      (same_slots P k.board k.units t.core.recorded t.core.slots u lt b.slots);
   link = shows;
   labels = labels;
   doubt = b.doubt;
@@ -103,8 +103,8 @@ given_body P k t u o posts2 R2 lt b is begun complete says = record {
   posts = ap (λ (ps : List Post). length ps) is ∙ length-set k.board u _ ∙ b.posts;
   units = b.units;
   slots = subst (λ (ps : List Post). HoldsSlots P ps k.units R2 (with_slot u (record (t.core.slots u) { outcome = Some o }) t.core.slots)) (sym is)
-    (slots_put P k.board (at_unit u (give o) k.board) k.units k.units t.core.recorded R2 t.core.slots u (record (t.core.slots u) { outcome = Some o }) b.slots
-    (λ n ne. post_set k.board u n (give o (post_of k.board u)) ne) (λ n ne. refl) (λ n ne. begun n) complete here);
+      (slots_put P k.board (at_unit u (give o) k.board) k.units k.units t.core.recorded R2 t.core.slots u (record (t.core.slots u) { outcome = Some o }) b.slots
+      (λ n ne. post_set k.board u n (give o (post_of k.board u)) ne) (λ n ne. refl) (λ n ne. begun n) complete here);
   link = b.link;
   labels = b.labels;
   doubt = b.doubt;
@@ -113,21 +113,22 @@ given_body P k t u o posts2 R2 lt b is begun complete says = record {
 }
   where
     here : HoldsSlot (plan_of P u) (post_of (at_unit u (give o) k.board) u) (unit_of k.units u) R2 u (record (t.core.slots u) { outcome = Some o })
-    here = let h : HoldsSlot (plan_of P u) (post_of k.board u) (unit_of k.units u) t.core.recorded u (t.core.slots u) = b.slots u lt in
-    let put : post_of (at_unit u (give o) k.board) u ≡ give o (post_of k.board u) = post_put k.board u (give o (post_of k.board u)) (omega (arith, lt, b.posts)) in
-    record {
-      after = ap (λ (p : Post). p.after) put ∙ h.after;
-      taken = ap (λ (p : Post). p.claimed) put ∙ h.taken;
-      outcome = ap (λ (p : Post). p.outcome) put;
-      complete = says;
-      claimed = h.claimed;
-      faulted = h.faulted;
-      begun = h.begun ∙ sym (begun u);
-      known = h.known ∙ sym (begun u);
-      talk = h.talk;
-      fits = h.fits;
-      ends = h.ends;
-    }
+    here =
+        let h : HoldsSlot (plan_of P u) (post_of k.board u) (unit_of k.units u) t.core.recorded u (t.core.slots u) = b.slots u lt in
+        let put : post_of (at_unit u (give o) k.board) u ≡ give o (post_of k.board u) = post_put k.board u (give o (post_of k.board u)) (omega (arith, lt, b.posts)) in
+        record {
+          after = ap (λ (p : Post). p.after) put ∙ h.after;
+          taken = ap (λ (p : Post). p.claimed) put ∙ h.taken;
+          outcome = ap (λ (p : Post). p.outcome) put;
+          complete = says;
+          claimed = h.claimed;
+          faulted = h.faulted;
+          begun = h.begun ∙ sym (begun u);
+          known = h.known ∙ sym (begun u);
+          talk = h.talk;
+          fits = h.fits;
+          ends = h.ends;
+        }
 
 -- ------ parts of what is allowed
 pub open_below : (P : List UnitPlan) (c : Core) (u : ℕ) → is_open_unit P c u ≡ true → u < count_of P

@@ -1,8 +1,9 @@
+pub mod Addresses
 pub mod Asks
 pub mod Bodies
 pub mod Claiming
 pub mod Endings
-pub mod Replaying
+pub mod Lists
 pub mod Settling
 pub mod Slots
 pub mod Verdicts

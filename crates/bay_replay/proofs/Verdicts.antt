@@ -136,7 +136,7 @@ memory_is o = refl
 verdict_other : (size : ℕ) (o : Outcome) → IsVerdict o → IsOther size o
 verdict_other size Complete right = absurd right
 verdict_other size (Blocked by) right = absurd right
-verdict_other size o right = record { other = λ is. Prim.cc; within = tt }
+verdict_other size o right = record { other = λ is. cc; within = tt }
 
 end_right : (place : Place) (o : Outcome) → EndsRightly place → is_end place o ≡ true → IsVerdict o
 end_right (AtEnd said) o right is = same_right said o right is
@@ -160,7 +160,7 @@ blocker_within c size (w ∷ ws) by within is = elim (cases_Bool (c.recorded (en
 ]
 
 blocked_other : (P : List UnitPlan) (c : Core) (u : ℕ) (o : Outcome) → Each (λ w. w < count_of P) (plan_of P u).after → is_blocked P c u o ≡ true → IsOther (count_of P) o
-blocked_other P c u (Blocked by) within is = record { other = λ eq. Prim.cc; within = blocker_within c (count_of P) (plan_of P u).after by within is }
+blocked_other P c u (Blocked by) within is = record { other = λ eq. cc; within = blocker_within c (count_of P) (plan_of P u).after by within is }
 blocked_other P c u o within is = absurd (false≢true is)
 
 or_parts : (a b : Bool) → (a || b) ≡ true → (a ≡ true) ⊎ (b ≡ true)
@@ -177,9 +177,11 @@ end_other P c u o within ends stops is = first (or_parts _ _ (and_parts _ _ is).
     third : (((c.slots u).claimed && is_end (c.slots u).talk.place o) ≡ true) ⊎ ((if (c.slots u).faulted then same_outcome DiskFault o else is_stop c.stop o) ≡ true) → IsOther (count_of P) o
     third (inl e) = verdict_other (count_of P) o (end_right (c.slots u).talk.place o ends (and_parts _ _ e).1)
     third (inr e) = verdict_other (count_of P) o (by_stop (c.slots u).faulted c.stop o stops e)
+
     second : ((((c.slots u).claimed && is_end (c.slots u).talk.place o) || (if (c.slots u).faulted then same_outcome DiskFault o else is_stop c.stop o)) ≡ true) ⊎ (is_memory o ≡ true) → IsOther (count_of P) o
     second (inl e) = third (or_parts _ _ e)
     second (inr e) = verdict_other (count_of P) o (memory_right o e)
+
     first : (((((c.slots u).claimed && is_end (c.slots u).talk.place o) || (if (c.slots u).faulted then same_outcome DiskFault o else is_stop c.stop o)) || is_memory o) ≡ true) ⊎ (is_blocked P c u o ≡ true) → IsOther (count_of P) o
     first (inl e) = second (or_parts _ _ e)
     first (inr e) = blocked_other P c u o within e

@@ -13,7 +13,7 @@ use Rattle.bay_core.specs.Legal.{has_word}
 use Rattle.bay_replay.specs.Held.{Told, HoldsBody}
 use Rattle.unit_session.specs.Session.{IsOf, talk_of, is_begun}
 use Rattle.unit_session.specs.declared.session.UnitSession.{UnitSession}
-use Rattle.bay_replay.specs.declared.core.Core as kept
+use Rattle.bay_replay.specs.declared.state.Core as kept
 use Rattle.bay_replay.specs.Units.{unit_of}
 
 -- the conversation has heard a message of its unit

@@ -1,5 +1,5 @@
 -- What the state of a replay holds of the core's definition.
-use Rattle.std.specs.Prelude.{◌≡◌, ℕ, ◌<◌, ◌≤◌, Bool, true, List, length, Option, Some, None, is_some, nat_lt, ◌&&◌, ◌==◌, not, if◌then◌else◌}
+use Rattle.std.specs.Prelude.{◌≡◌, ℕ, ◌<◌, ◌≤◌, Bool, true, false, List, length, Option, Some, None, is_some, nat_lt, ◌&&◌, ◌==◌, not, if◌then◌else◌}
 use Rattle.flash_plan.specs.declared.outcome.Entry.{Entry}
 use Rattle.flash_plan.specs.declared.outcome.Entry.TheVariants.{Begun, Complete}
 use Rattle.flash_plan.specs.declared.outcome.Outcome.{Outcome}
@@ -20,7 +20,7 @@ use Rattle.link_state.specs.declared.state.LinkState.{LinkState}
 use Rattle.bay_core.specs.Core.{Core, Slot, addresses_of, core_after, link_after, slots_own, slots_lost, recorded_after, doubt_after, stop_after}
 use Rattle.bay_core.specs.Legal.{is_allowed, is_open_unit, is_clear, is_stop}
 use Rattle.bay_core.specs.declared.event.Event.{Event}
-use Rattle.bay_replay.specs.declared.core.Core as kept
+use Rattle.bay_replay.specs.declared.state.Core as kept
 use Rattle.bay_replay.specs.declared.units.Unit.{Unit as Kept}
 use Rattle.bay_replay.specs.Units.{unit_of}
 use Rattle.bay_replay.specs.Verdict.{EndsRightly, StopsRightly}

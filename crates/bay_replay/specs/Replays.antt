@@ -7,7 +7,7 @@ use Rattle.barrier_board.specs.Board.{has_entry}
 use Rattle.bay_core.specs.Core.{Core, core_of, core_start}
 use Rattle.bay_core.specs.Legal.{is_allowed, is_legal}
 use Rattle.bay_core.specs.declared.event.Event.{Event}
-use Rattle.bay_replay.specs.declared.core.Core as kept
+use Rattle.bay_replay.specs.declared.state.Core as kept
 use Rattle.bay_replay.specs.declared.fault.ReplayFault.{ReplayFault}
 use Rattle.bay_replay.specs.declared.fault.ReplayFault.TheVariants.{FirstBad, NoMemory}
 use Rattle.bay_replay.specs.Held.{Told, Holds}

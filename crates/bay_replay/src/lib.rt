@@ -5,15 +5,15 @@
 //! state holds of them: `Held` of board, conversations and link, `Replays` of the answer.
 #![tactic(auto)]
 
-mod core;
 mod fault;
 mod links;
 mod replaying;
 mod sessions;
+mod state;
 #[cfg(test)]
 mod tests;
 mod units;
 
-pub use core::Core;
 pub use fault::ReplayFault;
 pub use replaying::replay;
+pub use state::Core;

@@ -1,7 +1,7 @@
 ghost use Rattle.bay_replay.specs.Replays.{Replays};
 
-use crate::core::Core;
 use crate::fault::ReplayFault;
+use crate::state::Core;
 use bay_core::Events;
 use flash_plan::{Entries, LinkRules, Plan};
 use std::alloc::Global;

@@ -620,9 +620,11 @@ impl Core {
         events: &Events,
         i: usize,
     ) -> Result<bool, NoMemory>
+        ghost told: { Told }
         requires within { i < length events.now }
         requires few { i < 2 ^ 63 }
-        requires holds { Holds plan.now self.old (told_by rules.now plan.now found.now (take i events.now)) }
+        requires told { told ≡ told_by rules.now plan.now found.now (take i events.now) }
+        requires holds { Holds plan.now self.old told }
         ensures { IfOk result (λ ok. TakesAt rules.now plan.now found.now events.now i ok self.new) }
     {
         self.step(plan, rules, events.at(i))
