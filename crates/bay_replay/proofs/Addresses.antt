@@ -9,7 +9,7 @@ use Rattle.link_state.specs.State.{AreDistinct}
 addresses_suc : (P : List UnitPlan) (n : ℕ) → n < count_of P → addresses_of (take (suc n) P) ≡ addresses_of (take n P) ++ ((plan_of P n).address ∷ [])
 addresses_suc [] n lt = absurd (omega (arith, lt))
 addresses_suc (u ∷ us) zero lt = refl
-addresses_suc (u ∷ us) (suc n) lt = ap (λ (as : List ℕ). u.address ∷ as) (addresses_suc us n (omega (arith, lt)))
+addresses_suc (u ∷ us) (suc n) lt = ap (λ (xs : List ℕ). u.address ∷ xs) (addresses_suc us n (omega (arith, lt)))
 
 pub addresses_more : (P : List UnitPlan) (n : ℕ) → n < count_of P → addresses_of (take (n + 1) P) ≡ addresses_of (take n P) ++ ((plan_of P n).address ∷ [])
 addresses_more P n lt = ap (λ (k : ℕ). addresses_of (take k P)) (add-one n) ∙ addresses_suc P n lt

@@ -32,8 +32,8 @@ false_of true is = absurd (false≢true is)
 false_of false is = refl
 
 true_not : (b : Bool) → b ≡ true → not b ≡ true → ⊥
-true_not true is no = false≢true no
-true_not false is no = false≢true is
+true_not true is other = false≢true other
+true_not false is other = false≢true is
 
 module _ (P : List UnitPlan) (k : kept.Core) (t : Told) (b : HoldsBody P k t) (ok : IsAccepted P) where
   all_same : (ws : List ℕ) → Each (λ w. w < count_of P) ws → all_of ws (is_complete k.board) ≡ all_of ws (λ w. t.core.recorded (Complete w))

@@ -1,4 +1,4 @@
-ghost use Rattle.std.specs.Prelude.{◌≡◌, ◌&&◌, not, is_some};
+ghost use Rattle.std.specs.Prelude.{◌≡◌, is_some};
 ghost use Rattle.bay_core.specs.Legal.{is_begin, is_done, is_end, is_memory};
 ghost use Rattle.flash_plan.specs.Outcomes.{same_outcome};
 ghost use Rattle.flash_plan.specs.Plan.{IsAcceptedUnit};
@@ -58,14 +58,14 @@ pub fn is_at_end(session: &UnitSession, unit: &UnitPlan, outcome: Outcome) -> bo
     }
 }
 
-/// Whether a request is to be sent.
-pub fn is_sending(session: &UnitSession, unit: &UnitPlan) -> bool
+/// Whether a request stands where it is: to be sent, or to be answered.
+pub fn has_request(session: &UnitSession, unit: &UnitPlan) -> bool
     requires { IsOf unit.now session.now }
-    ensures { result ≡ (is_some (request_at unit.now (talk_of unit.now session.now).place) && not (talk_of unit.now session.now).awaiting) }
+    ensures { result ≡ is_some (request_at unit.now (talk_of unit.now session.now).place) }
 {
     match session.next(unit) {
-        Ask::Send => true,
-        Ask::Begin | Ask::Wait | Ask::Done | Ask::Ended(_) => false,
+        Ask::Send | Ask::Wait => true,
+        Ask::Begin | Ask::Done | Ask::Ended(_) => false,
     }
 }
 

@@ -142,9 +142,16 @@ impl Core {
             return false;
         }
         let kept = self.units.at(unit);
-        sessions::is_sending(&kept.session, plan.unit(unit))
-            && place == kept.session.number()
-            && self.is_clear(plan)
+        if !sessions::has_request(&kept.session, plan.unit(unit)) {
+            return false;
+        }
+        if place != kept.session.number() {
+            return false;
+        }
+        if sessions::is_waiting(&kept.session, plan.unit(unit)) {
+            return false;
+        }
+        self.is_clear(plan)
     }
 
     /// Whether an answer of the unit may be looked for now.
@@ -346,7 +353,10 @@ impl Core {
         ensures lacks { result ≡ not (has_word plan.now told.core unit) }
         ensures same { result ≡ true → Holds plan.now self.new told }
     {
-        self.link.take(plan.unit(unit).address).is_none()
+        let Some(_message) = self.link.take(plan.unit(unit).address) else {
+            return true;
+        };
+        false
     }
 
     fn collect_kept(&mut self, plan: &Plan, unit: u16) -> bool

@@ -51,16 +51,6 @@ fn has(entries: &[Entry], entry: Entry) -> bool
     false
 }
 
-/// A unit that was not taken up.
-fn fresh(begun: bool) -> Unit {
-    Unit {
-        session: UnitSession::new(begun),
-        claimed: false,
-        begun,
-        faulted: false,
-    }
-}
-
 impl Units {
     /// The units of a plan before any event.
     pub fn new(alloc: Global, plan: &Plan, found: &Entries) -> Result<Units, NoMemory>
@@ -69,7 +59,13 @@ impl Units {
         plan.is_accepted();
         let mut items = Vec::new(alloc);
         for n in 0..plan.units() {
-            items.push(fresh(has(found.as_slice(), Entry::Begun(n))))?;
+            let begun = has(found.as_slice(), Entry::Begun(n));
+            items.push(Unit {
+                session: UnitSession::new(begun),
+                claimed: false,
+                begun,
+                faulted: false,
+            })?;
         }
         Ok(Units { items })
     }
