@@ -6,22 +6,17 @@ use Rattle.flash_base.specs.Lists.{Each}
 use Rattle.barrier_board.specs.Board.{post_of, says_complete, is_complete}
 use Rattle.barrier_board.specs.declared.post.Post.{Post}
 use Rattle.bay_core.specs.Core.{Core}
-use Rattle.bay_core.specs.Legal.{is_blocker}
+use Rattle.bay_core.specs.Legal.{is_blocker, is_blocked}
 use Rattle.flash_plan.specs.declared.outcome.Entry.TheVariants.{Complete}
 use Rattle.flash_plan.specs.declared.outcome.Outcome.{Outcome}
 use Rattle.flash_plan.specs.declared.unit.UnitPlan.{UnitPlan}
 use Rattle.flash_plan.specs.Plan.{plan_of, count_of}
 use Rattle.bay_replay.specs.declared.state.Core as kept
-use Rattle.bay_replay.specs.Hears.{first_open}
+use Rattle.bay_replay.specs.Hears.{blocker}
 use Rattle.bay_replay.specs.Held.{Told, HoldsSlot, HoldsBody}
 
--- the first unit that is not complete is the one asked for, and has an outcome
-abbrev pub blocks : List Post → Option ℕ → ℕ → Bool
-blocks posts None by = false
-blocks posts (Some w) by = w == by && is_some (post_of posts w).outcome
-
 module _ (P : List UnitPlan) (k : kept.Core) (t : Told) (b : HoldsBody P k t) where
-  pub blocks_is : (ws : List ℕ) (by : ℕ) → Each (λ w. w < count_of P) ws → is_blocker t.core ws by ≡ blocks k.board (first_open k.board ws) by
+  pub blocks_is : (ws : List ℕ) (by : ℕ) → Each (λ w. w < count_of P) ws → is_blocker t.core ws by ≡ blocker k.board ws by
   blocks_is [] by within = refl
   blocks_is (w ∷ ws) by within =
       let h : HoldsSlot (plan_of P w) (post_of k.board w) _ t.core.recorded w (t.core.slots w) = b.slots w within.0 in

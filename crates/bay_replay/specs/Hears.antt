@@ -1,6 +1,6 @@
 -- One unit's conversation and post, as they are kept.
-use Rattle.std.specs.Prelude.{◌≡◌, ℕ, Bool, List, [], ◌∷◌, set, Option, Some, None, if◌then◌else◌}
-use Rattle.barrier_board.specs.Board.{is_complete}
+use Rattle.std.specs.Prelude.{◌≡◌, ℕ, Bool, List, [], ◌∷◌, set, false, ◌==◌, ◌&&◌, is_some, if◌then◌else◌}
+use Rattle.barrier_board.specs.Board.{is_complete, post_of}
 use Rattle.barrier_board.specs.declared.post.Post.{Post}
 use Rattle.flash_plan.specs.declared.unit.UnitPlan.{UnitPlan}
 use Rattle.link_state.specs.Inboxes.{spoken_of}
@@ -43,7 +43,7 @@ pub record HearsFirst (P : List UnitPlan) (u : ℕ) (t : Told) (ok : Bool) (k : 
   pub there : ok ≡ has_word P t.core u
   pub heard : HoldsBody P k (told_heard P u t)
 
--- the first of the units that is not complete
-abbrev pub first_open : List Post → List ℕ → Option ℕ
-first_open posts [] = None
-first_open posts (w ∷ ws) = if is_complete posts w then first_open posts ws else Some w
+-- the first of the units that is not complete is that one, and has an outcome
+abbrev pub blocker : List Post → List ℕ → ℕ → Bool
+blocker posts [] by = false
+blocker posts (w ∷ ws) by = if is_complete posts w then blocker posts ws by else w == by && is_some (post_of posts w).outcome

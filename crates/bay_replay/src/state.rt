@@ -4,7 +4,7 @@ ghost use Rattle.flash_plan.specs.Plan.{count_of, plan_of};
 ghost use Rattle.flash_plan.specs.declared.unit.UnitPlan.{UnitPlan};
 ghost use Rattle.link_state.specs.State.{Shows};
 ghost use Rattle.unit_session.specs.Session.{IsOf, talk_of};
-ghost use Rattle.bay_replay.specs.Hears.{HearsFirst, KeepsSession, first_open};
+ghost use Rattle.bay_replay.specs.Hears.{HearsFirst, KeepsSession, blocker};
 ghost use Rattle.bay_replay.specs.Held.{Told, Holds, HoldsBody, Steps, Takes, IsSeen, IsBoardOf, told_settled, told_lost, is_stopped, may_send, may_collect};
 ghost use Rattle.bay_replay.specs.Replays.{told_by, TakesAt};
 ghost use Rattle.bay_replay.specs.Units.{unit_of};
@@ -179,17 +179,18 @@ impl Core {
         }
     }
 
-    /// The first of these units that is not complete, if there is one.
-    fn first_open(&self, units: &[u16]) -> Option<u16>
+    /// Whether the first of these units that is not complete is that one, and has an outcome.
+    fn is_blocker(&self, units: &[u16], by: u16) -> bool
         requires { EachIndex units.now (λ k. slice_index units.now k < length self.now.board) }
-        ensures { result ≡ first_open self.now.board units.now }
+        ensures { result ≡ blocker self.now.board units.now by }
     {
         for i in 0..units.len() {
-            if !matches!(self.board.outcome(units[i]), Some(Outcome::Complete)) {
-                return Some(units[i]);
+            let outcome = self.board.outcome(units[i]);
+            if !matches!(outcome, Some(Outcome::Complete)) {
+                return units[i] == by && outcome.is_some();
             }
         }
-        None
+        false
     }
 
     /// Whether the unit is blocked by another as this outcome says.
@@ -201,10 +202,7 @@ impl Core {
     {
         plan.is_accepted();
         match outcome {
-            Outcome::Blocked { by } => match self.first_open(plan.unit(unit).after.as_slice()) {
-                Some(first) => first == by && self.board.outcome(first).is_some(),
-                None => false,
-            },
+            Outcome::Blocked { by } => self.is_blocker(plan.unit(unit).after.as_slice(), by),
             Outcome::Complete
             | Outcome::IdentMismatch { .. }
             | Outcome::Refused { .. }
