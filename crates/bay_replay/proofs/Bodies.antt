@@ -1,12 +1,12 @@
 -- What an event's own effect leaves held.
 use Rattle.std.proofs.Common.{◌≡◌, ◌≢◌, ℕ, ◌<◌, true, false, List, length, Some, None, refl, sym, ◌∙◌, ap, subst, arith}
-use Rattle.std.specs.Prelude.{Bool, Option, set, is_some, is_none, ◌==◌, ◌&&◌, not}
+use Rattle.std.specs.Prelude.{Bool, Option, set, is_some, is_none, ◌==◌, ◌&&◌, not, if◌then◌else◌}
 use Rattle.std.proofs.lemmas.Bool.{cases_Bool, false≢true, and_parts, and_left, and_right, ltb-true}
 use Rattle.std.proofs.Math.ListN.{length-set}
-use Rattle.barrier_board.specs.Board.{post_of, at_unit, give, take_up, says_complete}
+use Rattle.barrier_board.specs.Board.{post_of, post_start, at_unit, give, take_up, says_complete, has_entry}
 use Rattle.barrier_board.specs.declared.post.Post.{Post}
 use Rattle.barrier_board.proofs.Posts.{post_set, post_put}
-use Rattle.bay_core.specs.Core.{Core, Slot, with_slot, with_talk, addresses_of, slot_claimed}
+use Rattle.bay_core.specs.Core.{Core, Slot, with_slot, with_talk, addresses_of, slot_claimed, slot_start}
 use Rattle.bay_core.specs.Legal.{is_allowed, is_open_unit, has_word, may_begin, may_finish, may_record, may_end, is_clear}
 use Rattle.bay_core.specs.declared.event.Event.{Event}
 use Rattle.bay_core.specs.declared.event.Event.TheVariants as event
@@ -34,7 +34,7 @@ use Rattle.unit_session.specs.Session.{talk_of, is_begun}
 use Rattle.unit_session.specs.declared.session.UnitSession.{UnitSession}
 use Rattle.bay_replay.specs.declared.state.Core as kept
 use Rattle.bay_replay.specs.declared.units.Unit.{Unit as Kept}
-use Rattle.bay_replay.specs.Units.{unit_of}
+use Rattle.bay_replay.specs.Units.{unit_of, IsFresh}
 use Rattle.bay_replay.specs.Held.{Told, HoldsSlot, HoldsSlots, HoldsBody, Holds, Steps, told_own, may_collect, may_send}
 use Rattle.bay_replay.specs.Hears.{KeepsSession, told_heard, HearsFirst, HasHeard}
 use Rattle.bay_replay.specs.Verdict.{EndsRightly, IsVerdict, IsOther}
@@ -322,3 +322,24 @@ sender_open P c u place is = (and_parts _ _ (and_parts _ _ (and_parts _ _ (and_p
 
 pub sender_request : (P : List UnitPlan) (c : Core) (u place : ℕ) → may_send P c u place ≡ true → needs_request (c.slots u).talk.place ≡ true
 sender_request P c u place is = asks_needs (plan_of P u) (c.slots u).talk.place (and_parts _ _ (and_parts _ _ (and_parts _ _ (and_parts _ _ is).0).0).0).1
+
+-- ------ before any event
+pub start_slot : (P : List UnitPlan) (found : List Entry) (posts : List Post) (units : List Kept) (n : ℕ) → IsFresh (plan_of P n) found n (unit_of units n) → post_of posts n ≡ post_start P found n
+    → HoldsSlot (plan_of P n) (post_of posts n) (unit_of units n) (has_entry found) n (slot_start P (has_entry found) n)
+start_slot P found posts units n f is = record {
+  after = ap (λ (p : Post). p.after) is;
+  taken = ap (λ (p : Post). p.claimed) is;
+  outcome = ap (λ (p : Post). p.outcome) is;
+  complete = says (has_entry found (entry.Complete n));
+  claimed = f.claimed;
+  faulted = f.faulted;
+  begun = f.begun;
+  known = f.known;
+  talk = f.talk;
+  fits = f.fits;
+  ends = start_right (plan_of P n) (has_entry found (entry.Begun n));
+}
+  where
+    says : (b : Bool) → says_complete (if b then Some Complete else None) ≡ b
+    says true = refl
+    says false = refl

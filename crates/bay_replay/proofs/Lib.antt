@@ -1,5 +1,4 @@
 pub mod Addresses
-pub mod Asks
 pub mod Bodies
 pub mod Claiming
 pub mod Endings

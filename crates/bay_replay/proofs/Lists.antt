@@ -1,6 +1,6 @@
 -- A list of events, one event after another.
-use Rattle.std.proofs.Common.{◌≡◌, ◌⊎◌, inl, inr, ℕ, zero, suc, ◌+◌, ◌<◌, ◌≤◌, true, false, List, [], ◌∷◌, length, take, slice_get, Some, None, refl, sym, ◌∙◌, ap, subst, arith, add-one}
-use Rattle.std.specs.Prelude.{Bool, ◌&&◌}
+use Rattle.std.proofs.Common.{◌≡◌, ◌⊎◌, inl, inr, ℕ, zero, suc, ◌+◌, ◌<◌, ◌≤◌, true, false, List, [], ◌∷◌, length, take, slice_get, Some, None, Result, Ok, Err, refl, sym, ◌∙◌, ap, subst, arith, add-one}
+use Rattle.std.specs.Prelude.{Bool, ◌&&◌, IfOk}
 use Rattle.std.proofs.Math.Seq.{take-length}
 use Rattle.std.proofs.lemmas.Bool.{cases_Bool, and_from, and_left, and_right}
 use Rattle.barrier_board.specs.Board.{has_entry}
@@ -15,9 +15,12 @@ use Rattle.flash_plan.specs.declared.outcome.Entry.{Entry}
 use Rattle.flash_plan.specs.declared.unit.LinkRules.{LinkRules}
 use Rattle.flash_plan.specs.declared.unit.UnitPlan.{UnitPlan}
 use Rattle.run_model.proofs.Sees.{piece_ticks}
-use Rattle.run_model.specs.Link.{Link, lost_or, polled_quiet, unanswered, quiet_link}
+use Rattle.flash_plan.specs.Plan.{plan_of}
+use Rattle.run_model.specs.Link.{Link, Waits, lost_or, polled_quiet, unanswered, quiet_link, fresh_link}
 use Rattle.bay_core.specs.Core.{addresses_of}
-use Rattle.bay_replay.specs.Replays.{core_by, IsFirstBad}
+use Rattle.bay_replay.specs.declared.state.Core as kept
+use Rattle.bay_replay.specs.Held.{Told, Holds, Takes, told_after}
+use Rattle.bay_replay.specs.Replays.{core_by, told_by, TakesAt, IsFirstBad}
 
 some_is : (a b : Event) → Some a ≡ Some b → a ≡ b
 some_is a b e = cc
@@ -90,10 +93,10 @@ event_ticks : (rules : LinkRules) (P : List UnitPlan) (e : Event) (l : Link) →
 event_ticks rules P (Claimed u) l = omega arith
 event_ticks rules P (Began u) l = omega arith
 event_ticks rules P (Sent u place lost) l = omega (arith, lost_ticks lost l l refl)
-event_ticks rules P (Collected u h) l = omega (arith, taken_ticks _ h (heard_link rules P h l), heard_ticks rules P h l)
-event_ticks rules P (Tended (Dialed lost)) l = omega (arith, lost_ticks lost l _ refl)
-event_ticks rules P (Tended (Asked lost)) l = omega (arith, lost_ticks lost l _ refl)
-event_ticks rules P (Tended (Said lost)) l = omega (arith, lost_ticks lost l _ refl)
+event_ticks rules P (Collected u h) l = omega (arith, taken_ticks (plan_of P u).address h (heard_link rules P h l), heard_ticks rules P h l)
+event_ticks rules P (Tended (Dialed lost)) l = omega (arith, lost_ticks lost l (fresh_link l) refl)
+event_ticks rules P (Tended (Asked lost)) l = omega (arith, lost_ticks lost l (record l { phase = Waits; asked = l.ticks }) refl)
+event_ticks rules P (Tended (Said lost)) l = omega (arith, lost_ticks lost l (record l { owes = false }) refl)
 event_ticks rules P (Tended (Polled h)) l = heard_ticks rules P h l
 event_ticks rules P (Completed u) l = omega arith
 event_ticks rules P (DiskFailed u entry) l = omega arith
@@ -104,3 +107,15 @@ few_ticks rules P [] zero c = omega arith
 few_ticks rules P [] (suc i) c = omega arith
 few_ticks rules P (e ∷ es) zero c = omega arith
 few_ticks rules P (e ∷ es) (suc i) c = omega (arith, few_ticks rules P es i (core_after rules P e c), event_ticks rules P e c.link)
+
+-- ------ one event of a list
+pub if_ok : {T E : Type 0} (r : Result T E) (A B : T → Type 0) → ((x : T) → A x → B x) → IfOk r A → IfOk r B
+if_ok {T} {E} (Ok x) A B f a = f x a
+if_ok {T} {E} (Err e) A B f a = tt
+
+pub takes_at : (rules : LinkRules) (P : List UnitPlan) (found : List Entry) (es : List Event) (i : ℕ) (e : Event) (t : Told) (ok : Bool) (k : kept.Core) → t ≡ told_by rules P found (take i es) → slice_get es i ≡ Some e
+    → Takes P e t ok k → TakesAt rules P found es i ok k
+takes_at rules P found es i e t ok k is here h = record {
+  allowed = λ x there. h.allowed ∙ (λ j. is_allowed P (is j).core (some_is e x (sym here ∙ there) j));
+  holds = λ taken. subst (Holds P k) ((λ j. told_after P e (is j)) ∙ (λ j. record { rules = rules; core = sym (core_more rules P es i e (core_start P (has_entry found)) here) j })) (h.holds taken);
+}

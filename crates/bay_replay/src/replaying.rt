@@ -17,7 +17,7 @@ pub fn replay(
 ) -> Result<Core, ReplayFault>
     ensures { Replays rules.now plan.now found.now events.now result }
 {
-    let mut core = Core::start(alloc, plan, rules, found)?;
+    let mut core = Core::start(alloc, plan, *rules, found)?;
     for i in 0..events.as_slice().len() {
         if !core.step_at(plan, rules, found, events, i)? {
             return Err(ReplayFault::FirstBad { place: i as u64 });

@@ -71,13 +71,12 @@ impl Core {
     pub(crate) fn start(
         alloc: Global,
         plan: &Plan,
-        rules: &LinkRules,
+        rules: LinkRules,
         found: &Entries,
     ) -> Result<Core, NoMemory>
-        ensures { IfOk result (λ k. Holds plan.now k (told_by rules.now plan.now found.now [])) }
+        ensures { IfOk result (λ k. Holds plan.now k (told_by rules plan.now found.now [])) }
     {
         plan.is_accepted();
-        let rules = *rules;
         let all = addresses(alloc, plan)?;
         Ok(Core {
             board: Board::new(alloc, plan, found)?,
