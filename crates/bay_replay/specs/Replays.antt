@@ -1,5 +1,5 @@
 -- What a replay answers.
-use Rattle.std.specs.Prelude.{◌≡◌, ℕ, ◌+◌, ◌<◌, Bool, true, false, List, length, take, slice_get, Some, Result, Ok, Err}
+use Rattle.std.specs.Prelude.{◌≡◌, ◌⊎◌, ℕ, ◌+◌, ◌<◌, Bool, true, false, List, length, take, slice_get, Some, Result, Ok, Err}
 use Rattle.flash_plan.specs.declared.outcome.Entry.{Entry}
 use Rattle.flash_plan.specs.declared.unit.LinkRules.{LinkRules}
 use Rattle.flash_plan.specs.declared.unit.UnitPlan.{UnitPlan}
@@ -40,3 +40,12 @@ abbrev pub Replays : LinkRules → List UnitPlan → List Entry → List Event �
 Replays rules P found events (Ok k) = IsReplayed rules P found events k
 Replays rules P found events (Err (FirstBad place)) = IsFirstBad rules P found events place
 Replays rules P found events (Err NoMemory) = Unit {0}
+
+-- Each list of events is legal, or has a first place that is not allowed: never both, and no two such places.
+pub record HasOneAnswer : Type 0 where
+  pub some : (rules : LinkRules) (P : List UnitPlan) (found : List Entry) (events : List Event)
+      → (is_legal rules P (core_start P (has_entry found)) events ≡ true) ⊎ ((place : ℕ) × IsFirstBad rules P found events place)
+  pub either : (rules : LinkRules) (P : List UnitPlan) (found : List Entry) (events : List Event) (place : ℕ)
+      → is_legal rules P (core_start P (has_entry found)) events ≡ true → IsFirstBad rules P found events place → ⊥
+  pub one : (rules : LinkRules) (P : List UnitPlan) (found : List Entry) (events : List Event) (p q : ℕ)
+      → IsFirstBad rules P found events p → IsFirstBad rules P found events q → p ≡ q

@@ -6,6 +6,7 @@
 #![tactic(auto)]
 
 mod fault;
+mod laws;
 mod links;
 mod replaying;
 mod sessions;
@@ -15,5 +16,6 @@ mod tests;
 mod units;
 
 pub use fault::ReplayFault;
+pub use laws::each_list_has_one_answer;
 pub use replaying::replay;
 pub use state::Core;

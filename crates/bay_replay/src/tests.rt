@@ -8,10 +8,13 @@ use std::alloc::Global;
 use std::process::Abort;
 use std::test::Fail;
 
-/// The plan of unit 1001 with these bytes at 1000, without key rule.
-fn plan_of(alloc: Global, body: Bytes) -> Result<Plan, Fail> {
+/// The plan of unit 1001 with the bytes `abc` at 1000, without key rule.
+fn smallest(alloc: Global) -> Result<Plan, Fail> {
     let mut segments = Items::new(alloc);
-    segments.push(Segment { at: 0x1000, body })?;
+    segments.push(Segment {
+        at: 0x1000,
+        body: Bytes::from_slice(alloc, b"abc")?,
+    })?;
     let mut drafts = Items::new(alloc);
     drafts.push(Draft {
         name: Text::from_str(alloc, "A")?,
@@ -141,7 +144,7 @@ fn answered(alloc: Global, plan: &Plan, relinks: u8, log: &Events) -> Result<Sai
 #[test]
 fn smallest_run(rt: HostRuntime) -> Result<(), Fail> {
     let alloc = rt.alloc();
-    let plan = plan_of(alloc, Bytes::from_slice(alloc, b"abc")?)?;
+    let plan = smallest(alloc)?;
     let mut log = opened(alloc)?;
     log.push(Event::Began { unit: 0 })?;
     exchange(alloc, &mut log, SMALLEST)?;
@@ -165,35 +168,36 @@ fn lost(alloc: Global) -> Result<Events, NoMemory> {
     Ok(log)
 }
 
-/// A link lost once: with a new connection the unit starts at `10 02`, and not where it was; without
-/// one the run is stopped, and the unit ends so.
+/// A link lost once and made anew: the unit starts at `10 02`; with no connection to be made anew the dial is not allowed.
 #[test]
-fn lost_link(rt: HostRuntime) -> Result<(), Fail> {
+fn relinked(rt: HostRuntime) -> Result<(), Fail> {
     let alloc = rt.alloc();
-    let plan = plan_of(alloc, Bytes::from_slice(alloc, b"abc")?)?;
+    let plan = smallest(alloc)?;
     let mut log = lost(alloc)?;
     connect(alloc, &mut log)?;
     exchange(alloc, &mut log, SMALLEST)?;
     log.push(Event::Completed { unit: 0 })?;
-    assert_eq!(rt;
-        answered(alloc, &plan, 1, &log)?,
-        Said::Good(Some(Outcome::Complete), None)
-    );
+    let complete = Said::Good(Some(Outcome::Complete), None);
+    assert_eq!(rt; answered(alloc, &plan, 1, &log)?, complete);
     assert_eq!(rt; answered(alloc, &plan, 0, &log)?, Said::Bad(12));
+    Ok(())
+}
+
+/// A link lost once: the request where it was is not allowed; without a new connection the run is
+/// stopped, and the unit ends so.
+#[test]
+fn link_lost(rt: HostRuntime) -> Result<(), Fail> {
+    let alloc = rt.alloc();
+    let plan = smallest(alloc)?;
     let mut further = lost(alloc)?;
     connect(alloc, &mut further)?;
     send(&mut further, 3, false)?;
     assert_eq!(rt; answered(alloc, &plan, 1, &further)?, Said::Bad(15));
+    let outcome = Outcome::LinkLost { times: 1 };
     let mut ended = lost(alloc)?;
-    let once = Outcome::LinkLost { times: 1 };
-    ended.push(Event::Ended {
-        unit: 0,
-        outcome: once,
-    })?;
-    assert_eq!(rt;
-        answered(alloc, &plan, 0, &ended)?,
-        Said::Good(Some(once), Some(once))
-    );
+    ended.push(Event::Ended { unit: 0, outcome })?;
+    let stopped = Said::Good(Some(outcome), Some(outcome));
+    assert_eq!(rt; answered(alloc, &plan, 0, &ended)?, stopped);
     Ok(())
 }
 
@@ -243,7 +247,7 @@ fn limit(
 #[test]
 fn limits_of_patience(rt: HostRuntime) -> Result<(), Fail> {
     let alloc = rt.alloc();
-    let plan = plan_of(alloc, Bytes::from_slice(alloc, b"abc")?)?;
+    let plan = smallest(alloc)?;
     let pending = Outcome::PendingLimit { sid: 0x36 };
     let busy = Outcome::BusyLimit { sid: 0x36 };
     let silent = Outcome::NoAnswer { sid: 0x36 };
