@@ -11,8 +11,12 @@ addresses_suc [] n lt = absurd (omega (arith, lt))
 addresses_suc (u ∷ us) zero lt = refl
 addresses_suc (u ∷ us) (suc n) lt = ap (λ (xs : List ℕ). u.address ∷ xs) (addresses_suc us n (omega (arith, lt)))
 
-pub addresses_more : (P : List UnitPlan) (n : ℕ) → n < count_of P → addresses_of (take (n + 1) P) ≡ addresses_of (take n P) ++ ((plan_of P n).address ∷ [])
+addresses_more : (P : List UnitPlan) (n : ℕ) → n < count_of P → addresses_of (take (n + 1) P) ≡ addresses_of (take n P) ++ ((plan_of P n).address ∷ [])
 addresses_more P n lt = ap (λ (k : ℕ). addresses_of (take k P)) (add-one n) ∙ addresses_suc P n lt
+
+-- one unit more
+pub addresses_next : (P : List UnitPlan) (n : ℕ) (xs ys : List ℕ) (u : UnitPlan) → n < count_of P → xs ≡ addresses_of (take n P) → u ≡ plan_of P n → ys ≡ xs ++ (u.address ∷ []) → ys ≡ addresses_of (take (n + 1) P)
+addresses_next P n xs ys u lt before is more = more ∙ (λ i. before i ++ ((is i).address ∷ [])) ∙ sym (addresses_more P n lt)
 
 pub addresses_size : (P : List UnitPlan) → length (addresses_of P) ≡ count_of P
 addresses_size [] = refl

@@ -1,13 +1,13 @@
 -- What an event's own effect leaves held.
 use Rattle.std.proofs.Common.{◌≡◌, ◌≢◌, ℕ, ◌<◌, true, false, List, length, Some, None, refl, sym, ◌∙◌, ap, subst, arith}
 use Rattle.std.specs.Prelude.{Bool, Option, set, is_some, is_none, ◌==◌, ◌&&◌, not, if◌then◌else◌}
-use Rattle.std.proofs.lemmas.Bool.{cases_Bool, false≢true, and_parts, and_left, and_right, ltb-true}
+use Rattle.std.proofs.lemmas.Bool.{false≢true, and_parts, and_left, and_right, ltb-true}
 use Rattle.std.proofs.Math.ListN.{length-set}
 use Rattle.barrier_board.specs.Board.{post_of, post_start, at_unit, give, take_up, says_complete, has_entry}
 use Rattle.barrier_board.specs.declared.post.Post.{Post}
 use Rattle.barrier_board.proofs.Posts.{post_set, post_put}
 use Rattle.bay_core.specs.Core.{Core, Slot, with_slot, with_talk, addresses_of, slot_claimed, slot_start}
-use Rattle.bay_core.specs.Legal.{is_allowed, is_open_unit, has_word, may_begin, may_finish, may_record, may_end, is_clear}
+use Rattle.bay_core.specs.Legal.{is_allowed, is_open_unit, may_record, may_end, is_clear}
 use Rattle.bay_core.specs.declared.event.Event.{Event}
 use Rattle.bay_core.specs.declared.event.Event.TheVariants as event
 use Rattle.bay_core.proofs.Allowed.{below_count, begin_facts, finish_facts, asks_needs}
@@ -36,8 +36,8 @@ use Rattle.bay_replay.specs.declared.state.Core as kept
 use Rattle.bay_replay.specs.declared.units.Unit.{Unit as Kept}
 use Rattle.bay_replay.specs.Units.{unit_of, IsFresh}
 use Rattle.bay_replay.specs.Held.{Told, HoldsSlot, HoldsSlots, HoldsBody, Holds, Steps, told_own, may_collect, may_send}
-use Rattle.bay_replay.specs.Hears.{KeepsSession, told_heard, HearsFirst, HasHeard}
-use Rattle.bay_replay.specs.Verdict.{EndsRightly, IsVerdict, IsOther}
+use Rattle.bay_replay.specs.Hears.{KeepsSession, told_heard, HasHeard}
+use Rattle.bay_replay.specs.Verdict.{EndsRightly}
 use Rattle.bay_replay.proofs.Slots.{slots_put, unit_slots, unit_set, unit_put, same_slots, talked_slot, entry_here, begun_else}
 use Rattle.bay_replay.proofs.Verdicts.{start_right, needs_going}
 
@@ -136,10 +136,6 @@ given_body P k t u o posts2 R2 lt b is begun complete says = record {
           fits = h.fits;
           ends = h.ends;
         }
-
--- ------ parts of what is allowed
-pub open_below : (P : List UnitPlan) (c : Core) (u : ℕ) → is_open_unit P c u ≡ true → u < count_of P
-open_below P c u is = below_count P c u is
 
 -- ------ the oldest message of a unit
 pub record TookWord (P : List UnitPlan) (t : Told) (u : ℕ) (l2 : LinkState) (word : Option Spoken) : Type 0 where

@@ -1,13 +1,12 @@
 -- The unit that the board gives is the one that may be claimed.
-use Rattle.std.proofs.Common.{◌≡◌, ◌≢◌, ◌⊎◌, inl, inr, ℕ, zero, suc, ◌+◌, ◌<◌, ◌≤◌, true, false, List, [], ◌∷◌, length, Some, None, refl, sym, ◌∙◌, ap, subst, arith}
-use Rattle.std.specs.Prelude.{Bool, ◌==◌, ◌&&◌, not, nat_lt, is_none, set}
-use Rattle.std.proofs.lemmas.Bool.{cases_Bool, cases_lt, false≢true, and_parts, and_from, and_left, and_right, both_ways, lt-ltb, le-ltb, eqb-true, eq-eqb}
+use Rattle.std.proofs.Common.{◌≡◌, ◌≢◌, inl, inr, ℕ, zero, suc, ◌<◌, true, false, List, [], ◌∷◌, length, None, refl, sym, ◌∙◌, ap, subst, arith}
+use Rattle.std.specs.Prelude.{Bool, ◌==◌, ◌&&◌, not, nat_lt, is_none}
+use Rattle.std.proofs.lemmas.Bool.{cases_Bool, cases_lt, false≢true, and_parts, and_from, and_left, and_right, lt-ltb, le-ltb, eqb-true, eq-eqb}
 use Rattle.flash_base.specs.Lists.{Each, all_of}
 use Rattle.flash_base.specs.Numbers.{each_below}
-use Rattle.barrier_board.specs.Board.{post_of, says_complete, is_complete, is_free, is_free_at, IsFirstFree, IsTaken, IsNone}
+use Rattle.barrier_board.specs.Board.{post_of, says_complete, is_complete, is_free_at, IsFirstFree, IsNone}
 use Rattle.barrier_board.specs.declared.post.Post.{Post}
-use Rattle.bay_core.specs.Core.{Core}
-use Rattle.bay_core.specs.Legal.{is_allowed, is_ready, is_running}
+use Rattle.bay_core.specs.Legal.{is_allowed, is_ready}
 use Rattle.bay_core.specs.declared.event.Event.TheVariants.{Claimed}
 use Rattle.flash_plan.specs.declared.outcome.Entry.TheVariants.{Complete}
 use Rattle.flash_plan.specs.declared.unit.UnitPlan.{UnitPlan}

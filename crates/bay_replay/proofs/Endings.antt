@@ -1,12 +1,10 @@
 -- Who blocks a unit, and what is allowed, test by test.
-use Rattle.std.proofs.Common.{◌≡◌, ◌⊎◌, inl, inr, ℕ, zero, suc, ◌<◌, true, false, List, [], ◌∷◌, length, Some, None, refl, sym, ◌∙◌, ap, subst, arith}
-use Rattle.std.specs.Prelude.{Bool, Option, ◌==◌, ◌&&◌, is_some, is_none, nat_lt, slice_index, if◌then◌else◌}
-use Rattle.std.proofs.lemmas.Bool.{cases_Bool, false≢true, and_parts}
+use Rattle.std.proofs.Common.{◌≡◌, inl, inr, ℕ, zero, suc, ◌<◌, true, false, List, [], ◌∷◌, length, refl, sym, ◌∙◌, ap, arith}
+use Rattle.std.specs.Prelude.{Option, ◌==◌, ◌&&◌, is_some, slice_index}
+use Rattle.std.proofs.lemmas.Bool.{cases_Bool}
 use Rattle.flash_base.specs.Lists.{Each}
 use Rattle.barrier_board.specs.Board.{post_of, says_complete, is_complete}
-use Rattle.barrier_board.specs.declared.post.Post.{Post}
-use Rattle.bay_core.specs.Core.{Core}
-use Rattle.bay_core.specs.Legal.{is_blocker, is_blocked}
+use Rattle.bay_core.specs.Legal.{is_blocker}
 use Rattle.flash_plan.specs.declared.outcome.Entry.TheVariants.{Complete}
 use Rattle.flash_plan.specs.declared.outcome.Outcome.{Outcome}
 use Rattle.flash_plan.specs.declared.unit.UnitPlan.{UnitPlan}

@@ -1,6 +1,5 @@
 -- A list of events has one answer.
-use Rattle.std.proofs.Common.{◌≡◌, ◌⊎◌, inl, inr, ℕ, zero, suc, ◌+◌, ◌<◌, ◌≤◌, true, false, List, [], ◌∷◌, length, take, slice_get, Some, refl, sym, ◌∙◌, ap, arith}
-use Rattle.std.specs.Prelude.{Bool, ◌&&◌}
+use Rattle.std.proofs.Common.{◌≡◌, ◌⊎◌, inl, inr, ℕ, zero, suc, ◌<◌, true, false, List, [], ◌∷◌, length, take, slice_get, Some, refl, sym, ◌∙◌, ap, arith}
 use Rattle.std.proofs.lemmas.Bool.{cases_Bool, cases_lt, false≢true, and_from, and_parts}
 use Rattle.barrier_board.specs.Board.{has_entry}
 use Rattle.bay_core.specs.Core.{Core, core_after, core_of, core_start}
@@ -32,7 +31,7 @@ found : (rules : LinkRules) (P : List UnitPlan) (es : List Event) (c : Core) →
 found rules P [] c = inl refl
 found rules P (e ∷ es) c = elim (cases_Bool (is_allowed P c e)) [
   | inl ok ↦ one_later rules P c e es ok (found rules P es (core_after rules P e c))
-  | inr out ↦ inr (zero, record { within = omega arith; before = refl; bad = λ x is. sym (ap (is_allowed P c) (some_is e x is)) ∙ no })
+  | inr out ↦ inr (zero, record { within = omega arith; before = refl; bad = λ x is. sym (ap (is_allowed P c) (some_is e x is)) ∙ out })
 ]
 
 -- each event of a legal list is allowed

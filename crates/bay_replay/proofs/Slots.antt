@@ -1,8 +1,8 @@
 -- One unit's post and what is kept beside it changes, and no other's.
-use Rattle.std.proofs.Common.{◌≡◌, ◌≢◌, ◌⊎◌, inl, inr, get_or-set_other, get_or-set_same, ℕ, zero, suc, ◌<◌, true, false, List, [], ◌∷◌, ◌++◌, length, refl, sym, ◌∙◌, ap, subst, arith}
-use Rattle.std.specs.Prelude.{Bool, Some, set, ◌==◌, ◌||◌}
-use Rattle.std.proofs.lemmas.Bool.{cases_Bool, false≢true, eq-eqb, eqb-true, ne_eqb, or_right}
-use Rattle.barrier_board.specs.Board.{post_of, says_complete}
+use Rattle.std.proofs.Common.{◌≡◌, ◌≢◌, inl, inr, get_or-set_other, get_or-set_same, ℕ, zero, suc, ◌<◌, true, false, List, [], ◌∷◌, ◌++◌, length, refl, sym, ◌∙◌, ap, subst, arith}
+use Rattle.std.specs.Prelude.{Bool, set, ◌==◌}
+use Rattle.std.proofs.lemmas.Bool.{cases_Bool, false≢true, eq-eqb, eqb-true, ne_eqb}
+use Rattle.barrier_board.specs.Board.{post_of}
 use Rattle.barrier_board.specs.declared.post.Post.{Post}
 use Rattle.bay_core.specs.Core.{Slot, with_slot, with_talk}
 use Rattle.flash_plan.specs.declared.outcome.Entry.{Entry}
@@ -92,11 +92,5 @@ talked_slot plan post unit R n s said f h known talk fits ends = record {
 pub entry_here : (u : ℕ) (R : Entry → Bool) → with_entry (Begun u) R (Begun u) ≡ true
 entry_here u R = let e : (u == u) ≡ true = eq-eqb u u refl in rw e refl
 
-pub complete_here : (u : ℕ) (R : Entry → Bool) → with_entry (Complete u) R (Complete u) ≡ true
-complete_here u R = let e : (u == u) ≡ true = eq-eqb u u refl in rw e refl
-
 pub begun_else : (u k : ℕ) (R : Entry → Bool) → k ≢ u → with_entry (Begun u) R (Begun k) ≡ R (Begun k)
 begun_else u k R ne = let e : (k == u) ≡ false = ne_eqb k u ne in rw e refl
-
-pub complete_else : (u k : ℕ) (R : Entry → Bool) → k ≢ u → with_entry (Complete u) R (Complete k) ≡ R (Complete k)
-complete_else u k R ne = let e : (k == u) ≡ false = ne_eqb k u ne in rw e refl

@@ -1,22 +1,19 @@
 -- A conversation ends with an outcome of its own, and a run stops with one of its link or its disk.
-use Rattle.std.proofs.Common.{◌≡◌, ◌≢◌, ◌⊎◌, inl, inr, ℕ, ◌+◌, ◌<◌, ◌≤◌, true, false, List, [], ◌∷◌, Some, None, refl, sym, ◌∙◌, ap, subst, arith}
-use Rattle.std.specs.Prelude.{Bool, Option, ◌==◌, ◌&&◌, ◌||◌, nat_lt, nat_le, if◌then◌else◌}
-use Rattle.std.proofs.lemmas.Bool.{cases_Bool, false≢true, and_parts, both_ways, eq-eqb, eqb-true}
-use Rattle.bay_core.specs.Core.{Core, link_stop, refused_stop, stop_after, is_disk_failure}
+use Rattle.std.proofs.Common.{◌≡◌, ◌⊎◌, inl, inr, ℕ, ◌+◌, ◌<◌, true, false, List, [], ◌∷◌, Some, None, refl, subst}
+use Rattle.std.specs.Prelude.{Bool, Option, ◌==◌, ◌&&◌, ◌||◌, nat_le, if◌then◌else◌}
+use Rattle.std.proofs.lemmas.Bool.{cases_Bool, false≢true, and_parts, eqb-true}
+use Rattle.bay_core.specs.Core.{Core}
 use Rattle.bay_core.specs.Legal.{is_end, is_stop, is_memory, is_blocker, is_blocked, may_end}
-use Rattle.bay_core.specs.declared.event.Event.{Event}
 use Rattle.flash_base.specs.Lists.{Each}
 use Rattle.flash_plan.specs.declared.outcome.Entry.TheVariants as entry
 use Rattle.flash_plan.specs.declared.outcome.Outcome.{Outcome}
-use Rattle.flash_plan.specs.declared.outcome.Outcome.TheVariants.{Complete, IdentMismatch, Refused, BadAnswer, CheckFailed, Undelivered, NoAnswer, PendingLimit, BusyLimit, LinkLost, LinkRefused, Blocked, DiskFault, NoMemory}
-use Rattle.flash_plan.specs.declared.unit.LinkRules.{LinkRules}
+use Rattle.flash_plan.specs.declared.outcome.Outcome.TheVariants.{Complete, Blocked, DiskFault, NoMemory}
 use Rattle.flash_plan.specs.declared.unit.UnitPlan.{UnitPlan}
 use Rattle.flash_plan.specs.Outcomes.{same_outcome}
 use Rattle.flash_plan.specs.Plan.{plan_of, count_of}
-use Rattle.run_model.specs.Link.{Link, Phase, Down, Fresh, Waits, Up, Denied}
 use Rattle.run_model.specs.Places.{is_ended, needs_request}
-use Rattle.run_model.specs.Script.{Place, AtIdent, AtBegin, AtProgram, AtSeed, AtKey, AtErase, AtDownload, AtBlock, AtExit, AtCheck, AtFinish, AtReset, AtDone, AtEnd, start_place, idents_from, bytes_at}
-use Rattle.run_model.specs.Talk.{Talk, talk_start, talk_lost, talk_hears, talk_takes, talk_quiet, keeps_on_loss}
+use Rattle.run_model.specs.Script.{Place, AtEnd, start_place, idents_from}
+use Rattle.run_model.specs.Talk.{Talk, talk_lost, talk_hears, talk_takes, talk_quiet, keeps_on_loss}
 use Rattle.run_model.specs.Ways.{Spoken, Reply, Unheard}
 use Rattle.unit_session.specs.Ends.{AnswerEnds}
 use Rattle.unit_session.proofs.Ends.{ends_are_caused}
@@ -63,21 +60,6 @@ pub needs_going : (place : Place) → needs_request place ≡ true → is_ended 
 needs_going (AtEnd outcome) needs = absurd (false≢true needs)
 needs_going place needs = refl
 
--- ------ what stops a run
-refused_right : (p : Phase) → StopsRightly (refused_stop p)
-refused_right Down = tt
-refused_right Fresh = tt
-refused_right Waits = tt
-refused_right Up = tt
-refused_right (Denied code) = tt
-
-link_right : (rules : LinkRules) (l : Link) → StopsRightly (link_stop rules l)
-link_right rules l = elim (cases_Bool (nat_lt rules.relinks l.losses)) [ inl e ↦ rw e tt | inr e ↦ rw e (refused_right l.phase) ]
-
-pub stop_right : (stop : Option Outcome) (e : Event) (rules : LinkRules) (l : Link) → StopsRightly stop → StopsRightly (stop_after stop e rules l)
-stop_right (Some outcome) e rules l right = right
-stop_right None e rules l right = elim (cases_Bool (is_disk_failure e)) [ inl f ↦ rw f tt | inr f ↦ rw f (link_right rules l) ]
-
 -- ------ outcomes, compared
 same_right : (a b : Outcome) → IsVerdict a → same_outcome a b ≡ true → IsVerdict b
 same_right Complete b right is = absurd right
@@ -85,52 +67,6 @@ same_right (Blocked by) b right is = absurd right
 same_right a Complete right is = absurd (false≢true is)
 same_right a (Blocked by) right is = absurd (false≢true is)
 same_right a b right is = tt
-
-pub same_true : (a b : Outcome) → a ≡ b → same_outcome a b ≡ true
-same_true a b is = subst (λ (x : Outcome). same_outcome a x ≡ true) is (self a)
-  where
-    self : (x : Outcome) → same_outcome x x ≡ true
-    self Complete = refl
-    self (IdentMismatch did) = eq-eqb did did refl
-    self (Refused sid nrc) = let p : (sid == sid) ≡ true = eq-eqb sid sid refl in let q : (nrc == nrc) ≡ true = eq-eqb nrc nrc refl in rw (p, q) refl
-    self (BadAnswer sid) = eq-eqb sid sid refl
-    self (CheckFailed a b c) = let p : (a == a) ≡ true = eq-eqb a a refl in let q : (b == b) ≡ true = eq-eqb b b refl in let r : (c == c) ≡ true = eq-eqb c c refl in rw (p, q, r) refl
-    self (Undelivered code) = eq-eqb code code refl
-    self (NoAnswer sid) = eq-eqb sid sid refl
-    self (PendingLimit sid) = eq-eqb sid sid refl
-    self (BusyLimit sid) = eq-eqb sid sid refl
-    self (LinkLost times) = eq-eqb times times refl
-    self (LinkRefused code) = eq-eqb code code refl
-    self (Blocked by) = eq-eqb by by refl
-    self DiskFault = refl
-    self NoMemory = refl
-
-pub true_same : (a b : Outcome) → same_outcome a b ≡ true → a ≡ b
-true_same Complete Complete is = refl
-true_same (IdentMismatch a) (IdentMismatch b) is = ap IdentMismatch (eqb-true a b is)
-true_same (Refused a b) (Refused c d) is = let both = and_parts (a == c) (b == d) is in λ i. Refused (eqb-true a c both.0 i) (eqb-true b d both.1 i)
-true_same (BadAnswer a) (BadAnswer b) is = ap BadAnswer (eqb-true a b is)
-true_same (CheckFailed a b c) (CheckFailed d e f) is =
-    let both = and_parts (a == d && b == e) (c == f) is in
-    let front = and_parts (a == d) (b == e) both.0 in
-    λ i. CheckFailed (eqb-true a d front.0 i) (eqb-true b e front.1 i) (eqb-true c f both.1 i)
-true_same (Undelivered a) (Undelivered b) is = ap Undelivered (eqb-true a b is)
-true_same (NoAnswer a) (NoAnswer b) is = ap NoAnswer (eqb-true a b is)
-true_same (PendingLimit a) (PendingLimit b) is = ap PendingLimit (eqb-true a b is)
-true_same (BusyLimit a) (BusyLimit b) is = ap BusyLimit (eqb-true a b is)
-true_same (LinkLost a) (LinkLost b) is = ap LinkLost (eqb-true a b is)
-true_same (LinkRefused a) (LinkRefused b) is = ap LinkRefused (eqb-true a b is)
-true_same (Blocked a) (Blocked b) is = ap Blocked (eqb-true a b is)
-true_same DiskFault DiskFault is = refl
-true_same NoMemory NoMemory is = refl
-true_same a b is = absurd (false≢true is)
-
-pub same_false : (a b : Outcome) → a ≢ b → same_outcome a b ≡ false
-same_false a b ne = elim (cases_Bool (same_outcome a b)) [ inl e ↦ absurd (ne (true_same a b e)) | inr e ↦ e ]
-
-pub memory_is : (o : Outcome) → is_memory o ≡ same_outcome o NoMemory
-memory_is NoMemory = refl
-memory_is o = refl
 
 -- ------ an outcome that may end a unit is one that a board takes
 verdict_other : (size : ℕ) (o : Outcome) → IsVerdict o → IsOther size o

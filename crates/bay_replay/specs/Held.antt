@@ -10,13 +10,11 @@ use Rattle.flash_plan.specs.declared.unit.UnitPlan.{UnitPlan}
 use Rattle.flash_plan.specs.Plan.{plan_of, count_of}
 use Rattle.barrier_board.specs.Board.{post_of, says_complete}
 use Rattle.barrier_board.specs.declared.post.Post.{Post}
-use Rattle.run_model.specs.Link.{Link}
 use Rattle.run_model.specs.Script.{request_at}
 use Rattle.unit_session.specs.Session as session
 use Rattle.unit_session.specs.Session.{talk_of, is_begun}
 use Rattle.unit_session.specs.declared.session.UnitSession.{UnitSession}
 use Rattle.link_state.specs.State.{Shows, IsOf}
-use Rattle.link_state.specs.declared.state.LinkState.{LinkState}
 use Rattle.bay_core.specs.Core.{Core, Slot, addresses_of, core_after, link_after, slots_own, slots_lost, recorded_after, doubt_after, stop_after}
 use Rattle.bay_core.specs.Legal.{is_allowed, is_open_unit, is_clear, is_stop}
 use Rattle.bay_core.specs.declared.event.Event.{Event}

@@ -1,5 +1,5 @@
 -- What is kept of each unit beside the board.
-use Rattle.std.specs.Prelude.{◌≡◌, ◌≢◌, ℕ, ◌<◌, false, List, [], length, slice_index_or}
+use Rattle.std.specs.Prelude.{◌≡◌, ◌≢◌, ℕ, ◌<◌, false, List, length, slice_index_or}
 use Rattle.flash_plan.specs.declared.outcome.Entry.{Entry}
 use Rattle.flash_plan.specs.declared.outcome.Entry.TheVariants.{Begun}
 use Rattle.flash_plan.specs.declared.unit.UnitPlan.{UnitPlan}

@@ -1,15 +1,14 @@
-use Rattle.std.proofs.Common.{◌≡◌, ℕ, ◌<◌, ◌++◌, ◌∷◌, [], List, length, take, sym, ap, ◌∙◌, arith}
+use Rattle.std.proofs.Common.{◌≡◌, ℕ, ◌<◌, length, take, ap, ◌∙◌, arith}
 use Rattle.std.proofs.Math.Seq.{take-length}
-use Rattle.flash_plan.specs.declared.unit.UnitPlan.{UnitPlan}
 use Rattle.flash_plan.specs.Plan.{count_of}
 use Rattle.bay_core.specs.Core.{addresses_of}
-use Rattle.bay_replay.proofs.Addresses.{addresses_more}
+use Rattle.bay_replay.proofs.Addresses.{addresses_next}
 use Rattle.bay_replay.proofs.links.addresses.Goals as goal
 
 pub loop-n-preserved : goal.loop-n-preserved
 loop-n-preserved c =
     let lt : c.loop-n.n < count_of c.args.plan.now = omega (arith, c.loop-n-test.true, c.units-n-end.ensures) in
-    c.in_ok-push.ensures.items ∙ (λ i. c.loop-n.invariant i ++ ((c.unit.ensures i).address ∷ [])) ∙ sym (addresses_more c.args.plan.now c.loop-n.n lt)
+    addresses_next c.args.plan.now c.loop-n.n c.loop-n.all.items c.push.new.self.items c.unit.result.now lt c.loop-n.invariant c.unit.ensures c.in_ok-push.ensures.items
 
 pub returns : goal.returns
 returns c =

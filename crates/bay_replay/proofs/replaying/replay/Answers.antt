@@ -1,4 +1,4 @@
-use Rattle.std.proofs.Common.{◌≡◌, ◌<◌, ℕ, List, length, slice_get, Some, ap, sym, ◌∙◌, arith}
+use Rattle.std.proofs.Common.{◌≡◌, ◌<◌, List, length, slice_get, Some, ap, sym, ◌∙◌, arith}
 use Rattle.barrier_board.specs.Board.{has_entry}
 use Rattle.bay_core.specs.Core.{core_start}
 use Rattle.bay_core.specs.declared.event.Event.{Event}

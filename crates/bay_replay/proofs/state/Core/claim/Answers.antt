@@ -5,10 +5,8 @@ use Rattle.unit_session.specs.declared.session.UnitSession.{UnitSession}
 use Rattle.bay_core.specs.declared.event.Event.TheVariants.{Claimed}
 use Rattle.barrier_board.specs.Board.{HasClaimed, IsTaken}
 use Rattle.barrier_board.specs.declared.board.Claimed as given
-use Rattle.barrier_board.specs.declared.board.Claimed.TheVariants as claimed
 use Rattle.flash_plan.specs.Plan.{plan_of, count_of}
 use Rattle.run_model.specs.Talk.{talk_start}
-use Rattle.unit_session.specs.Session.{talk_of, is_begun, IsOf}
 use Rattle.bay_replay.specs.declared.units.Unit.{Unit as Kept}
 use Rattle.bay_replay.specs.Units.{unit_of}
 use Rattle.bay_replay.proofs.Bodies.{refused, taken, claimed_body, not_some}

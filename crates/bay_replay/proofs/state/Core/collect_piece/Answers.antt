@@ -1,4 +1,4 @@
-use Rattle.std.proofs.Common.{◌≡◌, ℕ, ◌<◌, List, true, ap, sym, subst, ◌∙◌}
+use Rattle.std.proofs.Common.{◌≡◌, ℕ, List, true, ap, sym, subst, ◌∙◌}
 use Rattle.std.specs.Prelude.{not}
 use Rattle.std.proofs.lemmas.Bool.{and_from, and_parts}
 use Rattle.bay_core.proofs.Joined.{up_open}
@@ -7,12 +7,12 @@ use Rattle.bay_core.specs.Legal.{has_word}
 use Rattle.bay_core.specs.declared.event.Event.TheVariants.{Collected}
 use Rattle.bay_core.specs.declared.event.Heard.TheVariants.{Piece}
 use Rattle.flash_plan.specs.declared.unit.UnitPlan.{UnitPlan}
-use Rattle.flash_plan.specs.Plan.{plan_of, count_of}
+use Rattle.flash_plan.specs.Plan.{plan_of}
 use Rattle.link_state.specs.State.{Shows, IsOf}
 use Rattle.run_model.proofs.Sees.{piece_ticks}
 use Rattle.run_model.specs.Link.{Link, hear_piece, is_open, take_word, first_word}
 use Rattle.run_model.specs.Talk.{Talk, talk_takes}
-use Rattle.bay_replay.specs.Held.{Told, HoldsSlot, HoldsBody, Holds, may_collect}
+use Rattle.bay_replay.specs.Held.{Told, HoldsBody, Holds, may_collect}
 use Rattle.bay_replay.specs.Hears.{told_heard}
 use Rattle.bay_replay.proofs.Bodies.{taken, link_body, labels_kept, collector_below, collector_waits}
 use Rattle.bay_replay.proofs.state.Core.collect_piece.Goals as goal

@@ -9,7 +9,6 @@ use Rattle.flash_plan.specs.declared.unit.UnitPlan.{UnitPlan}
 use Rattle.flash_plan.specs.Plan.{plan_of, count_of}
 use Rattle.link_state.specs.State.{Shows}
 use Rattle.run_model.specs.Link.{Link, polled_quiet}
-use Rattle.run_model.specs.Places.{needs_request}
 use Rattle.run_model.specs.Talk.{Talk, talk_quiet}
 use Rattle.unit_session.specs.Session.{talk_of, is_begun, IsOf}
 use Rattle.bay_replay.specs.declared.units.Unit.{Unit as Kept}

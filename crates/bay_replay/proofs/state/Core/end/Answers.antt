@@ -3,11 +3,7 @@ use Rattle.barrier_board.specs.Board.{NamesWithin, says_complete}
 use Rattle.bay_core.specs.Legal.{may_end}
 use Rattle.bay_core.specs.declared.event.Event.TheVariants.{Ended}
 use Rattle.flash_plan.specs.declared.unit.UnitPlan.{UnitPlan}
-use Rattle.flash_plan.specs.declared.outcome.Outcome.{Outcome}
-use Rattle.flash_plan.specs.Plan.{plan_of, count_of}
-use Rattle.std.specs.Prelude.{Option}
-use Rattle.bay_replay.specs.Held.{HoldsSlot}
-use Rattle.bay_replay.specs.Verdict.{IsOther}
+use Rattle.flash_plan.specs.Plan.{count_of}
 use Rattle.bay_replay.proofs.Bodies.{taken, given_body, not_complete, ender_below, ender_open}
 use Rattle.bay_replay.proofs.Verdicts.{end_other}
 use Rattle.bay_replay.proofs.state.Core.end.Goals as goal

@@ -1,9 +1,8 @@
-use Rattle.std.proofs.Common.{◌≡◌, ℕ, ◌<◌, List, true, ap, sym, ◌∙◌}
+use Rattle.std.proofs.Common.{◌≡◌, ℕ, List, true, ap, sym, ◌∙◌}
 use Rattle.std.specs.Prelude.{set}
 use Rattle.bay_core.specs.Legal.{may_record}
 use Rattle.bay_core.specs.declared.event.Event.TheVariants.{DiskFailed}
 use Rattle.flash_plan.specs.declared.unit.UnitPlan.{UnitPlan}
-use Rattle.flash_plan.specs.Plan.{count_of}
 use Rattle.bay_replay.specs.declared.units.Unit.{Unit as Kept}
 use Rattle.bay_replay.proofs.Bodies.{taken, failed_body, recorder_below}
 use Rattle.bay_replay.proofs.state.Core.fail.Goals as goal

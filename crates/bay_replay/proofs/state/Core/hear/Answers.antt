@@ -1,10 +1,10 @@
-use Rattle.std.proofs.Common.{◌≡◌, ℕ, true, false, ap, sym, subst, ◌∙◌, None, Some}
+use Rattle.std.proofs.Common.{◌≡◌, true, false, ap, sym, subst, ◌∙◌, None, Some}
 use Rattle.std.specs.Prelude.{Option, is_some}
 use Rattle.bay_core.specs.Core.{addresses_of}
 use Rattle.flash_plan.specs.declared.unit.UnitPlan.{UnitPlan}
 use Rattle.flash_plan.specs.Plan.{plan_of}
 use Rattle.link_state.specs.Inboxes.{spoken_of}
-use Rattle.link_state.specs.State.{option_spoken, IsOf}
+use Rattle.link_state.specs.State.{option_spoken}
 use Rattle.run_model.specs.Link.{take_word, first_word}
 use Rattle.run_model.specs.Places.{is_ended}
 use Rattle.run_model.specs.Talk.{Talk, talk_takes}

@@ -1,6 +1,5 @@
-use Rattle.std.proofs.Common.{◌≡◌, ap, sym, ◌∙◌, None}
+use Rattle.std.proofs.Common.{ap, sym, ◌∙◌}
 use Rattle.std.specs.Prelude.{Option, is_some, not}
-use Rattle.std.proofs.lemmas.Bool.{false≢true}
 use Rattle.flash_plan.specs.declared.unit.UnitPlan.{UnitPlan}
 use Rattle.run_model.specs.Ways.{Spoken}
 use Rattle.link_state.specs.State.{option_spoken}

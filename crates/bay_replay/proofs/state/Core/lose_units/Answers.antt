@@ -1,4 +1,4 @@
-use Rattle.std.proofs.Common.{◌≡◌, ◌<◌, ◌≤◌, arith, refl}
+use Rattle.std.proofs.Common.{◌≡◌, ◌<◌, ◌≤◌, arith}
 use Rattle.bay_replay.proofs.Settling.{lost_body, unlost_body, are_of}
 use Rattle.bay_replay.proofs.state.Core.lose_units.Goals as goal
 

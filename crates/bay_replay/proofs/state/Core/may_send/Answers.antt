@@ -1,5 +1,5 @@
-use Rattle.std.proofs.Common.{◌≡◌, ℕ, ◌<◌, List, true, false, ap, sym, ◌∙◌}
-use Rattle.std.specs.Prelude.{Bool, ◌==◌, ◌&&◌, not, is_some}
+use Rattle.std.proofs.Common.{◌≡◌, ℕ, List, true, false, ap, sym, ◌∙◌}
+use Rattle.std.specs.Prelude.{◌==◌, not, is_some}
 use Rattle.std.proofs.lemmas.Bool.{ne_eqb, eq-eqb}
 use Rattle.bay_core.proofs.Allowed.{below_count}
 use Rattle.bay_core.specs.Legal.{is_open_unit, is_clear}
@@ -7,7 +7,6 @@ use Rattle.flash_plan.specs.declared.unit.UnitPlan.{UnitPlan}
 use Rattle.run_model.specs.Script.{request_at}
 use Rattle.run_model.specs.Talk.{Talk}
 use Rattle.unit_session.specs.Session.{talk_of}
-use Rattle.bay_replay.specs.Held.{may_send}
 use Rattle.bay_replay.proofs.Bodies.{send_tests, not_next, all_next}
 use Rattle.bay_replay.proofs.state.Core.may_send.Goals as goal
 

@@ -1,5 +1,4 @@
-use Rattle.std.proofs.Common.{◌≡◌, ◌<◌, ◌≤◌, ℕ, List, refl, sym, subst, ◌∙◌, arith, rules}
-use Rattle.bay_core.specs.Core.{addresses_of}
+use Rattle.std.proofs.Common.{◌<◌, ℕ, List, refl, sym, subst, ◌∙◌, arith}
 use Rattle.link_state.specs.State.{AreDistinct, IsOf}
 use Rattle.bay_replay.proofs.Addresses.{distinct}
 use Rattle.bay_replay.proofs.Bodies.{start_slot}

@@ -1,4 +1,4 @@
-use Rattle.std.proofs.Common.{◌≡◌, ◌+◌, ◌<◌, ◌≤◌, ℕ, List, take, ap, arith}
+use Rattle.std.proofs.Common.{◌≡◌, ◌+◌, ◌<◌, ◌≤◌, take, ap, arith}
 use Rattle.std.specs.Prelude.{Bool}
 use Rattle.barrier_board.specs.Board.{has_entry}
 use Rattle.bay_core.specs.Core.{core_start}

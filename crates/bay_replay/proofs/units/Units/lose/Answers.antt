@@ -1,4 +1,4 @@
-use Rattle.std.proofs.Common.{◌≡◌, ◌≢◌, ℕ, ◌<◌, sym, subst, ◌∙◌, below_more, arith}
+use Rattle.std.proofs.Common.{◌≢◌, ℕ, sym, subst, ◌∙◌, below_more, arith}
 use Rattle.flash_plan.specs.Plan.{plan_of}
 use Rattle.bay_replay.specs.declared.units.Unit.{Unit as Kept}
 use Rattle.bay_replay.specs.Units.{unit_of, IsLostUnit}

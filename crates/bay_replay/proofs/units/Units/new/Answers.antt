@@ -1,4 +1,4 @@
-use Rattle.std.proofs.Common.{◌≡◌, ℕ, ◌+◌, ◌<◌, List, [], ◌∷◌, ◌++◌, length, true, false, refl, sym, ap, subst, ◌∙◌, below_more, arith, length-append}
+use Rattle.std.proofs.Common.{◌≡◌, ℕ, ◌+◌, ◌<◌, List, [], ◌∷◌, ◌++◌, length, false, refl, sym, ap, subst, ◌∙◌, below_more, arith, length-append}
 use Rattle.barrier_board.specs.Board.{has_entry}
 use Rattle.flash_plan.specs.Plan.{plan_of, count_of}
 use Rattle.flash_plan.specs.declared.outcome.Entry.{Entry}
