@@ -1,0 +1,9 @@
+pub mod Addresses
+pub mod Bodies
+pub mod Claiming
+pub mod Endings
+pub mod Lists
+pub mod OneAnswer
+pub mod Settling
+pub mod Slots
+pub mod Verdicts

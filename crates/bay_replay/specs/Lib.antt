@@ -1,0 +1,5 @@
+pub mod Held
+pub mod Hears
+pub mod Replays
+pub mod Units
+pub mod Verdict
