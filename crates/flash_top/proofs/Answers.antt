@@ -1,5 +1,5 @@
 -- What the files give is one answer, and what a run is refused for.
-use Rattle.std.proofs.Common.{◌≡◌, ◌⊎◌, inl, inr, ℕ, Bool, false, List, Result, Ok, Err, subst, refl}
+use Rattle.std.proofs.Common.{◌≡◌, ◌⊎◌, inl, inr, ℕ, false, List, Result, Ok, Err, subst, refl}
 use Rattle.flash_base.specs.Counts.{Rises}
 use Rattle.flash_shelf.specs.declared.shelf.ShelfFault.{ShelfFault}
 use Rattle.flash_shelf.specs.declared.shelf.ShelfFault.TheVariants as shelf

@@ -1,10 +1,9 @@
 -- A refusal that was printed as an answer.
-use Rattle.std.proofs.Common.{◌≡◌, ◌⊎◌, inl, inr, ℕ, Bool, IsTrue, List, ◌++◌, refl, ◌∙◌}
+use Rattle.std.proofs.Common.{◌≡◌, inl, inr, ℕ, Bool, List, refl, ◌∙◌}
 use Rattle.plan_build.specs.declared.fault.BuildFault.{BuildFault}
 use Rattle.plan_build.specs.declared.fault.BuildFault.TheVariants.{Shelf, Input, NoMemory}
 use Rattle.plan_commands.specs.Answering.{refused, status_of}
 use Rattle.plan_commands.specs.Serving.{unwritten, IsPrinted}
-use Rattle.plan_commands.specs.declared.answering.Answer.{Answer}
 use Rattle.plan_commands.specs.declared.status.Status.{Status}
 use Rattle.run_report.specs.Refusing.{refusal_line}
 use Rattle.flash_top.specs.Printing.{Says}

@@ -1,5 +1,5 @@
 -- No words are a run and another command.
-use Rattle.std.proofs.Common.{◌≡◌, ℕ, List, [], ◌∷◌, Bool, true, false, ◌&&◌, Option, Some, None, length, codes, bytes_eq, cond, refl, sym, ap, ◌∙◌, arith}
+use Rattle.std.proofs.Common.{◌≡◌, ℕ, List, [], ◌∷◌, Bool, true, false, ◌&&◌, Some, None, length, codes, bytes_eq, cond, refl, sym, ap, ◌∙◌, arith}
 use Rattle.std.proofs.lemmas.Slice.Eq.{bytes_eq-Decides}
 use Rattle.text_forms.specs.FileNames.{file_name}
 use Rattle.flash_order.specs.Fields.{is_task_name}

@@ -1,4 +1,4 @@
-use Rattle.std.proofs.Common.{◌≡◌, ◌⊎◌, ℕ, List, [], Some, None, Result, Ok, Err, ◌∙◌, ap, sym, subst, map, string_bytes}
+use Rattle.std.proofs.Common.{◌≡◌, ◌⊎◌, ℕ, List, [], Some, None, Result, Ok, ◌∙◌, ap, sym, subst, map, string_bytes}
 use Rattle.std.specs.Prelude.{Option}
 use Rattle.flash_base.specs.Counts.{Rises}
 use Rattle.plan_build.specs.Building.{built}
