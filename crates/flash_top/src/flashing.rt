@@ -4,10 +4,11 @@ ghost use Rattle.flash_plan.specs.declared.outcome.Outcome.TheVariants as outcom
 ghost use Rattle.flash_shelf.specs.Outside.{CameFrom};
 ghost use Rattle.flash_shelf.specs.declared.shelf.ShelfFault.{ShelfFault};
 ghost use Rattle.journal_model.specs.Records.{label_of};
-ghost use Rattle.plan_build.specs.Building.{built};
+ghost use Rattle.plan_build.specs.Building.{built, built_by};
+ghost use Rattle.plan_build.specs.Fetched.{came, period};
 ghost use Rattle.plan_build.specs.declared.built.Built.{Built};
 ghost use Rattle.plan_build.specs.declared.fault.BuildFault.{BuildFault};
-ghost use Rattle.plan_commands.specs.Answering.{answered, shown_for};
+ghost use Rattle.plan_commands.specs.Answering.{answered, refused, shown_for};
 ghost use Rattle.plan_commands.specs.Serving.{usage, IsPlainStatus, IsPrinted, IsServed, IsStarved};
 ghost use Rattle.plan_commands.specs.Words.{command_of, order_of};
 ghost use Rattle.plan_commands.specs.declared.words.Command.{Command};
@@ -63,7 +64,23 @@ pub fn flash_plain<R: Threads + Sync, F: Shelf, S: Shop, K: Sink>(
         → IsStarved (K.written out.old) (K.written out.new) result
         ⊎ IsPrinted K.tells (K.written out.old) (K.written out.new) (K.faults out.old) (K.faults out.new) (answered c r) result }
 
+    // `Input` comes just where the reads lead to a file that is refused, or the order has no such task.
+    ensures input { result ≡ Status.Input → (c : Command) → command_of (map string_bytes words.now) ≡ Some c
+        → (r : Result Built BuildFault) × built_by (came (period F.tells (F.contents shelf.old) (F.faults shelf.old) (F.faults shelf.new))) (order_of c) r
+        × ((answered c r).status ≡ Status.Input)
+        × IsPrinted K.tells (K.written out.old) (K.written out.new) (K.faults out.old) (K.faults out.new) (answered c r) result }
+
+    // `Shelf` comes of a file that the shelf did not give, which the line names.
+    ensures shelf { result ≡ Status.Shelf → (c : Command) → command_of (map string_bytes words.now) ≡ Some c
+        → (name : List ℕ) × (why : ShelfFault) × (¬ (why ≡ ShelfFault.NoMemory)) × CameFrom F.tells (F.contents shelf.old) name (F.faults shelf.old) (F.faults shelf.new) (Err why)
+        × IsPrinted K.tells (K.written out.old) (K.written out.new) (K.faults out.old) (K.faults out.new) (refused (BuildFault.Shelf name why)) result }
+
     ensures sink { result ≡ Status.Sink → Rises (K.faults out.old) (K.faults out.new) }
+
+    // At `Done` the whole text was printed.
+    ensures done { result ≡ Status.Done → (c : Command) → command_of (map string_bytes words.now) ≡ Some c
+        → (b : Built) × built_by (came (period F.tells (F.contents shelf.old) (F.faults shelf.old) (F.faults shelf.new))) (order_of c) (Ok b)
+        × ((shown_for c b).status ≡ Status.Done) × (IsTrue K.tells → K.written out.new ≡ K.written out.old ++ (shown_for c b).text) }
 
     // Where no read and no write failed, an accepted order, of which the task is, is shown, but for want of memory.
     ensures complete { IsTrue F.tells → IsTrue K.tells → ¬ Rises (F.faults shelf.old) (F.faults shelf.new) → ¬ Rises (K.faults out.old) (K.faults out.new)
