@@ -1,5 +1,5 @@
 -- The drafts of tasks are as the plan asks for, and everything is there once for each task.
-use Rattle.std.proofs.Common.{◌≡◌, ◌∙◌, refl, ap, sym, subst, ℕ, zero, suc, ◌+◌, ◌<◌, ◌≤◌, arith, List, [], ◌∷◌, ◌++◌, length, length-append, map, Result, Ok, Err, Some, slice_get, get_or}
+use Rattle.std.proofs.Common.{◌≡◌, ◌∙◌, refl, ap, ℕ, zero, suc, ◌+◌, ◌<◌, ◌≤◌, arith, List, [], ◌∷◌, ◌++◌, length, length-append, map, Ok, Err, Some, slice_get, get_or}
 use Rattle.std.proofs.lemmas.Bool.{lt-ltb, le-ltb}
 use Rattle.std.specs.Prelude.{slice_index_or}
 use Rattle.ecu_mem.specs.declared.types.EcuMem.{EcuMem}
@@ -11,11 +11,9 @@ use Rattle.plan_build.specs.Building.{few_tasks}
 use Rattle.plan_build.specs.declared.fault.BuildFault.TheVariants.{Input}
 use Rattle.plan_build.specs.declared.fault.Cause.TheVariants.{TooMany}
 use Rattle.flash_order.specs.Promises as order
-use Rattle.flash_order.specs.declared.order.Order.{Order}
 use Rattle.flash_order.specs.declared.order.Task.{Task}
 use Rattle.flash_plan.specs.Accepting.{IsAsked, IsDraft, unit_of, units_of}
-use Rattle.flash_plan.specs.Plan.{AreApart, IsAccepted, count_of}
-use Rattle.flash_plan.specs.declared.unit.Draft.{Draft}
+use Rattle.flash_plan.specs.Plan.{AreApart, count_of}
 use Rattle.flash_plan.specs.declared.unit.Segment.{Segment}
 use Rattle.flash_plan.specs.declared.unit.UnitPlan.{UnitPlan}
 use Rattle.flash_plan.specs.declared.unit.Wanted.{Wanted}
@@ -23,7 +21,7 @@ use Rattle.session_image.specs.Images.{IsSegment, IsUsable}
 use Rattle.session_image.specs.declared.types.Image.{Image}
 use Rattle.plan_build.specs.Refusals.{name_of}
 use Rattle.plan_build.specs.Tasks.{drafted, with_last}
-use Rattle.plan_build.specs.Whole.{AreFor, IsWhole}
+use Rattle.plan_build.specs.Whole.{AreFor}
 use Rattle.plan_build.specs.declared.built.Part.{Part}
 use Rattle.plan_build.specs.declared.built.Parts.{Parts}
 

@@ -1,5 +1,5 @@
 -- Lists that are made one item after another, where each may be refused.
-use Rattle.std.proofs.Common.{◌≡◌, ◌∙◌, ◌⊎◌, inl, inr, sym, refl, ap, subst, zero, suc, arith, ◌+◌, ◌-◌, ◌<◌, ◌≤◌, ℕ, List, [], ◌∷◌, ◌++◌, length, get_or, drop, take, map, append_assoc, append-nil, Option, Some, None, IsSome, Result, Ok, Err, slice_get, cond, Bool, true, false, bytes_eq}
+use Rattle.std.proofs.Common.{◌≡◌, ◌∙◌, inl, inr, sym, refl, ap, subst, zero, suc, arith, ◌+◌, ◌<◌, ◌≤◌, ℕ, List, [], ◌∷◌, ◌++◌, length, get_or, drop, take, map, append_assoc, append-nil, Option, Some, IsSome, Result, Ok, Err, slice_get, cond, Bool, true, false, bytes_eq}
 use Rattle.std.proofs.lemmas.List.{drop_more}
 use Rattle.std.proofs.lemmas.Slice.Eq.{bytes_eq-Decides}
 use Rattle.flash_base.specs.Files.{first_of}
@@ -9,14 +9,13 @@ use Rattle.flash_order.specs.declared.order.Task.{Task}
 use Rattle.flash_shelf.specs.declared.shelf.ShelfFault.{ShelfFault}
 use Rattle.ecu_mem.specs.declared.types.Ident.{Ident}
 use Rattle.flash_plan.specs.declared.unit.Wanted.{Wanted}
-use Rattle.plan_build.specs.Answers.{just, Then, goes_on, stops, ◌>>=◌, ◌>=>◌}
+use Rattle.plan_build.specs.Answers.{just, goes_on, stops, ◌>=>◌}
 use Rattle.plan_build.specs.Fetched.{fetched, all_fetched}
 use Rattle.plan_build.specs.Tasks.{all_wanted, did_of, no_parts, part, parts, room_after, wanted_of, with_last, with_part}
 use Rattle.plan_build.specs.declared.built.Catalogue.{Catalogue}
 use Rattle.plan_build.specs.declared.built.Part.{Part}
 use Rattle.plan_build.specs.declared.built.Parts.{Parts}
 use Rattle.plan_build.specs.declared.fault.BuildFault.{BuildFault}
-use Rattle.plan_build.specs.declared.fault.BuildFault.TheVariants.{NoMemory}
 use Rattle.plan_build.proofs.Steps.{Or}
 
 -- the rest of a list from an item on

@@ -1,12 +1,12 @@
 -- A session has one image, or one refusal.
-use Rattle.std.proofs.Common.{◌≡◌, ◌∙◌, ◌⊎◌, inl, inr, sym, refl, ap, subst, ℕ, ◌+◌, ◌<◌, ◌≤◌, arith, List, Option, Some, None, Result, Ok, Err}
+use Rattle.std.proofs.Common.{◌≡◌, ◌∙◌, ◌⊎◌, inl, inr, sym, refl, ap, subst, ℕ, arith, List, Option, Some, None, Result, Ok, Err}
 use Rattle.std.proofs.lemmas.Bool.{cases_lt}
 use Rattle.span_store.specs.Lowest.{IsLowest}
 use Rattle.ecu_mem.specs.declared.types.EcuMem.{EcuMem}
 use Rattle.ecu_mem.specs.declared.types.Ident.{Ident}
 use Rattle.session_image.specs.Checks.{all_checked}
 use Rattle.session_image.specs.Files.{session_of, blocks_of}
-use Rattle.session_image.specs.Images.{own_of, IsAnswer, IsRefused, IsSet, IsWhole}
+use Rattle.session_image.specs.Images.{own_of, IsAnswer, IsRefused, IsWhole}
 use Rattle.session_image.specs.Pieces.{session_pieces, segments_of, IsShared}
 use Rattle.session_image.specs.declared.pieces.Piece.{Piece}
 use Rattle.session_image.specs.declared.types.Image.{Image}

@@ -1,5 +1,5 @@
 -- Drafts make one plan, or have one refusal.
-use Rattle.std.proofs.Common.{◌≡◌, ◌∙◌, ◌⊎◌, inl, inr, sym, refl, ap, subst, ℕ, ◌<◌, List, Option, Some, None, Result, Ok, Err}
+use Rattle.std.proofs.Common.{◌≡◌, ◌∙◌, ◌⊎◌, inl, inr, sym, refl, ap, ℕ, List, Option, Some, None, Result, Ok, Err}
 use Rattle.span_store.specs.Lowest.{IsLowest}
 use Rattle.flash_plan.specs.Accepting.{draft_of, first_task, has_same_address, has_same_name, has_unknown, has_wide, too_many, units_of, IsAnswer, IsKnown}
 use Rattle.flash_plan.specs.Plan.{StandsBefore}

@@ -1,34 +1,26 @@
 -- Files that are alike have one answer.
-use Rattle.std.proofs.Common.{◌≡◌, ◌∙◌, ◌⊎◌, inl, inr, sym, refl, ap, subst, ℕ, ◌+◌, nat_lt, cond, Bool, true, false, List, [], ◌∷◌, length, Option, Some, None, Result, Ok, Err}
+use Rattle.std.proofs.Common.{◌≡◌, ◌∙◌, ◌⊎◌, inl, inr, sym, ap, subst, ℕ, ◌+◌, List, [], ◌∷◌, Option, Some, None, Result, Ok, Err}
 use Rattle.flash_order.specs.declared.order.Order.{Order}
 use Rattle.flash_order.specs.declared.order.Source.{Source}
 use Rattle.flash_order.specs.declared.order.Source.TheVariants as source
 use Rattle.flash_order.specs.declared.order.Task.{Task}
 use Rattle.flash_plan.specs.Plan.{size_of}
-use Rattle.flash_plan.specs.declared.fault.PlanFault.{PlanFault}
 use Rattle.flash_plan.specs.declared.fault.PlanFault.TheVariants as plan
-use Rattle.flash_plan.specs.declared.fault.What.TheVariants.{Units}
-use Rattle.flash_plan.specs.declared.unit.UnitPlan.{UnitPlan}
 use Rattle.flash_plan.specs.declared.unit.Wanted.{Wanted}
 use Rattle.flash_shelf.specs.Memory.{file_in}
 use Rattle.flash_shelf.specs.declared.shelf.ShelfFault.{ShelfFault}
 use Rattle.session_image.specs.Files.{session_of, files_of}
-use Rattle.session_image.specs.declared.types.Image.{Image}
-use Rattle.session_image.specs.declared.types.ImageFault.{ImageFault}
 use Rattle.session_image.specs.declared.types.ImageFault.TheVariants as image
-use Rattle.plan_build.specs.Answers.{just, Then, goes_on, stops, ◌>>=◌}
-use Rattle.plan_build.specs.Building.{built, built_by, few_tasks, plan_from, planned, tasks_built}
+use Rattle.plan_build.specs.Answers.{just, goes_on, stops, ◌>>=◌}
+use Rattle.plan_build.specs.Building.{built_by, few_tasks, plan_from, planned, tasks_built}
 use Rattle.plan_build.specs.Catalogues.{catalogue_in, catalogued, order_in, ordered}
 use Rattle.plan_build.specs.Fetched.{all_fetched, fetched, is_told, of_answer}
 use Rattle.plan_build.specs.Laws.{FilesGiveOneAnswer, IsOne}
 use Rattle.plan_build.specs.Tasks.{all_wanted, from_session, from_source, image_from, imaged, part, part_with, parts, raw_part, room_after, session_in, session_part, with_part}
-use Rattle.plan_build.specs.declared.built.Built.{Built}
 use Rattle.plan_build.specs.declared.built.Catalogue.{Catalogue}
-use Rattle.plan_build.specs.declared.built.Part.{Part}
 use Rattle.plan_build.specs.declared.built.Parts.{Parts}
 use Rattle.plan_build.specs.declared.fault.BuildFault.{BuildFault}
-use Rattle.plan_build.specs.declared.fault.BuildFault.TheVariants.{Input, NoMemory}
-use Rattle.plan_build.specs.declared.fault.Cause.TheVariants.{TooMany}
+use Rattle.plan_build.specs.declared.fault.BuildFault.TheVariants.{NoMemory}
 use Rattle.plan_build.proofs.OneImage.{one_image}
 use Rattle.plan_build.proofs.OnePlan.{one_plan}
 

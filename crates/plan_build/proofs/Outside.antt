@@ -1,5 +1,5 @@
 -- A refusal of the shelf is what a read answered.
-use Rattle.std.proofs.Common.{◌≡◌, ◌∙◌, ◌⊎◌, inl, inr, refl, ap, sym, subst, ℕ, ◌+◌, ◌==◌, nat_lt, cond, Bool, true, false, List, [], ◌∷◌, length, Option, Some, None, Result, Ok, Err, bytes_eq}
+use Rattle.std.proofs.Common.{inl, inr, sym, subst, ℕ, ◌+◌, ◌==◌, nat_lt, cond, Bool, true, false, List, [], ◌∷◌, length, Option, Some, None, Result, Ok, Err, bytes_eq}
 use Rattle.std.specs.List.{position_from}
 use Rattle.odx_tree.specs.Tree.{tree_of}
 use Rattle.odx_tree.specs.declared.element.Element.{Element}
@@ -23,8 +23,6 @@ use Rattle.flash_order.specs.declared.order.Task.{Task}
 use Rattle.flash_plan.specs.Plan.{size_of}
 use Rattle.flash_plan.specs.declared.fault.PlanFault.{PlanFault}
 use Rattle.flash_plan.specs.declared.fault.PlanFault.TheVariants as plan
-use Rattle.flash_plan.specs.declared.fault.What.TheVariants.{Units, Total}
-use Rattle.flash_plan.specs.declared.unit.Segment.{Segment}
 use Rattle.flash_plan.specs.declared.unit.UnitPlan.{UnitPlan}
 use Rattle.flash_plan.specs.declared.unit.Wanted.{Wanted}
 use Rattle.flash_shelf.specs.declared.shelf.ShelfFault.{ShelfFault}
@@ -33,21 +31,18 @@ use Rattle.session_image.specs.Files.{session_of, files_of}
 use Rattle.session_image.specs.declared.types.Image.{Image}
 use Rattle.session_image.specs.declared.types.ImageFault.{ImageFault}
 use Rattle.session_image.specs.declared.types.ImageFault.TheVariants as image
-use Rattle.plan_build.specs.Answers.{just, Then, goes_on, stops, ◌>>=◌, ◌>=>◌}
+use Rattle.plan_build.specs.Answers.{just, goes_on, stops, ◌>>=◌, ◌>=>◌}
 use Rattle.plan_build.specs.Building.{built_by, few_tasks, plan_from, planned, tasks_built}
 use Rattle.plan_build.specs.Catalogues.{catalogue_in, catalogued, mem_from, order_from, order_in, ordered, tree_from}
 use Rattle.plan_build.specs.Fetched.{all_fetched, fetched, of_answer}
-use Rattle.plan_build.specs.Refusals.{data_file, image_refusal, lines_refusal, mem_refusal, order_refusal, plan_refusal, tree_refusal}
-use Rattle.plan_build.specs.Tasks.{all_wanted, did_of, found_or_not, from_session, from_source, image_from, imaged, part, part_with, parts, raw_part, room_after, session_in, session_part, wanted_of, with_part, drafted}
-use Rattle.plan_build.specs.Whole.{IfShelf, IsOutside}
+use Rattle.plan_build.specs.Refusals.{data_file, lines_refusal}
+use Rattle.plan_build.specs.Tasks.{all_wanted, did_of, found_or_not, from_session, from_source, image_from, imaged, part, part_with, parts, raw_part, room_after, session_in, session_part, wanted_of, with_part}
+use Rattle.plan_build.specs.Whole.{IfShelf}
 use Rattle.plan_build.specs.declared.built.Built.{Built}
 use Rattle.plan_build.specs.declared.built.Catalogue.{Catalogue}
-use Rattle.plan_build.specs.declared.built.Part.{Part}
 use Rattle.plan_build.specs.declared.built.Parts.{Parts}
 use Rattle.plan_build.specs.declared.fault.BuildFault.{BuildFault}
 use Rattle.plan_build.specs.declared.fault.BuildFault.TheVariants.{Shelf, Input, NoMemory}
-use Rattle.plan_build.specs.declared.fault.Cause.{Cause}
-use Rattle.plan_build.specs.declared.fault.Cause.TheVariants.{EmptyRaw, OutOfRange, TooMany}
 use Rattle.plan_build.proofs.Steps.{Or}
 
 module _ (P : List ℕ → ShelfFault → Type 0) where

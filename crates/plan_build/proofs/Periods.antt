@@ -1,5 +1,5 @@
 -- Calls of a shelf, one after another, in one time.
-use Rattle.std.proofs.Common.{◌≡◌, ◌∙◌, sym, refl, ℕ, ◌+◌, ◌-◌, ◌^◌, ◌≤◌, min, arith, List, Bool, true, false, Result, Ok, Err}
+use Rattle.std.proofs.Common.{◌≡◌, ◌∙◌, sym, refl, ℕ, ◌≤◌, arith, List, Bool, true, false, Result, Ok, Err}
 use Rattle.flash_base.specs.Counts.{Rises}
 use Rattle.flash_shelf.specs.Outside.{CameFrom}
 use Rattle.flash_shelf.specs.declared.shelf.ShelfFault.{ShelfFault}

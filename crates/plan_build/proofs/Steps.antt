@@ -1,6 +1,6 @@
 -- One step after another, where memory may be wanted at any time.
-use Rattle.std.proofs.Common.{◌≡◌, ◌∙◌, ◌⊎◌, inl, inr, sym, refl, ap, Result, Ok, Err}
-use Rattle.plan_build.specs.Answers.{just, Then, goes_on, stops, ◌>>=◌, ◌>=>◌}
+use Rattle.std.proofs.Common.{◌≡◌, ◌∙◌, ◌⊎◌, inl, inr, sym, ap, Result, Ok, Err}
+use Rattle.plan_build.specs.Answers.{just, Then, goes_on, stops}
 use Rattle.plan_build.specs.declared.fault.BuildFault.{BuildFault}
 use Rattle.plan_build.specs.declared.fault.BuildFault.TheVariants.{NoMemory}
 

@@ -1,5 +1,5 @@
 -- What reads may answer may be widened: what is built then is still an answer, or memory was wanted.
-use Rattle.std.proofs.Common.{◌≡◌, ◌∙◌, ◌⊎◌, inl, inr, refl, ap, sym, subst, ℕ, ◌+◌, ◌-◌, ◌^◌, ◌<◌, ◌≤◌, min, nat_le, nat_lt, arith, cond, IsTrue, Bool, true, false, List, [], ◌∷◌, length, Option, Some, None, Result, Ok, Err}
+use Rattle.std.proofs.Common.{◌≡◌, ◌∙◌, ◌⊎◌, inl, inr, refl, ap, ℕ, ◌+◌, ◌-◌, ◌^◌, ◌<◌, ◌≤◌, min, arith, IsTrue, Bool, true, false, List, [], ◌∷◌, length, Option, Some, None, Result, Ok, Err}
 use Rattle.std.specs.Prelude.{MatchOption}
 use Rattle.std.proofs.lemmas.Bool.{cases_lt, lt-ltb, le-ltb}
 use Rattle.flash_base.specs.Counts.{Rises}
@@ -9,26 +9,21 @@ use Rattle.flash_order.specs.declared.order.Source.{Source}
 use Rattle.flash_order.specs.declared.order.Source.TheVariants as source
 use Rattle.flash_order.specs.declared.order.Task.{Task}
 use Rattle.flash_plan.specs.Plan.{size_of}
-use Rattle.flash_plan.specs.declared.fault.What.TheVariants.{Units}
 use Rattle.flash_plan.specs.declared.unit.Wanted.{Wanted}
 use Rattle.flash_shelf.specs.Memory.{file_in, checked}
 use Rattle.flash_shelf.specs.Outside.{CameFrom, limit}
 use Rattle.flash_shelf.specs.declared.shelf.ShelfFault.{ShelfFault}
 use Rattle.flash_shelf.specs.declared.shelf.ShelfFault.TheVariants as shelf
 use Rattle.session_image.specs.Files.{session_of, files_of}
-use Rattle.session_image.specs.declared.types.Image.{Image}
-use Rattle.plan_build.specs.Answers.{just, Then, goes_on, stops, ◌>>=◌}
+use Rattle.plan_build.specs.Answers.{just, goes_on, stops, ◌>>=◌}
 use Rattle.plan_build.specs.Building.{built, built_by, few_tasks, planned, tasks_built}
 use Rattle.plan_build.specs.Catalogues.{catalogue_in, catalogued, order_in, ordered}
 use Rattle.plan_build.specs.Fetched.{all_fetched, came, fetched, is_told, of_answer, period}
 use Rattle.plan_build.specs.Tasks.{all_wanted, from_session, from_source, imaged, part, part_with, parts, raw_part, room_after, session_in, session_part, with_part}
 use Rattle.plan_build.specs.declared.built.Catalogue.{Catalogue}
 use Rattle.plan_build.specs.declared.built.Built.{Built}
-use Rattle.plan_build.specs.declared.built.Part.{Part}
-use Rattle.plan_build.specs.declared.built.Parts.{Parts}
 use Rattle.plan_build.specs.declared.fault.BuildFault.{BuildFault}
-use Rattle.plan_build.specs.declared.fault.BuildFault.TheVariants.{Input, NoMemory}
-use Rattle.plan_build.specs.declared.fault.Cause.TheVariants.{TooMany}
+use Rattle.plan_build.specs.declared.fault.BuildFault.TheVariants.{NoMemory}
 use Rattle.plan_build.proofs.Steps.{Or}
 
 -- each answer of one step is one of the other, or wanted memory

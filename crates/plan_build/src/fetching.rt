@@ -1,7 +1,5 @@
 //! Files by their names.
-ghost use Rattle.std.specs.Prelude.{◌≡◌, ◌⊎◌, ◌≤◌, Err, IfOk, map, length};
-ghost use Rattle.flash_base.specs.Lists.{Each};
-ghost use Rattle.flash_shelf.specs.Outside.{limit};
+ghost use Rattle.std.specs.Prelude.{◌≡◌, ◌⊎◌, ◌≤◌, Err, IfOk, map};
 ghost use Rattle.plan_build.specs.Fetched.{all_fetched, came, fetched, Lies, Period};
 
 use crate::fault::BuildFault;

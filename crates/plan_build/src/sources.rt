@@ -4,11 +4,9 @@ ghost use Rattle.ecu_mem.specs.Bounds.{IsWhole};
 ghost use Rattle.flash_base.specs.Lists.{Each};
 ghost use Rattle.flash_order.specs.Promises as order;
 ghost use Rattle.flash_plan.specs.Accepting.{IsAsked, IsDraft};
-ghost use Rattle.flash_plan.specs.Plan.{AreApart};
 ghost use Rattle.plan_build.specs.Fetched.{came, Lies, Period};
 ghost use Rattle.plan_build.specs.Tasks.{drafted, from_file, from_session, imaged, part_with, raw_part, session_in, session_part};
 ghost use Rattle.session_image.specs.Images.{HasFiles, IsUsable};
-ghost use Rattle.session_image.specs.Files.{session_of};
 
 use crate::built::{Catalogue, Part};
 use crate::copies::{copy_of_idents, copy_of_key, copy_of_names};

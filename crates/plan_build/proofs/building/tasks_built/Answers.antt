@@ -1,4 +1,4 @@
-use Rattle.std.proofs.Common.{◌≡◌, ◌<◌, ◌≤◌, ◌⊎◌, inr, ℕ, List, Ok, Err, refl, sym, subst, arith, length}
+use Rattle.std.proofs.Common.{◌<◌, ◌≤◌, inr, List, Ok, Err, refl, sym, subst, arith, length}
 use Rattle.std.proofs.lemmas.Result.{err_from_is_err_and}
 use Rattle.flash_order.specs.declared.order.Task.{Task}
 use Rattle.flash_plan.specs.declared.fault.What.TheVariants.{Units}

@@ -1,9 +1,8 @@
-use Rattle.std.proofs.Common.{◌≡◌, ◌∙◌, ◌≤◌, ℕ, List, inr, subst, sym, arith, le_trans, drop, length}
+use Rattle.std.proofs.Common.{◌∙◌, ◌≤◌, ℕ, List, inr, subst, arith, le_trans, length}
 use Rattle.std.proofs.lemmas.Result.{err_from_is_err_and}
-use Rattle.plan_build.specs.Fetched.{came, fetched}
+use Rattle.plan_build.specs.Fetched.{came}
 use Rattle.plan_build.proofs.Lists.{file_failed, file_more, files_done, named_more, nothing_left, LeadsFiles}
 use Rattle.plan_build.proofs.Periods.{earlier, later}
-use Rattle.plan_build.proofs.Steps.{Or}
 use Rattle.plan_build.proofs.fetching.fetch_all.Goals as goal
 
 pub returns-in_err-bytes-clause-read : goal.returns-in_err-bytes-clause-read

@@ -1,4 +1,4 @@
-use Rattle.std.proofs.Common.{◌≡◌, ◌∙◌, ◌<◌, sym, rules, arith, length, get_or}
+use Rattle.std.proofs.Common.{◌≡◌, ◌<◌, sym, rules, arith, length, get_or}
 use Rattle.plan_build.proofs.Drafts.{name_at, no_name}
 use Rattle.plan_build.proofs.refusals.name_of.Goals as goal
 

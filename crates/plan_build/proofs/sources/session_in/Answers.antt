@@ -1,10 +1,9 @@
-use Rattle.std.proofs.Common.{◌≡◌, ◌⊎◌, inl, inr, ℕ, List, Result, Ok, Err, refl, sym, subst, ap}
-use Rattle.plan_build.specs.Answers.{just}
+use Rattle.std.proofs.Common.{◌≡◌, inr, ℕ, List, Result, Ok, Err, sym, subst, ap}
 use Rattle.plan_build.specs.Tasks.{found_or_not, session_in}
 use Rattle.plan_build.specs.declared.fault.BuildFault.{BuildFault}
-use Rattle.plan_build.specs.declared.fault.BuildFault.TheVariants.{Input, NoMemory}
+use Rattle.plan_build.specs.declared.fault.BuildFault.TheVariants.{Input}
 use Rattle.plan_build.specs.declared.fault.Cause.TheVariants.{NoSession}
-use Rattle.plan_build.proofs.Steps.{refusal, Or}
+use Rattle.plan_build.proofs.Steps.{refusal}
 use Rattle.plan_build.proofs.sources.session_in.Goals as goal
 
 pub returns-in-Some-clause-is : goal.returns-in-Some-clause-is

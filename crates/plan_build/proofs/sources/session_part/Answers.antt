@@ -1,4 +1,4 @@
-use Rattle.std.proofs.Common.{◌≡◌, ◌∙◌, inr, ℕ, List, Result, Ok, Err, refl, subst, ap}
+use Rattle.std.proofs.Common.{◌∙◌, inr, ℕ, List, Ok, Err, refl, subst, ap}
 use Rattle.std.proofs.lemmas.Result.{err_from_is_err_and}
 use Rattle.plan_build.specs.Fetched.{all_fetched, came}
 use Rattle.plan_build.proofs.Lists.{has_each}

@@ -1,11 +1,10 @@
-use Rattle.std.proofs.Common.{◌≡◌, ◌∙◌, ◌≤◌, ◌+◌, ℕ, List, inr, subst, sym, arith, le_trans, drop, length, ap, Ok, Err}
+use Rattle.std.proofs.Common.{◌≡◌, ◌∙◌, ◌≤◌, ◌+◌, ℕ, List, inr, subst, sym, arith, le_trans, length, Ok, Err}
 use Rattle.std.proofs.lemmas.Result.{err_from_is_err_and}
 use Rattle.flash_base.specs.Lists.{Each}
 use Rattle.flash_order.specs.Promises.{IsTask}
 use Rattle.flash_order.specs.declared.order.Task.{Task}
 use Rattle.flash_plan.specs.Accepting.{IsDraft}
 use Rattle.flash_plan.specs.Plan.{size_of}
-use Rattle.flash_plan.specs.declared.unit.Draft.{Draft}
 use Rattle.flash_plan.specs.declared.unit.Segment.{Segment}
 use Rattle.plan_build.specs.Answers.{just}
 use Rattle.plan_build.specs.Fetched.{came}
