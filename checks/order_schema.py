@@ -20,7 +20,7 @@ def examples():
     section = formats.split("## Order file")[1].split("\n## ")[0]
     for block in re.findall(r"(?:^    .*\n)+", section, re.M):
         yield "docs/FORMATS.md", True, block
-    for path in sorted((TOP / "crates").glob("*/data/*.json")):
+    for path in sorted([*(TOP / "crates").glob("*/data/*.json"), TOP / "examples/vehicle.json"]):
         text = path.read_text()
         if '"tester"' in text and '"tasks"' in text:
             yield str(path.relative_to(TOP)), True, text
