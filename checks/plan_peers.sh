@@ -12,6 +12,7 @@
 # Usage: checks/plan_peers.sh [PATH_OF_flash_top [PATH_OF_record_bench]]
 set -u
 here=$(cd "$(dirname "$0")/.." && pwd)
+. "$here/checks/cost.sh"
 program=${1:-$here/crates/flash_top/out/flash_top}
 bench=${2:-$here/crates/record_bench/out/record_bench}
 for need in "$program" "$bench"; do
@@ -39,16 +40,6 @@ O
  {"tag":"FLASHDATAS","kids":[{"tag":"FLASHDATA","attrs":{"ID":"F"},"kids":[
   {"tag":"DATAFORMAT","attrs":{"SELECTION":"$2"}},{"tag":"DATAFILE","text":"$1"}]}]}]}]}
 C
-}
-
-# cost COMMAND..: thousandths of a second of processor time
-cost() {
-    local TIMEFORMAT='%U %S'
-    { time "$@" > /dev/null 2>&1; } 2>&1 | awk '{ printf "%d\n", ($1 + $2) * 1000 }'
-}
-
-least() {
-    [ "$1" = 0 ] || [ "$2" -lt "$1" ] && echo "$2" || echo "$1"
 }
 
 # same FILE PEER: the one segment is the bytes of a peer's file

@@ -7,6 +7,7 @@
 # Usage: checks/records_times.sh [PATH_OF_record_bench]
 set -u
 here=$(cd "$(dirname "$0")/.." && pwd)
+. "$here/checks/cost.sh"
 bench=${1:-$here/crates/record_bench/out/record_bench}
 [ -x "$bench" ] || { echo "skipped: no $bench"; exit 0; }
 bench=$(cd "$(dirname "$bench")" && pwd)/$(basename "$bench")
@@ -14,16 +15,6 @@ work=$(mktemp -d)
 trap 'rm -rf "$work"' EXIT
 cd "$work" || exit 1
 "$bench" make
-
-# cost COMMAND..: thousandths of a second of processor time
-cost() {
-    local TIMEFORMAT='%U %S'
-    { time "$@" > /dev/null 2>&1; } 2>&1 | awk '{ printf "%d\n", ($1 + $2) * 1000 }'
-}
-
-least() {
-    [ "$1" = 0 ] || [ "$2" -lt "$1" ] && echo "$2" || echo "$1"
-}
 
 compare() {
     local ours=0 copy=0 cat=0

@@ -1,0 +1,12 @@
+# For the scripts beside it that measure: sourced, not run.
+
+# cost COMMAND..: thousandths of a second of processor time (user and system)
+cost() {
+    local TIMEFORMAT='%U %S'
+    { time "$@" > /dev/null 2>&1; } 2>&1 | awk '{ printf "%d\n", ($1 + $2) * 1000 }'
+}
+
+# least SO_FAR NEW: the smaller of two times, where 0 is none yet
+least() {
+    [ "$1" = 0 ] || [ "$2" -lt "$1" ] && echo "$2" || echo "$1"
+}
