@@ -4,4 +4,5 @@ pub mod Law
 pub mod Legal
 pub mod LinkLaws
 pub mod Moves
+pub mod Rows
 pub mod Stops

@@ -12,7 +12,7 @@ use Rattle.bay_core.specs.declared.event.Heard.TheVariants.{Kept, Quiet, Piece, 
 use Rattle.bay_core.specs.declared.event.Tend.{Tend}
 use Rattle.bay_core.specs.declared.event.Tend.TheVariants.{Dialed, Asked, Said, Polled}
 use Rattle.bay_core.specs.declared.event.Event.{Event}
-use Rattle.bay_core.specs.declared.event.Event.TheVariants.{Claimed, Began, Sent, Collected, Tended, Completed, DiskFailed, Ended}
+use Rattle.bay_core.specs.declared.event.Event.TheVariants.{Claimed, Began, Sent, Collected, Tended, Marked, Completed, DiskFailed, Ended}
 
 -- among the frames the gateway refuses a header
 abbrev pub refuses_header : List Frame → Bool
@@ -46,6 +46,7 @@ IsLoss (Began u) l = ⊥
 IsLoss (Sent u place lost) l = lost ≡ true
 IsLoss (Collected u heard) l = IsHeardLoss heard l
 IsLoss (Tended step) l = IsTendLoss step l
+IsLoss (Marked u s) l = ⊥
 IsLoss (Completed u) l = ⊥
 IsLoss (DiskFailed u entry) l = ⊥
 IsLoss (Ended u outcome) l = ⊥

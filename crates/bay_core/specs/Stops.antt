@@ -1,5 +1,5 @@
 -- What stops a run.
-use Rattle.std.specs.Prelude.{◌≡◌, ℕ, ◌+◌, ◌==◌, Bool, true, false, ◌||◌, List, [], ◌∷◌, MatchOption}
+use Rattle.std.specs.Prelude.{◌≡◌, ◌+◌, ◌==◌, Bool, true, false, ◌||◌, List, [], ◌∷◌, MatchOption}
 use Rattle.flash_plan.specs.declared.outcome.Entry.{Entry}
 use Rattle.flash_plan.specs.declared.outcome.Outcome.{Outcome}
 use Rattle.flash_plan.specs.declared.outcome.Outcome.TheVariants.{DiskFault, LinkLost, LinkRefused}
@@ -24,4 +24,4 @@ IsStopCause rules failed outcome = ⊥
 -- whatever stopped a run has its cause in the events
 abbrev pub StopLaw : Type 0
 StopLaw = (rules : LinkRules) (P : List UnitPlan) (found : Entry → Bool) (events : List Event)
-    → MatchOption (core_of rules P (core_start P found) events).stop (Unit {0}) (IsStopCause rules (has_failure events))
+    → MatchOption (core_of rules P (core_start P found) events).halt.stop (Unit {0}) (IsStopCause rules (has_failure events))

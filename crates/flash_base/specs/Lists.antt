@@ -14,6 +14,12 @@ all_of (x ∷ xs) p = p x && all_of xs p
 abbrev pub BeginsWith : {T : Type 0} → List T → List T → Type 0
 BeginsWith {T} xs ys = (more : List T) × (ys ≡ xs ++ more)
 
+-- the first list is some items of the second, in their order
+pub data IsSomeOf {T : Type 0} : List T → List T → Type 0 where
+  ends : IsSomeOf [] []
+  keeps : (x : T) (xs ys : List T) → IsSomeOf xs ys → IsSomeOf (x ∷ xs) (x ∷ ys)
+  drops : (y : T) (xs ys : List T) → IsSomeOf xs ys → IsSomeOf xs (y ∷ ys)
+
 abbrev pub same_bytes : List ℕ → List ℕ → Bool
 same_bytes [] [] = true
 same_bytes [] (y ∷ ys) = false

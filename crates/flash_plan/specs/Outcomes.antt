@@ -7,9 +7,9 @@ use Rattle.flash_plan.specs.declared.outcome.Outcome.TheVariants.{Complete, Iden
 
 abbrev pub same_entry : Entry → Entry → Bool
 same_entry (entry.Begun a) (entry.Begun b) = a == b
-same_entry (entry.Begun a) (entry.Complete b) = false
-same_entry (entry.Complete a) (entry.Begun b) = false
+same_entry (entry.Marked a s) (entry.Marked b t) = a == b && s == t
 same_entry (entry.Complete a) (entry.Complete b) = a == b
+same_entry a b = false
 
 abbrev pub same_outcome : Outcome → Outcome → Bool
 same_outcome Complete Complete = true

@@ -1,5 +1,5 @@
 -- Plans: their units by number, their images, and what an accepted plan keeps.
-use Rattle.std.specs.Prelude.{◌≡◌, ◌⊎◌, ℕ, zero, suc, ◌+◌, ◌<◌, ◌≤◌, ◌%◌, Bool, IsTrue, ◌&&◌, ◌||◌, ◌==◌, nat_le, List, [], ◌∷◌, ◌++◌, length, Option, Some, None, Contains}
+use Rattle.std.specs.Prelude.{◌≡◌, ◌⊎◌, ℕ, zero, suc, ◌+◌, ◌<◌, ◌≤◌, ◌%◌, Bool, IsTrue, ◌&&◌, ◌||◌, ◌==◌, nat_le, List, [], ◌∷◌, ◌++◌, length, slice_index_or, Option, Some, None, Contains}
 use Rattle.flash_base.specs.ByteMaps.{ByteMap, byte_at}
 use Rattle.flash_base.specs.Lists.{Each}
 use Rattle.flash_base.specs.Numbers.{pow256}
@@ -25,6 +25,13 @@ plan_of P n = nth_plan P n
 
 abbrev pub count_of : List UnitPlan → ℕ
 count_of P = length P
+
+abbrev pub no_segment : Segment
+no_segment = record { at = 0; body = [] }
+
+-- the segment with a number, from 0
+abbrev pub segment_of : UnitPlan → ℕ → Segment
+segment_of u n = slice_index_or u.segments n no_segment
 
 -- the address lies in a segment
 abbrev pub IsInImage : List Segment → ℕ → Type 0
@@ -91,7 +98,7 @@ IsKeyRule (Xor level mask) = IsLevel level × (1 ≤ length mask) × (length mas
 IsKeyRule (Digest level size secret) = IsLevel level × (1 ≤ size) × (size ≤ 32) × (1 ≤ length secret) × (length secret ≤ 64)
 
 abbrev pub IsWidth : Width → Type 0
-IsWidth w = (1 ≤ w.size) × (w.size ≤ 4) × (1 ≤ w.at) × (w.at ≤ 4)
+IsWidth w = (1 ≤ w.size) × (w.size ≤ 4) × (1 ≤ w.at) × (w.at ≤ 5)
 
 pub record IsWanted (w : Wanted) : Type 0 where
   pub did : w.did < 65536

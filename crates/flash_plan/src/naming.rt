@@ -142,17 +142,18 @@ pub(crate) fn unknown_after(drafts: &[Draft]) -> Option<u16>
     None
 }
 
-/// 256 to a power of 1 to 4.
+/// 256 to a power of 1 to 5.
 fn power(n: u8) -> u64
     requires some { 1 ≤ n }
-    requires few { n ≤ 4 }
+    requires few { n ≤ 5 }
     ensures { result ≡ pow256 n }
 {
     match n {
         1 => 0x100,
         2 => 0x1_0000,
         3 => 0x100_0000,
-        _ => 0x1_0000_0000,
+        4 => 0x1_0000_0000,
+        _ => 0x100_0000_0000,
     }
 }
 

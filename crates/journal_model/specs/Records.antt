@@ -1,8 +1,8 @@
 -- What an image of the journal records.
-use Rattle.std.specs.Prelude.{◌≡◌, ℕ, ◌+◌, ◌*◌, ◌-◌, ◌/◌, ◌%◌, ◌<◌, ◌≤◌, Bool, true, false, not, ◌&&◌, ◌||◌, ◌==◌, nat_lt, nat_le, List, [], ◌∷◌, ◌++◌, length, replicate, slice_index}
-use Rattle.flash_base.specs.Numbers.{big_endian, each_below, some_below}
+use Rattle.std.specs.Prelude.{ℕ, ◌+◌, ◌*◌, ◌/◌, ◌%◌, Bool, not, ◌&&◌, ◌||◌, ◌==◌, nat_le, List, [], ◌∷◌, length, replicate, slice_index}
+use Rattle.flash_base.specs.Numbers.{each_below, some_below}
 use Rattle.flash_plan.specs.declared.outcome.Entry.{Entry}
-use Rattle.flash_plan.specs.declared.outcome.Entry.TheVariants.{Begun, Complete}
+use Rattle.flash_plan.specs.declared.outcome.Entry.TheVariants.{Begun, Marked, Complete}
 use Rattle.flash_plan.specs.declared.unit.UnitPlan.{UnitPlan}
 use Rattle.flash_plan.specs.Canonical.{plan_digest}
 
@@ -19,6 +19,7 @@ slots_of P = 2 * P.units
 
 abbrev pub unit_of : Entry → ℕ
 unit_of (Begun u) = u
+unit_of (Marked u s) = u
 unit_of (Complete u) = u
 
 -- bytes 1 to 7, and bytes 1 to 11
@@ -39,6 +40,7 @@ stands_at image at size bytes = each_below size (λ i. slice_index image (at + i
 -- the 16 bytes of an entry
 abbrev pub body_of : Entry → List ℕ
 body_of (Begun u) = 1 ∷ 0 ∷ u / 256 ∷ u % 256 ∷ replicate 12 0
+body_of (Marked u s) = 3 ∷ 0 ∷ u / 256 ∷ u % 256 ∷ s / 256 ∷ s % 256 ∷ replicate 10 0
 body_of (Complete u) = 2 ∷ 0 ∷ u / 256 ∷ u % 256 ∷ replicate 12 0
 
 -- a file that is not made yet

@@ -16,11 +16,10 @@ use Rattle.flash_plan.specs.declared.unit.UnitPlan.{UnitPlan}
 use Rattle.unit_model.specs.Vehicle.{Vehicle}
 use Rattle.run_model.specs.Troubles.{IsVehicleCalm}
 use Rattle.bay_core.specs.Core.{Core, core_start, core_of}
-use Rattle.bay_core.specs.Law.{State}
 use Rattle.bay_core.specs.Stops.{has_failure}
 use Rattle.bay_core.specs.declared.event.Event.{Event}
 use Rattle.outcome_law.proofs.Recorded.{outcome_law, untroubled_law}
-use Rattle.outcome_law.specs.Law.{IsRun, last_state}
+use Rattle.outcome_law.specs.Law.{IsRun, last_vehicle}
 use Rattle.outcome_law.specs.LinkCounting.{faults_of}
 use Rattle.outcome_law.specs.Outcomes.{IsBlockedBy, IsOutcomeCaused, IsUntroubled, AllMatch, LacksMemory, CompleteLaw}
 
@@ -67,8 +66,8 @@ each_of Q (y ∷ ys) x all (k, lt, is) = at (λ later. each_of Q ys x all.1 late
     at again zero lt is = subst Q is all.0
     at again (suc k) lt is = again (k, omega (arith, lt), is)
 
-module _ (rules : LinkRules) (P : List UnitPlan) (found : Entry → Bool) (events : List Event) (s : State) (states : List State) (v0 : Vehicle) (run : IsRun rules P found events s states v0) (failed : has_failure events ≡ false) (faults : faults_of events s states ≡ 0)
-    (calm : IsVehicleCalm s.vehicle (last_state s states).vehicle) (matching : AllMatch P found s.vehicle) where
+module _ (rules : LinkRules) (P : List UnitPlan) (found : Entry → Bool) (events : List Event) (s : Vehicle) (states : List Vehicle) (run : IsRun rules P found events s states) (failed : has_failure events ≡ false) (faults : faults_of events s states ≡ 0)
+    (calm : IsVehicleCalm s (last_vehicle s states)) (matching : AllMatch P found s) where
   abbrev c : Core
   c = core_of rules P (core_start P found) events
 
@@ -80,11 +79,11 @@ module _ (rules : LinkRules) (P : List UnitPlan) (found : Entry → Bool) (event
   of_some (Some x) e = (x, refl)
 
   not_complete : (n : ℕ) (o : Outcome) → n < count_of P → ((core_of rules P (core_start P found) events).slots n).outcome ≡ Some o → (core_of rules P (core_start P found) events).recorded (entry.Complete n) ≡ false → o ≡ Complete → ⊥
-  not_complete n o lt at none is = both_ways _ none (outcome_law rules P found events s states v0 n Complete run lt (at ∙ ap (λ (x : Outcome). Some x) is))
+  not_complete n o lt at none is = both_ways _ none (outcome_law rules P found events s states n Complete run lt (at ∙ ap (λ (x : Outcome). Some x) is))
 
   -- from a unit to the one that blocks it; vs are those that it stands before
   along : (fuel : ℕ) (vs : List ℕ) (n : ℕ) (o : Outcome) → n < count_of P → IsDistinct (λ a b. a == b) vs → Each (λ v. v < count_of P) vs → Each (StandsBefore P n) vs → count_of P ≤ fuel + length vs
-      → ((core_of rules P (core_start P found) events).slots n).outcome ≡ Some o → IsUntroubled o → IsOutcomeCaused rules (plan_of P n) (core_of rules P (core_start P found) events) n (has_failure events) (faults_of events s states) s.vehicle (last_state s states).vehicle o → Ends o
+      → ((core_of rules P (core_start P found) events).slots n).outcome ≡ Some o → IsUntroubled o → IsOutcomeCaused rules (plan_of P n) (core_of rules P (core_start P found) events) n (has_failure events) (faults_of events s states) s (last_vehicle s states) o → Ends o
   along fuel vs n Complete lt distinct below stands enough at is cause = inl refl
   along fuel vs n NoMemory lt distinct below stands enough at is cause = inr (record { unit = n; below = lt; none = at })
   along zero vs n (Blocked by) lt distinct below stands enough at is cause =
@@ -96,7 +95,7 @@ module _ (rules : LinkRules) (P : List UnitPlan) (found : Entry → Bool) (event
       let next = of_some ((core_of rules P (core_start P found) events).slots by).outcome blocked.ended in
       let stands_by : StandsBefore P by n = next_to n blocked.listed in
       elim (along fuel (n ∷ vs) by next.0 by_lt (one_more n vs (apart_all P n vs (run.accepted.no_cycle n) stands) distinct) (lt, below) (stands_by, stands_all P by n vs stands_by stands) (omega (arith, enough)) next.1
-      (untroubled_law rules P found events s states v0 by next.0 run by_lt next.1 failed faults calm (matching by by_lt)) (outcome_law rules P found events s states v0 by next.0 run by_lt next.1)) [
+      (untroubled_law rules P found events s states by next.0 run by_lt next.1 failed faults calm (matching by by_lt)) (outcome_law rules P found events s states by next.0 run by_lt next.1)) [
         | inl complete ↦ absurd (not_complete by next.0 by_lt next.1 blocked.incomplete complete)
         | inr memory ↦ inr memory
       ]
@@ -113,6 +112,6 @@ module _ (rules : LinkRules) (P : List UnitPlan) (found : Entry → Bool) (event
   along fuel vs n DiskFault lt distinct below stands enough at is cause = absurd is
 
 pub complete_law : CompleteLaw
-complete_law rules P found events s states v0 n o run lt at failed faults calm matching =
-    along rules P found events s states v0 run failed faults calm matching (count_of P) [] n o lt none_yet tt tt (omega arith) at
-    (untroubled_law rules P found events s states v0 n o run lt at failed faults calm (matching n lt)) (outcome_law rules P found events s states v0 n o run lt at)
+complete_law rules P found events s states n o run lt at failed faults calm matching =
+    along rules P found events s states run failed faults calm matching (count_of P) [] n o lt none_yet tt tt (omega arith) at
+    (untroubled_law rules P found events s states n o run lt at failed faults calm (matching n lt)) (outcome_law rules P found events s states n o run lt at)

@@ -6,9 +6,9 @@ use Rattle.bay_core.proofs.Allowed.{SentFacts, sent_facts, collected_facts}
 use Rattle.bay_core.proofs.Joined.{up_open, open_live, waiting_open, fresh_live}
 use Rattle.bay_core.proofs.Ticks.{between, sent_can}
 use Rattle.bay_core.specs.Core.{Core, link_after, heard_link, taken_link, tended_link}
-use Rattle.bay_core.specs.Joint.{IsJoint}
+use Rattle.bay_core.specs.Joint.{IsVehicleJoint}
 use Rattle.bay_core.specs.Legal.{is_allowed, may_tend}
-use Rattle.bay_core.specs.Moves.{Moves, Receives, Tends, FeedsOr, request_frame}
+use Rattle.bay_core.specs.Moves.{MovesVehicle, Receives, Tends, FeedsOr, request_frame}
 use Rattle.bay_core.specs.declared.event.Event.TheVariants.{Claimed, Began, Sent, Collected, Tended, Completed, DiskFailed, Ended}
 use Rattle.bay_core.specs.declared.event.Event.{Event}
 use Rattle.bay_core.specs.declared.event.Heard.TheVariants.{Kept, Quiet, Piece, Lost}
@@ -100,7 +100,7 @@ answered tester entity code rest ready none nothing =
     let one = stream_one 6 (payload_of (Activated tester entity code None)) (omega arith) refl in
     (λ i. has_answer (stream_of (none i ++ (nothing i ++ activated_bytes tester entity code))).frames) ∙ (λ i. has_answer (one i).frames)
 
-module _ (rules : LinkRules) (P : List UnitPlan) (c : Core) (R : Entry → Bool) (v v0 first : Vehicle) (t0 faults : ℕ) (accepted : IsAccepted P) (joint : IsJoint rules P c R v v0 t0) (is : IsLinkCounted c.link faults first v) where
+module _ (rules : LinkRules) (P : List UnitPlan) (found : Entry → Bool) (c : Core) (v first : Vehicle) (t0 faults : ℕ) (accepted : IsAccepted P) (joint : IsVehicleJoint rules P found c v t0) (is : IsLinkCounted c.link faults first v) where
   abbrev Goal : Link → ℕ → Vehicle → Type 0
   Goal l n w = IsLinkCounted l (faults + n) first w
 
@@ -124,7 +124,7 @@ module _ (rules : LinkRules) (P : List UnitPlan) (c : Core) (R : Entry → Bool)
       how : refused_request rules.tester (plan_of P u).address (bytes_at (plan_of P u) (c.slots u).talk.place) c.link v w (joint.connected (open_live c.link.phase (up_open c.link.phase f.up))) f.up
           ⊎ heard_request rules.tester (plan_of P u).address (bytes_at (plan_of P u) (c.slots u).talk.place) c.link v w (joint.connected (open_live c.link.phase (up_open c.link.phase f.up))) f.up
       how = came_out rules.tester (plan_of P u).address _ c.link v w (joint.connected (open_live c.link.phase (up_open c.link.phase f.up))) f.up
-          (message_sends rules.tester (plan_of P u).address _ v w (sent_can rules P c R v v0 t0 accepted joint u f.below f.request) (between rules c.link v.gateway (joint.connected (open_live c.link.phase (up_open c.link.phase f.up)))) did).handled
+          (message_sends rules.tester (plan_of P u).address _ v w (sent_can rules P c found v t0 accepted joint u f.below f.request) (between rules c.link v.gateway (joint.connected (open_live c.link.phase (up_open c.link.phase f.up)))) did).handled
 
       fair_of : refused_request rules.tester (plan_of P u).address (bytes_at (plan_of P u) (c.slots u).talk.place) c.link v w (joint.connected (open_live c.link.phase (up_open c.link.phase f.up))) f.up
           ⊎ heard_request rules.tester (plan_of P u).address (bytes_at (plan_of P u) (c.slots u).talk.place) c.link v w (joint.connected (open_live c.link.phase (up_open c.link.phase f.up))) f.up
@@ -188,16 +188,15 @@ module _ (rules : LinkRules) (P : List UnitPlan) (c : Core) (R : Entry → Bool)
   tended_counted (Polled (Piece bytes)) w may did grow = heard_counted (Piece bytes) w (waiting_open c.link.phase may) did grow
   tended_counted (Polled Lost) w may did grow = heard_counted Lost w (waiting_open c.link.phase may) did grow
 
-  pub link_step : (e : Event) (w : Vehicle) (R2 : Entry → Bool) → is_allowed P c e ≡ true → Moves rules P c e v w R R2 → Goal (link_after rules P e c.link) (fault_of (is_fault e v w)) w
-  link_step (Claimed u) w R2 ok did = still w did.vehicle
-  link_step (Began u) w R2 ok did = still w did.vehicle
-  link_step (Sent u number true) w R2 ok did = dropped c.link c.link faults first v w refl (moves_grow rules P c (Sent u number true) v w R R2 did) is
-  link_step (Sent u number false) w R2 ok did = sent_counted u number w (sent_facts P c u number false ok) did.0 (moves_grow rules P c (Sent u number false) v w R R2 did)
-  link_step (Collected u h) w R2 ok did =
+  pub link_step : (e : Event) (w : Vehicle) → is_allowed P c e ≡ true → MovesVehicle rules P c e v w → Goal (link_after rules P e c.link) (fault_of (is_fault e v w)) w
+  link_step (Claimed u) w ok did = still w did
+  link_step (Began u) w ok did = still w did
+  link_step (Sent u number true) w ok did = dropped c.link c.link faults first v w refl (moves_grow rules P c (Sent u number true) v w did) is
+  link_step (Sent u number false) w ok did = sent_counted u number w (sent_facts P c u number false ok) did (moves_grow rules P c (Sent u number false) v w did)
+  link_step (Collected u h) w ok did =
       let f = collected_facts P c u h ok in
-      taken (plan_of P u).address h (heard_link rules P h c.link) (faults + fault_of (is_heard_fault h v w)) first w (heard_counted h w (up_open c.link.phase f.up) did.0 (moves_grow rules P c (Collected u h) v w R R2 did))
-  link_step (Tended step) w R2 ok did = tended_counted step w (and_parts _ _ ok).1 did.0 (moves_grow rules P c (Tended step) v w R R2 did)
-  link_step (Completed u) w R2 ok did = still w did.vehicle
-  link_step (DiskFailed u entry) w R2 ok (inl did) = still w did.vehicle
-  link_step (DiskFailed u entry) w R2 ok (inr did) = still w did.vehicle
-  link_step (Ended u why) w R2 ok did = still w did.vehicle
+      taken (plan_of P u).address h (heard_link rules P h c.link) (faults + fault_of (is_heard_fault h v w)) first w (heard_counted h w (up_open c.link.phase f.up) did (moves_grow rules P c (Collected u h) v w did))
+  link_step (Tended step) w ok did = tended_counted step w (and_parts _ _ ok).1 did (moves_grow rules P c (Tended step) v w did)
+  link_step (Completed u) w ok did = still w did
+  link_step (DiskFailed u entry) w ok did = still w did
+  link_step (Ended u why) w ok did = still w did

@@ -15,8 +15,8 @@ use Rattle.run_model.specs.Matching.{IsMatching}
 use Rattle.run_model.specs.Troubles.{IsUnitCalm, IsVehicleCalm}
 use Rattle.bay_core.proofs.OneStep.{step_law, core_law}
 use Rattle.bay_core.specs.Core.{Core, core_start, core_after, core_of}
-use Rattle.bay_core.specs.Joint.{IsJoint}
-use Rattle.bay_core.specs.Law.{State, MovesAll}
+use Rattle.bay_core.specs.Joint.{IsVehicleJoint}
+use Rattle.bay_core.specs.Law.{DrivesAll}
 use Rattle.bay_core.specs.Legal.{is_allowed, is_legal}
 use Rattle.bay_core.specs.Stops.{has_failure}
 use Rattle.bay_core.specs.declared.event.Event.{Event}
@@ -26,20 +26,20 @@ use Rattle.outcome_law.proofs.Linking.{link_step}
 use Rattle.outcome_law.proofs.Runs.{start as units_start, end_cause, counted_run, calm_not, no_cause}
 use Rattle.outcome_law.proofs.Steps.{moves_grow}
 use Rattle.outcome_law.specs.Causes.{IsCaused}
-use Rattle.outcome_law.specs.Law.{IsRun, last_state, IsCalmUnit}
+use Rattle.outcome_law.specs.Law.{IsRun, last_vehicle, IsCalmUnit}
 use Rattle.outcome_law.specs.LinkCounting.{is_fault, fault_of, faults_of}
 use Rattle.outcome_law.specs.OutcomeCounting.{Rests, IsStopCounted, StopCounted, AreOutcomesCounted, OutcomeCountingLaw, StartLaw, CountedLaw}
 use Rattle.outcome_law.specs.Outcomes.{IsOutcomeCaused, OutcomeLaw, IsUntroubled, MatchesAt, IsOfRun, RecordedLaw, UntroubledLaw}
 
 -- ------ one event
 pub outcome_counting_law : OutcomeCountingLaw
-outcome_counting_law rules P c e R R2 v v2 v0 first t0 faults failed failed2 accepted ok moves joint on fails is =
-    let link = link_step rules P c R v v0 first t0 faults accepted joint is.link e v2 R2 ok moves in
+outcome_counting_law rules P found c e v v2 first t0 faults failed failed2 accepted ok moves joint on fails is =
+    let link = link_step rules P found c v first t0 faults accepted joint is.link e v2 ok moves in
     record {
       link = link;
       rests = λ n o lt at. rests_step rules P c accepted e ok n o lt at (is.rests n o lt);
       faulted = λ n f. elim (fault_step rules P c accepted e ok n f) [ inl was ↦ on (is.faulted n was) | inr now ↦ fails now ];
-      stop = stop_step rules e c.link (core_after rules P e c).link c.stop failed failed2 faults (fault_of (is_fault e v v2)) first v v2 (event_steps rules P c accepted joint.sane e ok) (moves_grow rules P c e v v2 R R2 moves) on fails is.stop link;
+      stop = stop_step rules e c.link (core_after rules P e c).link c.stop failed failed2 faults (fault_of (is_fault e v v2)) first v v2 (event_steps rules P c accepted joint.sane e ok) (moves_grow rules P c e v v2 moves) on fails is.stop link;
     }
 
 -- ------ along a list
@@ -51,20 +51,20 @@ or_right : (a b : Bool) → b ≡ true → (a || b) ≡ true
 or_right true b e = refl
 or_right false b e = e
 
-over : (rules : LinkRules) (P : List UnitPlan) (c : Core) (events : List Event) (s : State) (states : List State) (v0 first : Vehicle) (t0 faults : ℕ) (failed : Bool) → IsAccepted P → is_legal rules P c events ≡ true → MovesAll rules P c events s states
-    → IsJoint rules P c s.records s.vehicle v0 t0 → (has_failure events ≡ true → failed ≡ true) → AreOutcomesCounted rules P c failed faults first s.vehicle
-    → AreOutcomesCounted rules P (core_of rules P c events) failed (faults + faults_of events s states) first (last_state s states).vehicle
-over rules P c [] s states v0 first t0 faults failed accepted legal moves joint fails is =
+over : (rules : LinkRules) (P : List UnitPlan) (found : Entry → Bool) (c : Core) (events : List Event) (s : Vehicle) (states : List Vehicle) (first : Vehicle) (t0 faults : ℕ) (failed : Bool) → IsAccepted P → is_legal rules P c events ≡ true → DrivesAll rules P c events s states
+    → IsVehicleJoint rules P found c s t0 → (has_failure events ≡ true → failed ≡ true) → AreOutcomesCounted rules P c failed faults first s
+    → AreOutcomesCounted rules P (core_of rules P c events) failed (faults + faults_of events s states) first (last_vehicle s states)
+over rules P found c [] s states first t0 faults failed accepted legal moves joint fails is =
     let e : faults ≡ faults + 0 = omega arith in
-    subst (λ (x : List State × ℕ). AreOutcomesCounted rules P c failed x.1 first (last_state s x.0).vehicle) (λ i. (sym moves i, e i)) is
-over rules P c (e ∷ es) s [] v0 first t0 faults failed accepted legal moves joint fails is = absurd moves
-over rules P c (e ∷ es) s (s2 ∷ states) v0 first t0 faults failed accepted legal moves joint fails is =
+    subst (λ (x : List Vehicle × ℕ). AreOutcomesCounted rules P c failed x.1 first (last_vehicle s x.0)) (λ i. (sym moves i, e i)) is
+over rules P found c (e ∷ es) s [] first t0 faults failed accepted legal moves joint fails is = absurd moves
+over rules P found c (e ∷ es) s (s2 ∷ states) first t0 faults failed accepted legal moves joint fails is =
     let parts = and_parts (is_allowed P c e) (is_legal rules P (core_after rules P e c) es) legal in
-    let sum : faults + fault_of (is_fault e s.vehicle s2.vehicle) + faults_of es s2 states ≡ faults + (fault_of (is_fault e s.vehicle s2.vehicle) + faults_of es s2 states) = omega arith in
-    subst (λ (n : ℕ). AreOutcomesCounted rules P (core_of rules P (core_after rules P e c) es) failed n first (last_state s2 states).vehicle) sum
-    (over rules P (core_after rules P e c) es s2 states v0 first t0 (faults + fault_of (is_fault e s.vehicle s2.vehicle)) failed accepted parts.1 moves.1
-    (step_law rules P c e s.records s2.records s.vehicle s2.vehicle v0 t0 accepted parts.0 moves.0 joint) (λ f. fails (or_right _ _ f))
-    (outcome_counting_law rules P c e s.records s2.records s.vehicle s2.vehicle v0 first t0 faults failed failed accepted parts.0 moves.0 joint (λ f. f) (λ f. fails (or_left _ _ f)) is))
+    let sum : faults + fault_of (is_fault e s s2) + faults_of es s2 states ≡ faults + (fault_of (is_fault e s s2) + faults_of es s2 states) = omega arith in
+    subst (λ (n : ℕ). AreOutcomesCounted rules P (core_of rules P (core_after rules P e c) es) failed n first (last_vehicle s2 states)) sum
+    (over rules P found (core_after rules P e c) es s2 states first t0 (faults + fault_of (is_fault e s s2)) failed accepted parts.1 moves.1
+    (step_law.vehicle rules P found c e s s2 t0 accepted parts.0 moves.0 joint) (λ f. fails (or_right _ _ f))
+    (outcome_counting_law rules P found c e s s2 first t0 faults failed failed accepted parts.0 moves.0 joint (λ f. f) (λ f. fails (or_left _ _ f)) is))
 
 start : (rules : LinkRules) (P : List UnitPlan) (found : Entry → Bool) (v : Vehicle) (failed : Bool) → AreOutcomesCounted rules P (core_start P found) failed 0 v v
 start rules P found v failed = record {
@@ -88,13 +88,13 @@ start rules P found v failed = record {
       | inl e ↦ (let is : Some Complete ≡ Some o = rw e at at in inr (inr (inr (inr (inr (sym (ap (λ (x : Option Outcome). unwrap_or x o) is), e))))))
     ]
 
-ended_run : (rules : LinkRules) (P : List UnitPlan) (found : Entry → Bool) (events : List Event) (s : State) (states : List State) (v0 : Vehicle) → IsRun rules P found events s states v0
-    → AreOutcomesCounted rules P (core_of rules P (core_start P found) events) (has_failure events) (faults_of events s states) s.vehicle (last_state s states).vehicle
-ended_run rules P found events s states v0 run =
+ended_run : (rules : LinkRules) (P : List UnitPlan) (found : Entry → Bool) (events : List Event) (s : Vehicle) (states : List Vehicle) → IsRun rules P found events s states
+    → AreOutcomesCounted rules P (core_of rules P (core_start P found) events) (has_failure events) (faults_of events s states) s (last_vehicle s states)
+ended_run rules P found events s states run =
     let none : 0 + faults_of events s states ≡ faults_of events s states = omega arith in
-    subst (λ (k : ℕ). AreOutcomesCounted rules P (core_of rules P (core_start P found) events) (has_failure events) k s.vehicle (last_state s states).vehicle) none
-    (over rules P (core_start P found) events s states v0 s.vehicle s.vehicle.gateway.tick 0 (has_failure events) run.accepted run.legal run.moves
-    (core_law rules P found [] s [] v0 run.accepted run.sound run.records refl refl) (λ f. f) (start rules P found s.vehicle (has_failure events)))
+    subst (λ (k : ℕ). AreOutcomesCounted rules P (core_of rules P (core_start P found) events) (has_failure events) k s (last_vehicle s states)) none
+    (over rules P found (core_start P found) events s states s s.gateway.tick 0 (has_failure events) run.accepted run.legal run.drives
+    (core_law.vehicle rules P found [] s [] run.accepted refl refl) (λ f. f) (start rules P found s (has_failure events)))
 
 -- ------ each outcome
 -- no other outcome ends a conversation
@@ -176,30 +176,30 @@ counted_law rules P found c failed faults first now t0 n o lt units is at = go (
     go (inr (inr (inr (inr (inr (same, done)))))) = to Complete same done
 
 pub outcome_law : OutcomeLaw
-outcome_law rules P found events s states v0 n o run lt at =
-    counted_law rules P found (core_of rules P (core_start P found) events) (has_failure events) (faults_of events s states) s.vehicle (last_state s states).vehicle s.vehicle.gateway.tick n o lt
-    (counted_run rules P found events s states v0 run) (ended_run rules P found events s states v0 run) at
+outcome_law rules P found events s states n o run lt at =
+    counted_law rules P found (core_of rules P (core_start P found) events) (has_failure events) (faults_of events s states) s (last_vehicle s states) s.gateway.tick n o lt
+    (counted_run rules P found events s states run) (ended_run rules P found events s states run) at
 
 pub start_law : StartLaw
 start_law = record { units = units_start; outcomes = start }
 
 -- ------ nothing failed
-module _ (rules : LinkRules) (P : List UnitPlan) (found : Entry → Bool) (events : List Event) (s : State) (states : List State) (v0 : Vehicle) (n : ℕ) (run : IsRun rules P found events s states v0) (failed : has_failure events ≡ false) (faults : faults_of events s states ≡ 0)
-    (calm : IsVehicleCalm s.vehicle (last_state s states).vehicle) (matching : MatchesAt (found (entry.Begun n)) (plan_of P n) (unit_at s.vehicle.units (plan_of P n).address)) where
+module _ (rules : LinkRules) (P : List UnitPlan) (found : Entry → Bool) (events : List Event) (s : Vehicle) (states : List Vehicle) (n : ℕ) (run : IsRun rules P found events s states) (failed : has_failure events ≡ false) (faults : faults_of events s states ≡ 0)
+    (calm : IsVehicleCalm s (last_vehicle s states)) (matching : MatchesAt (found (entry.Begun n)) (plan_of P n) (unit_at s.units (plan_of P n).address)) where
   calm_unit : (plan : UnitPlan) (begun : Bool) (fo wo : Option ControlUnit) → MatchesAt begun plan fo → IsUnitCalm fo wo → IsCalmUnit (IsMatching begun plan) fo wo
   calm_unit plan begun None wo m is = absurd m
   calm_unit plan begun (Some u) None m is = absurd is
   calm_unit plan begun (Some u) (Some w) m is = (m, is)
 
-  never : (o : Outcome) → IsCaused (plan_of P n) ((core_of rules P (core_start P found) events).recorded (entry.Begun n)) (unit_at s.vehicle.units (plan_of P n).address) (unit_at (last_state s states).vehicle.units (plan_of P n).address) o → ⊥
-  never o is = no_cause rules P found events s states v0 n o run (calm_unit (plan_of P n) (found (entry.Begun n)) (unit_at s.vehicle.units (plan_of P n).address) (unit_at (last_state s states).vehicle.units (plan_of P n).address) matching (calm.units (plan_of P n).address)) is
+  never : (o : Outcome) → IsCaused (plan_of P n) ((core_of rules P (core_start P found) events).recorded (entry.Begun n)) (unit_at s.units (plan_of P n).address) (unit_at (last_vehicle s states).units (plan_of P n).address) o → ⊥
+  never o is = no_cause rules P found events s states n o run (calm_unit (plan_of P n) (found (entry.Begun n)) (unit_at s.units (plan_of P n).address) (unit_at (last_vehicle s states).units (plan_of P n).address) matching (calm.units (plan_of P n).address)) is
 
-  untroubled : (o : Outcome) → IsOutcomeCaused rules (plan_of P n) (core_of rules P (core_start P found) events) n (has_failure events) (faults_of events s states) s.vehicle (last_state s states).vehicle o → IsUntroubled o
+  untroubled : (o : Outcome) → IsOutcomeCaused rules (plan_of P n) (core_of rules P (core_start P found) events) n (has_failure events) (faults_of events s states) s (last_vehicle s states) o → IsUntroubled o
   untroubled Complete is = tt
   untroubled NoMemory is = tt
   untroubled (Blocked by) is = tt
   untroubled DiskFault is = both_ways _ failed is
-  untroubled (LinkLost times) (times_is, (k, losses, count)) = calm_not k s.vehicle.gateway.silent (last_state s states).vehicle.gateway.silent (omega (arith, losses, faults)) count calm.silent
+  untroubled (LinkLost times) (times_is, (k, losses, count)) = calm_not k s.gateway.silent (last_vehicle s states).gateway.silent (omega (arith, losses, faults)) count calm.silent
   untroubled (LinkRefused code) rose = calm_not 1 _ _ (omega arith) rose (calm.denied code)
   untroubled (Refused sid nrc) is = never (Refused sid nrc) is
   untroubled (BadAnswer sid) is = never (BadAnswer sid) is
@@ -211,24 +211,24 @@ module _ (rules : LinkRules) (P : List UnitPlan) (found : Entry → Bool) (event
   untroubled (IdentMismatch did) is = never (IdentMismatch did) is
 
 pub untroubled_law : UntroubledLaw
-untroubled_law rules P found events s states v0 n o run lt at failed faults calm matching = untroubled rules P found events s states v0 n run failed faults calm matching o (outcome_law rules P found events s states v0 n o run lt at)
+untroubled_law rules P found events s states n o run lt at failed faults calm matching = untroubled rules P found events s states n run failed faults calm matching o (outcome_law rules P found events s states n o run lt at)
 
 -- ------ of a unit that matches and is calm
 pub recorded_law : RecordedLaw
-recorded_law rules P found events s states v0 n o run lt at calm = go o (outcome_law rules P found events s states v0 n o run lt at)
+recorded_law rules P found events s states n o run lt at calm = go o (outcome_law rules P found events s states n o run lt at)
   where
-    go : (o : Outcome) → IsOutcomeCaused rules (plan_of P n) (core_of rules P (core_start P found) events) n (has_failure events) (faults_of events s states) s.vehicle (last_state s states).vehicle o → IsOfRun o
+    go : (o : Outcome) → IsOutcomeCaused rules (plan_of P n) (core_of rules P (core_start P found) events) n (has_failure events) (faults_of events s states) s (last_vehicle s states) o → IsOfRun o
     go Complete is = tt
     go NoMemory is = tt
     go (Blocked by) is = tt
     go DiskFault is = tt
     go (LinkLost times) is = tt
     go (LinkRefused code) is = tt
-    go (Refused sid nrc) is = no_cause rules P found events s states v0 n (Refused sid nrc) run calm is
-    go (BadAnswer sid) is = no_cause rules P found events s states v0 n (BadAnswer sid) run calm is
-    go (CheckFailed routine segment status) is = no_cause rules P found events s states v0 n (CheckFailed routine segment status) run calm is
-    go (NoAnswer sid) is = no_cause rules P found events s states v0 n (NoAnswer sid) run calm is
-    go (PendingLimit sid) is = no_cause rules P found events s states v0 n (PendingLimit sid) run calm is
-    go (BusyLimit sid) is = no_cause rules P found events s states v0 n (BusyLimit sid) run calm is
-    go (Undelivered code) is = no_cause rules P found events s states v0 n (Undelivered code) run calm is
-    go (IdentMismatch did) is = no_cause rules P found events s states v0 n (IdentMismatch did) run calm is
+    go (Refused sid nrc) is = no_cause rules P found events s states n (Refused sid nrc) run calm is
+    go (BadAnswer sid) is = no_cause rules P found events s states n (BadAnswer sid) run calm is
+    go (CheckFailed routine segment status) is = no_cause rules P found events s states n (CheckFailed routine segment status) run calm is
+    go (NoAnswer sid) is = no_cause rules P found events s states n (NoAnswer sid) run calm is
+    go (PendingLimit sid) is = no_cause rules P found events s states n (PendingLimit sid) run calm is
+    go (BusyLimit sid) is = no_cause rules P found events s states n (BusyLimit sid) run calm is
+    go (Undelivered code) is = no_cause rules P found events s states n (Undelivered code) run calm is
+    go (IdentMismatch did) is = no_cause rules P found events s states n (IdentMismatch did) run calm is

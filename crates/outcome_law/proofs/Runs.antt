@@ -24,8 +24,8 @@ use Rattle.unit_session.proofs.Keeps.{left_judged}
 use Rattle.unit_session.specs.Left.{requests_left}
 use Rattle.bay_core.proofs.OneStep.{step_law, core_law}
 use Rattle.bay_core.specs.Core.{Core, core_start, core_after, core_of, recorded_after}
-use Rattle.bay_core.specs.Joint.{IsJoint}
-use Rattle.bay_core.specs.Law.{State, MovesAll}
+use Rattle.bay_core.specs.Joint.{IsVehicleJoint}
+use Rattle.bay_core.specs.Law.{DrivesAll}
 use Rattle.bay_core.specs.Legal.{is_legal}
 use Rattle.bay_core.specs.declared.event.Event.TheVariants.{Claimed, Began, Sent, Collected, Tended, Completed, DiskFailed, Ended}
 use Rattle.bay_core.specs.declared.event.Event.{Event}
@@ -34,7 +34,7 @@ use Rattle.outcome_law.proofs.Growing.{unit_up_same, make_same}
 use Rattle.outcome_law.proofs.Steps.{start_counted, unit_step}
 use Rattle.outcome_law.specs.Causes.{Unfit, lacks_ident, lacks_level, other_key, stays_locked, lacks_room, other_check, odd_seed, odd_block, OtherIdent, IsCaused, IsCausedBy}
 use Rattle.outcome_law.specs.Counting.{IsEndCaused, AreUnitsCounted}
-use Rattle.outcome_law.specs.Law.{last_state, IsRun, CauseLaw, CountingLaw, IsCalmUnit, AnyUnit, IsUnfitEnd, CalmLaw, MatchingLaw, AnswersWell, ObedientLaw, DoneLaw}
+use Rattle.outcome_law.specs.Law.{last_vehicle, IsRun, CauseLaw, CountingLaw, IsCalmUnit, AnyUnit, IsUnfitEnd, CalmLaw, MatchingLaw, AnswersWell, ObedientLaw, DoneLaw}
 use Rattle.outcome_law.specs.Rising.{RoseBy}
 
 -- ------ records only grow
@@ -53,8 +53,8 @@ recorded_more (DiskFailed u entry) records x is = is
 recorded_more (Ended u why) records x is = is
 
 pub counting_law : CountingLaw
-counting_law rules P found c e R R2 v v2 v0 first t0 accepted ok did joint counted = record {
-  units = λ n lt. unit_step rules P found c R v v0 first t0 accepted joint counted e n v2 R2 ok did lt;
+counting_law rules P found c e v v2 first t0 accepted ok did joint counted = record {
+  units = λ n lt. unit_step rules P found c v first t0 accepted joint counted e n v2 ok did lt;
   more = λ x is. recorded_more e c.recorded x (counted.more x is);
 }
 
@@ -70,30 +70,30 @@ start rules P found v t0 = record {
   more = λ x is. is;
 }
 
-over : (rules : LinkRules) (P : List UnitPlan) (found : Entry → Bool) (c : Core) (events : List Event) (s : State) (states : List State) (v0 first : Vehicle) (t0 : ℕ) → IsAccepted P → is_legal rules P c events ≡ true → MovesAll rules P c events s states
-    → IsJoint rules P c s.records s.vehicle v0 t0 → AreUnitsCounted rules P found t0 c first s.vehicle → AreUnitsCounted rules P found t0 (core_of rules P c events) first (last_state s states).vehicle
-over rules P found c [] s states v0 first t0 accepted legal moves joint counted = subst (λ (x : List State). AreUnitsCounted rules P found t0 c first (last_state s x).vehicle) (sym moves) counted
-over rules P found c (e ∷ es) s [] v0 first t0 accepted legal moves joint counted = absurd moves
-over rules P found c (e ∷ es) s (s2 ∷ states) v0 first t0 accepted legal moves joint counted =
+over : (rules : LinkRules) (P : List UnitPlan) (found : Entry → Bool) (c : Core) (events : List Event) (s : Vehicle) (states : List Vehicle) (first : Vehicle) (t0 : ℕ) → IsAccepted P → is_legal rules P c events ≡ true → DrivesAll rules P c events s states
+    → IsVehicleJoint rules P found c s t0 → AreUnitsCounted rules P found t0 c first s → AreUnitsCounted rules P found t0 (core_of rules P c events) first (last_vehicle s states)
+over rules P found c [] s states first t0 accepted legal moves joint counted = subst (λ (x : List Vehicle). AreUnitsCounted rules P found t0 c first (last_vehicle s x)) (sym moves) counted
+over rules P found c (e ∷ es) s [] first t0 accepted legal moves joint counted = absurd moves
+over rules P found c (e ∷ es) s (s2 ∷ states) first t0 accepted legal moves joint counted =
     let parts = and_parts _ _ legal in
-    over rules P found (core_after rules P e c) es s2 states v0 first t0 accepted parts.1 moves.1
-    (step_law rules P c e s.records s2.records s.vehicle s2.vehicle v0 t0 accepted parts.0 moves.0 joint)
-    (counting_law rules P found c e s.records s2.records s.vehicle s2.vehicle v0 first t0 accepted parts.0 moves.0 joint counted)
+    over rules P found (core_after rules P e c) es s2 states first t0 accepted parts.1 moves.1
+    (step_law.vehicle rules P found c e s s2 t0 accepted parts.0 moves.0 joint)
+    (counting_law rules P found c e s s2 first t0 accepted parts.0 moves.0 joint counted)
 
-pub counted_run : (rules : LinkRules) (P : List UnitPlan) (found : Entry → Bool) (events : List Event) (s : State) (states : List State) (v0 : Vehicle) → IsRun rules P found events s states v0
-    → AreUnitsCounted rules P found s.vehicle.gateway.tick (core_of rules P (core_start P found) events) s.vehicle (last_state s states).vehicle
-counted_run rules P found events s states v0 run =
-    over rules P found (core_start P found) events s states v0 s.vehicle s.vehicle.gateway.tick run.accepted run.legal run.moves
-    (core_law rules P found [] s [] v0 run.accepted run.sound run.records refl refl) (start rules P found s.vehicle s.vehicle.gateway.tick)
+pub counted_run : (rules : LinkRules) (P : List UnitPlan) (found : Entry → Bool) (events : List Event) (s : Vehicle) (states : List Vehicle) → IsRun rules P found events s states
+    → AreUnitsCounted rules P found s.gateway.tick (core_of rules P (core_start P found) events) s (last_vehicle s states)
+counted_run rules P found events s states run =
+    over rules P found (core_start P found) events s states s s.gateway.tick run.accepted run.legal run.drives
+    (core_law.vehicle rules P found [] s [] run.accepted refl refl) (start rules P found s s.gateway.tick)
 
 -- ------ the causes
 pub end_cause : (plan : UnitPlan) (begun : Bool) (first now : Option ControlUnit) (place : Place) (o : Outcome) → place ≡ AtEnd o → IsEndCaused plan begun first now place → IsCaused plan begun first now o
 end_cause plan begun first now place o at is = subst (λ (p : Place). IsEndCaused plan begun first now p) at is
 
 pub cause_law : CauseLaw
-cause_law rules P found events s states v0 run n o lt at =
-    end_cause (plan_of P n) ((core_of rules P (core_start P found) events).recorded (Begun n)) (unit_at s.vehicle.units (plan_of P n).address) (unit_at (last_state s states).vehicle.units (plan_of P n).address) _ o at
-    ((counted_run rules P found events s states v0 run).units n lt).talk.ended
+cause_law rules P found events s states run n o lt at =
+    end_cause (plan_of P n) ((core_of rules P (core_start P found) events).recorded (Begun n)) (unit_at s.units (plan_of P n).address) (unit_at (last_vehicle s states).units (plan_of P n).address) _ o at
+    ((counted_run rules P found events s states run).units n lt).talk.ended
 
 -- ------ without a departure
 pub calm_not : (n old new : ℕ) → 1 ≤ n → RoseBy n old new → IsCalm old new → ⊥
@@ -134,7 +134,7 @@ calm_end Is plan begun (Some u) None o calm is = absurd is
 calm_end Is plan begun (Some u) (Some w) o calm is = calm_caused plan begun u w.counts o calm.1 is
 
 pub calm_law : CalmLaw
-calm_law rules P found events s states v0 n o run lt at calm = calm_end AnyUnit (plan_of P n) _ _ _ o calm (cause_law rules P found events s states v0 run n o lt at)
+calm_law rules P found events s states n o run lt at calm = calm_end AnyUnit (plan_of P n) _ _ _ o calm (cause_law rules P found events s states run n o lt at)
 
 -- ------ a unit that matches
 each_of : {T : Type 0} (Q : T → Type 0) (xs : List T) (x : T) → Each Q xs → Contains xs x → Q x
@@ -211,23 +211,23 @@ none_left plan (AtCheck c) e z = absurd (omega (arith, z))
 none_left plan AtFinish e z = absurd (omega (arith, z))
 none_left plan AtReset e z = absurd (omega (arith, z))
 
-pub fresh_found : (rules : LinkRules) (P : List UnitPlan) (found : Entry → Bool) (events : List Event) (s : State) (states : List State) (v0 : Vehicle) (n : ℕ) → IsRun rules P found events s states v0
+pub fresh_found : (rules : LinkRules) (P : List UnitPlan) (found : Entry → Bool) (events : List Event) (s : Vehicle) (states : List Vehicle) (n : ℕ) → IsRun rules P found events s states
     → (core_of rules P (core_start P found) events).recorded (Begun n) ≡ false → found (Begun n) ≡ false
-fresh_found rules P found events s states v0 n run none = elim (cases_Bool (found (Begun n))) [ inr e ↦ e | inl e ↦ absurd (both_ways _ none ((counted_run rules P found events s states v0 run).more (Begun n) e)) ]
+fresh_found rules P found events s states n run none = elim (cases_Bool (found (Begun n))) [ inr e ↦ e | inl e ↦ absurd (both_ways _ none ((counted_run rules P found events s states run).more (Begun n) e)) ]
 
 -- a cause has no place where it matches and is calm
-pub no_cause : (rules : LinkRules) (P : List UnitPlan) (found : Entry → Bool) (events : List Event) (s : State) (states : List State) (v0 : Vehicle) (n : ℕ) (o : Outcome) → IsRun rules P found events s states v0
-    → IsCalmUnit (IsMatching (found (Begun n)) (plan_of P n)) (unit_at s.vehicle.units (plan_of P n).address) (unit_at (last_state s states).vehicle.units (plan_of P n).address)
-    → IsCaused (plan_of P n) ((core_of rules P (core_start P found) events).recorded (Begun n)) (unit_at s.vehicle.units (plan_of P n).address) (unit_at (last_state s states).vehicle.units (plan_of P n).address) o → ⊥
-no_cause rules P found events s states v0 n o run calm is =
-    matching_end (plan_of P n) ((core_of rules P (core_start P found) events).recorded (Begun n)) (found (Begun n)) (unit_at s.vehicle.units (plan_of P n).address) (unit_at (last_state s states).vehicle.units (plan_of P n).address) o
-    (fresh_found rules P found events s states v0 n run) calm (calm_end (IsMatching (found (Begun n)) (plan_of P n)) (plan_of P n) _ _ _ o calm is)
+pub no_cause : (rules : LinkRules) (P : List UnitPlan) (found : Entry → Bool) (events : List Event) (s : Vehicle) (states : List Vehicle) (n : ℕ) (o : Outcome) → IsRun rules P found events s states
+    → IsCalmUnit (IsMatching (found (Begun n)) (plan_of P n)) (unit_at s.units (plan_of P n).address) (unit_at (last_vehicle s states).units (plan_of P n).address)
+    → IsCaused (plan_of P n) ((core_of rules P (core_start P found) events).recorded (Begun n)) (unit_at s.units (plan_of P n).address) (unit_at (last_vehicle s states).units (plan_of P n).address) o → ⊥
+no_cause rules P found events s states n o run calm is =
+    matching_end (plan_of P n) ((core_of rules P (core_start P found) events).recorded (Begun n)) (found (Begun n)) (unit_at s.units (plan_of P n).address) (unit_at (last_vehicle s states).units (plan_of P n).address) o
+    (fresh_found rules P found events s states n run) calm (calm_end (IsMatching (found (Begun n)) (plan_of P n)) (plan_of P n) _ _ _ o calm is)
 
 pub matching_law : MatchingLaw
-matching_law rules P found events s states v0 n o run lt calm at = no_cause rules P found events s states v0 n o run calm (cause_law rules P found events s states v0 run n o lt at)
+matching_law rules P found events s states n o run lt calm at = no_cause rules P found events s states n o run calm (cause_law rules P found events s states run n o lt at)
 
 pub done_law : DoneLaw
-done_law rules P found events s states v0 n run lt calm = record {
+done_law rules P found events s states n run lt calm = record {
   goes = goes;
   left = left;
   done = λ begun enough. none_left (plan_of P n) _ goes (omega (arith, enough, left));
@@ -236,12 +236,12 @@ done_law rules P found events s states v0 n run lt calm = record {
     goes : is_ended ((core_of rules P (core_start P found) events).slots n).talk.place ≡ false
     goes = elim (cases_Bool (is_ended ((core_of rules P (core_start P found) events).slots n).talk.place)) [
       | inr e ↦ e
-      | inl e ↦ let end = ended_is _ e in absurd (matching_law rules P found events s states v0 n end.0 run lt calm end.1)
+      | inl e ↦ let end = ended_is _ e in absurd (matching_law rules P found events s states n end.0 run lt calm end.1)
     ]
 
     left : ((core_of rules P (core_start P found) events).slots n).talk.number + requests_left (plan_of P n) ((core_of rules P (core_start P found) events).slots n).talk.place
         ≤ requests_left (plan_of P n) (start_place (plan_of P n) ((core_of rules P (core_start P found) events).recorded (Begun n)))
-    left = ((counted_run rules P found events s states v0 run).units n lt).talk.left goes
+    left = ((counted_run rules P found events s states run).units n lt).talk.left goes
 
 -- ------ the obedient answers of a unit that matches
 not_end : (plan : UnitPlan) (begun : Bool) (u : ControlUnit) (place : Place) → IsMatching begun plan u → IsFairEnd plan begun u place → is_ended place ≡ false

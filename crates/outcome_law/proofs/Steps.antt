@@ -12,9 +12,9 @@ use Rattle.bay_core.proofs.Takes.{first_is, take_none}
 use Rattle.bay_core.proofs.Ticking.{up_tester}
 use Rattle.bay_core.proofs.Ticks.{between, sent_can}
 use Rattle.bay_core.specs.Core.{Slot, Core, core_after, with_slot, with_talk, slots_own, recorded_after, link_after, addresses_of}
-use Rattle.bay_core.specs.Joint.{IsJoint, held_of, is_open_slot}
+use Rattle.bay_core.specs.Joint.{IsVehicleJoint, held_of, is_open_slot}
 use Rattle.bay_core.specs.Legal.{is_allowed, may_tend}
-use Rattle.bay_core.specs.Moves.{Moves, Receives, Tends, FeedsOr, DialsOr, request_frame}
+use Rattle.bay_core.specs.Moves.{MovesVehicle, Receives, Tends, FeedsOr, DialsOr, request_frame}
 use Rattle.bay_core.specs.declared.event.Event.TheVariants.{Claimed, Began, Sent, Collected, Tended, Completed, DiskFailed, Ended}
 use Rattle.bay_core.specs.declared.event.Event.{Event}
 use Rattle.bay_core.specs.declared.event.Heard.TheVariants.{Kept as kept_word, Quiet, Piece, Lost}
@@ -77,19 +77,18 @@ receives_grow Quiet v w is = ticks_up v w is
 receives_grow (Piece bytes) v w is = carries_up bytes v w is.carries
 receives_grow Lost v w is = misses_up v w is
 
-pub moves_grow : (rules : LinkRules) (P : List UnitPlan) (c : Core) (e : Event) (v w : Vehicle) (R R2 : Entry → Bool) → Moves rules P c e v w R R2 → VehicleGrows v w
-moves_grow rules P c (Claimed u) v w R R2 did = moved_up v v w did.vehicle (vehicle_same v)
-moves_grow rules P c (Began u) v w R R2 did = moved_up v v w did.vehicle (vehicle_same v)
-moves_grow rules P c (Sent u place lost) v w R R2 did = feeds_or lost _ v w did.0
-moves_grow rules P c (Collected u h) v w R R2 did = receives_grow h v w did.0
-moves_grow rules P c (Tended (Dialed lost)) v w R R2 did = dials_or lost v w did.0
-moves_grow rules P c (Tended (Asked lost)) v w R R2 did = feeds_or lost _ v w did.0
-moves_grow rules P c (Tended (Said lost)) v w R R2 did = feeds_or lost _ v w did.0
-moves_grow rules P c (Tended (Polled h)) v w R R2 did = receives_grow h v w did.0
-moves_grow rules P c (Completed u) v w R R2 did = moved_up v v w did.vehicle (vehicle_same v)
-moves_grow rules P c (DiskFailed u entry) v w R R2 (inl did) = moved_up v v w did.vehicle (vehicle_same v)
-moves_grow rules P c (DiskFailed u entry) v w R R2 (inr did) = moved_up v v w did.vehicle (vehicle_same v)
-moves_grow rules P c (Ended u why) v w R R2 did = moved_up v v w did.vehicle (vehicle_same v)
+pub moves_grow : (rules : LinkRules) (P : List UnitPlan) (c : Core) (e : Event) (v w : Vehicle) → MovesVehicle rules P c e v w → VehicleGrows v w
+moves_grow rules P c (Claimed u) v w did = moved_up v v w did (vehicle_same v)
+moves_grow rules P c (Began u) v w did = moved_up v v w did (vehicle_same v)
+moves_grow rules P c (Sent u place lost) v w did = feeds_or lost _ v w did
+moves_grow rules P c (Collected u h) v w did = receives_grow h v w did
+moves_grow rules P c (Tended (Dialed lost)) v w did = dials_or lost v w did
+moves_grow rules P c (Tended (Asked lost)) v w did = feeds_or lost _ v w did
+moves_grow rules P c (Tended (Said lost)) v w did = feeds_or lost _ v w did
+moves_grow rules P c (Tended (Polled h)) v w did = receives_grow h v w did
+moves_grow rules P c (Completed u) v w did = moved_up v v w did (vehicle_same v)
+moves_grow rules P c (DiskFailed u entry) v w did = moved_up v v w did (vehicle_same v)
+moves_grow rules P c (Ended u why) v w did = moved_up v v w did (vehicle_same v)
 
 -- ------ one conversation
 ident_start : (plan : UnitPlan) (begun : Bool) → IsIdentPlace plan begun (start_place plan begun)
@@ -225,7 +224,7 @@ hears_since plan tick (Reply body) t e = go (judge (bytes_at plan t.place) body)
     go Strange = λ a. absurd (false≢true a)
 
 -- ------ one unit after an event
-module _ (rules : LinkRules) (P : List UnitPlan) (found : Entry → Bool) (c : Core) (R : Entry → Bool) (v v0 first : Vehicle) (t0 : ℕ) (accepted : IsAccepted P) (joint : IsJoint rules P c R v v0 t0) (counted : AreUnitsCounted rules P found t0 c first v) where
+module _ (rules : LinkRules) (P : List UnitPlan) (found : Entry → Bool) (c : Core) (v first : Vehicle) (t0 : ℕ) (accepted : IsAccepted P) (joint : IsVehicleJoint rules P found c v t0) (counted : AreUnitsCounted rules P found t0 c first v) where
   abbrev First : ℕ → Option ControlUnit
   First n = unit_at first.units (plan_of P n).address
 
@@ -365,7 +364,7 @@ module _ (rules : LinkRules) (P : List UnitPlan) (found : Entry → Bool) (c : C
       how : refused_request rules.tester (plan_of P u).address (bytes_at (plan_of P u) (c.slots u).talk.place) c.link v w (joint.connected (open_live c.link.phase (up_open c.link.phase f.up))) f.up
           ⊎ heard_request rules.tester (plan_of P u).address (bytes_at (plan_of P u) (c.slots u).talk.place) c.link v w (joint.connected (open_live c.link.phase (up_open c.link.phase f.up))) f.up
       how = came_out rules.tester (plan_of P u).address _ c.link v w (joint.connected (open_live c.link.phase (up_open c.link.phase f.up))) f.up
-          (message_sends rules.tester (plan_of P u).address _ v w (sent_can rules P c R v v0 t0 accepted joint u f.below f.request) (between rules c.link v.gateway (joint.connected (open_live c.link.phase (up_open c.link.phase f.up)))) did).handled
+          (message_sends rules.tester (plan_of P u).address _ v w (sent_can rules P c found v t0 accepted joint u f.below f.request) (between rules c.link v.gateway (joint.connected (open_live c.link.phase (up_open c.link.phase f.up)))) did).handled
 
       goes : (place : Place) → needs_request place ≡ true → is_ended place ≡ false
       goes (AtIdent x xs) e = refl
@@ -417,7 +416,7 @@ module _ (rules : LinkRules) (P : List UnitPlan) (found : Entry → Bool) (c : C
       same : (n == u) ≡ false → SameIn (Now n) (unit_at w.units (plan_of P n).address)
       same e =
           let f = sent_facts P c u number lost ok in
-          go f (sent_heard rules.tester (plan_of P u).address (bytes_at (plan_of P u) (c.slots u).talk.place) lost v w (sent_can rules P c R v v0 t0 accepted joint u f.below f.request) (between rules c.link v.gateway (joint.connected (open_live c.link.phase (up_open c.link.phase f.up)))) did)
+          go f (sent_heard rules.tester (plan_of P u).address (bytes_at (plan_of P u) (c.slots u).talk.place) lost v w (sent_can rules P c found v t0 accepted joint u f.below f.request) (between rules c.link v.gateway (joint.connected (open_live c.link.phase (up_open c.link.phase f.up)))) did)
         where
           go : SentFacts P c u number → HeardAtMost (plan_of P u).address (bytes_at (plan_of P u) (c.slots u).talk.place) v.units w.units → SameIn (Now n) (unit_at w.units (plan_of P n).address)
           go f (inl all) = all (plan_of P n).address
@@ -547,9 +546,9 @@ module _ (rules : LinkRules) (P : List UnitPlan) (found : Entry → Bool) (c : C
   collected_step u kept_word n w ok did grows lt = let f = collected_facts P c u kept_word ok in kept_step u f.below f.slot f.awaiting f.up n w ok did grows lt
   collected_step u Quiet n w ok did grows lt =
       let f = collected_facts P c u Quiet ok in
-      quiet_step u f.below f.slot f.awaiting f.up n w ok (not_true _ f.inbox) did grows (ticks_up v (ticked v) (record { none = did.none; becomes = refl })) (units_received rules P c R v v0 t0 accepted joint Quiet (ticked v) (record { none = did.none; becomes = refl })) lt
-  collected_step u (Piece bytes) n w ok did grows lt = let f = collected_facts P c u (Piece bytes) ok in piece_step u f.below f.slot f.awaiting f.up bytes n w ok did grows (units_received rules P c R v v0 t0 accepted joint (Piece bytes) w did) lt
-  collected_step u Lost n w ok did grows lt = let f = collected_facts P c u Lost ok in missed_step u f.below f.slot f.awaiting f.up n w ok grows (units_received rules P c R v v0 t0 accepted joint Lost w did) lt
+      quiet_step u f.below f.slot f.awaiting f.up n w ok (not_true _ f.inbox) did grows (ticks_up v (ticked v) (record { none = did.none; becomes = refl })) (units_received rules P c found v t0 accepted joint Quiet (ticked v) (record { none = did.none; becomes = refl })) lt
+  collected_step u (Piece bytes) n w ok did grows lt = let f = collected_facts P c u (Piece bytes) ok in piece_step u f.below f.slot f.awaiting f.up bytes n w ok did grows (units_received rules P c found v t0 accepted joint (Piece bytes) w did) lt
+  collected_step u Lost n w ok did grows lt = let f = collected_facts P c u Lost ok in missed_step u f.below f.slot f.awaiting f.up n w ok grows (units_received rules P c found v t0 accepted joint Lost w did) lt
 
   -- ------ a step for the link
   down_not_up : (p : Phase) → is_down p ≡ true → is_up p ≡ false
@@ -602,17 +601,16 @@ module _ (rules : LinkRules) (P : List UnitPlan) (found : Entry → Bool) (c : C
   pub tended_step : (step : Tend) (n : ℕ) (w : Vehicle) → is_allowed P c (Tended step) ≡ true → Tends rules step v w → VehicleGrows v w → n < count_of P → Counted (Tended step) n w
   tended_step step n w ok did grows lt =
       let may = (and_parts _ _ ok).1 in
-      let same = units_tended rules P c R v v0 t0 accepted joint step w may did in
+      let same = units_tended rules P c found v t0 accepted joint step w may did in
       after (Tended step) n w ok lt grows (rests n w lt grows (same (plan_of P n).address)) (tended_awaits step n w lt may did grows same)
 
   -- ------ every event
-  pub unit_step : (e : Event) (n : ℕ) (w : Vehicle) (R2 : Entry → Bool) → is_allowed P c e ≡ true → Moves rules P c e v w R R2 → n < count_of P → Counted e n w
-  unit_step (Claimed u) n w R2 ok did lt = claimed_step u n w ok did.vehicle (moves_grow rules P c (Claimed u) v w R R2 did) lt
-  unit_step (Began u) n w R2 ok did lt = began_step u n w ok did.vehicle (moves_grow rules P c (Began u) v w R R2 did) lt
-  unit_step (Sent u number lost) n w R2 ok did lt = sent_step u number lost n w ok did.0 (moves_grow rules P c (Sent u number lost) v w R R2 did) lt
-  unit_step (Collected u h) n w R2 ok did lt = collected_step u h n w ok did.0 (moves_grow rules P c (Collected u h) v w R R2 did) lt
-  unit_step (Tended step) n w R2 ok did lt = tended_step step n w ok did.0 (moves_grow rules P c (Tended step) v w R R2 did) lt
-  unit_step (Completed u) n w R2 ok did lt = completed_step u n w ok did.vehicle (moves_grow rules P c (Completed u) v w R R2 did) lt
-  unit_step (DiskFailed u entry) n w R2 ok (inl did) lt = failed_step u n entry w ok did.vehicle (moves_grow rules P c (DiskFailed u entry) v w R R2 (inl did)) lt
-  unit_step (DiskFailed u entry) n w R2 ok (inr did) lt = failed_step u n entry w ok did.vehicle (moves_grow rules P c (DiskFailed u entry) v w R R2 (inr did)) lt
-  unit_step (Ended u why) n w R2 ok did lt = ended_step u n why w ok did.vehicle (moves_grow rules P c (Ended u why) v w R R2 did) lt
+  pub unit_step : (e : Event) (n : ℕ) (w : Vehicle) → is_allowed P c e ≡ true → MovesVehicle rules P c e v w → n < count_of P → Counted e n w
+  unit_step (Claimed u) n w ok did lt = claimed_step u n w ok did (moves_grow rules P c (Claimed u) v w did) lt
+  unit_step (Began u) n w ok did lt = began_step u n w ok did (moves_grow rules P c (Began u) v w did) lt
+  unit_step (Sent u number lost) n w ok did lt = sent_step u number lost n w ok did (moves_grow rules P c (Sent u number lost) v w did) lt
+  unit_step (Collected u h) n w ok did lt = collected_step u h n w ok did (moves_grow rules P c (Collected u h) v w did) lt
+  unit_step (Tended step) n w ok did lt = tended_step step n w ok did (moves_grow rules P c (Tended step) v w did) lt
+  unit_step (Completed u) n w ok did lt = completed_step u n w ok did (moves_grow rules P c (Completed u) v w did) lt
+  unit_step (DiskFailed u entry) n w ok did lt = failed_step u n entry w ok did (moves_grow rules P c (DiskFailed u entry) v w did) lt
+  unit_step (Ended u why) n w ok did lt = ended_step u n why w ok did (moves_grow rules P c (Ended u why) v w did) lt

@@ -1,5 +1,5 @@
 -- What the counts of the vehicle say of each conversation: kept beside the joint state by each event.
-use Rattle.std.specs.Prelude.{◌≡◌, ◌⊎◌, ℕ, ◌+◌, ◌<◌, ◌≤◌, ◌%◌, ◌-◌, Bool, true, false, List, [], ◌∷◌, ◌++◌, Option, Some, None, is_some, if◌then◌else◌}
+use Rattle.std.specs.Prelude.{◌≡◌, ◌⊎◌, ℕ, ◌+◌, ◌<◌, ◌≤◌, ◌%◌, ◌-◌, Bool, true, false, List, [], ◌∷◌, ◌++◌, length, Option, Some, None, is_some, if◌then◌else◌}
 use Rattle.flash_base.specs.ByteMaps.{byte_at}
 use Rattle.doip_frame.specs.Frame.{stream_of}
 use Rattle.flash_base.specs.Lists.{Each}
@@ -14,15 +14,16 @@ use Rattle.unit_model.specs.Unit.{ControlUnit, Counts, is_locked}
 use Rattle.unit_model.specs.Step.{Departure, Refuses, Odd, Fails, Mutes, Busies, is_late}
 use Rattle.unit_model.specs.Vehicle.{HeldAnswer, Gateway, Vehicle, unit_at}
 use Rattle.run_model.specs.Link.{Link, is_live}
-use Rattle.run_model.specs.Places.{is_ended}
-use Rattle.run_model.specs.Script.{Place, AtIdent, AtDownload, AtBlock, AtEnd, bytes_at, start_place}
+use Rattle.run_model.specs.Entries.{marks_of}
+use Rattle.run_model.specs.Places.{AreMarked, is_ended}
+use Rattle.run_model.specs.Script.{Place, AtIdent, AtDownload, AtBlock, AtFinish, AtEnd, bytes_at, start_place}
 use Rattle.run_model.specs.States.{StateAt, HasRoom, Obeyed, Departed}
 use Rattle.run_model.specs.Talk.{Talk}
 use Rattle.run_model.specs.Ways.{Spoken, Unheard, words_from, words_in, words_later, on_way, is_empty_words, pending_words, final_word}
 use Rattle.unit_session.specs.Left.{requests_left}
 use Rattle.bay_core.specs.Core.{Slot, Core}
 use Rattle.bay_core.specs.Joint.{is_open_slot, held_of}
-use Rattle.outcome_law.specs.Causes.{IsCaused}
+use Rattle.outcome_law.specs.Causes.{HasNoneChecked, IsCaused}
 use Rattle.outcome_law.specs.Rising.{RoseBy, Rose, CountsGrow}
 
 -- ------ the unit
@@ -45,15 +46,24 @@ KeptIn None (Some w) = ⊥
 KeptIn (Some u) None = ⊥
 KeptIn (Some u) (Some w) = Kept u w
 
--- behind the erase of a segment a download is not refused; a block is as long as the unit's number says, or shorter
-abbrev pub Takes : Place → ControlUnit → Type 0
-Takes (AtDownload c) u = (is_locked u ≡ false) × HasRoom c.now u
-Takes (AtBlock c b) u = b.limit ≤ u.block
-Takes place u = Unit {0}
+-- behind the erase of a segment a download is not refused; a block is as long as the unit's number says, or shorter; the whole check
+-- finds something, unless every segment was found marked and nothing was checked
+abbrev pub Takes : UnitPlan → (ℕ → Bool) → ControlUnit → Place → ControlUnit → Type 0
+Takes plan found first (AtDownload c) u = (is_locked u ≡ false) × HasRoom c.now u
+Takes plan found first (AtBlock c b) u = b.limit ≤ u.block
+Takes plan found first AtFinish u = u.checked ≡ [] → HasNoneChecked plan found first
+Takes plan found first place u = Unit {0}
 
-abbrev pub TakesIn : Place → Option ControlUnit → Type 0
-TakesIn place None = Unit {0}
-TakesIn place (Some u) = Takes place u
+abbrev pub TakesIn : UnitPlan → (ℕ → Bool) → Option ControlUnit → Place → Option ControlUnit → Type 0
+TakesIn plan found None place now = Unit {0}
+TakesIn plan found (Some u) place None = Unit {0}
+TakesIn plan found (Some u) place (Some w) = Takes plan found u place w
+
+-- where every segment was found marked, no range comes to the checked ones and none goes
+abbrev pub SameChecked : UnitPlan → (ℕ → Bool) → Option ControlUnit → Option ControlUnit → Type 0
+SameChecked plan found None now = Unit {0}
+SameChecked plan found (Some u) None = Unit {0}
+SameChecked plan found (Some u) (Some w) = AreMarked found (length plan.segments) → w.checked ≡ u.checked
 
 -- ------ the place
 -- an identifier that is asked for is expected, and the task was not begun
@@ -62,9 +72,9 @@ IsIdentPlace plan begun (AtIdent w ws) = (begun ≡ false) × ((seen : List Want
 IsIdentPlace plan begun place = Unit {0}
 
 -- an end has its cause
-abbrev pub IsEndCaused : UnitPlan → Bool → Option ControlUnit → Option ControlUnit → Place → Type 0
-IsEndCaused plan begun first now (AtEnd outcome) = IsCaused plan begun first now outcome
-IsEndCaused plan begun first now place = Unit {0}
+abbrev pub IsEndCaused : UnitPlan → Bool → (ℕ → Bool) → Option ControlUnit → Option ControlUnit → Place → Type 0
+IsEndCaused plan begun found first now (AtEnd outcome) = IsCaused plan begun found first now outcome
+IsEndCaused plan begun found first now place = Unit {0}
 
 -- so many busy answers were counted
 abbrev pub BusyBy : ℕ → Option ControlUnit → Option ControlUnit → Type 0
@@ -73,11 +83,11 @@ BusyBy n (Some u) None = ⊥
 BusyBy n (Some u) (Some w) = RoseBy n u.counts.busy w.counts.busy
 
 -- the conversation of one unit, whose state was `first` at the start of the run and is `now`
-pub record IsTalkCounted (plan : UnitPlan) (begun : Bool) (first now : Option ControlUnit) (t : Talk) : Type 0 where
+pub record IsTalkCounted (plan : UnitPlan) (begun : Bool) (found : ℕ → Bool) (first now : Option ControlUnit) (t : Talk) : Type 0 where
   pub ident : IsIdentPlace plan begun t.place
-  pub ended : IsEndCaused plan begun first now t.place
+  pub ended : IsEndCaused plan begun found first now t.place
   pub busy : BusyBy t.busies first now
-  pub takes : t.awaiting ≡ false → TakesIn t.place now
+  pub takes : t.awaiting ≡ false → TakesIn plan found first t.place now
   pub left : is_ended t.place ≡ false → t.number + requests_left plan t.place ≤ requests_left plan (start_place plan begun)
 
 -- ------ what is awaited
@@ -91,12 +101,12 @@ IsCounted Busies busies old new = RoseBy (busies + 1) old.busy new.busy
 
 -- The unit heard the request in hand: it obeyed, or departed, which was counted. More than 200 responses pending were counted
 -- too; the held answer has said at least as many as came and are on the way.
-pub record IsHeardCounted (plan : UnitPlan) (t : Talk) (first : ControlUnit) (held : List HeldAnswer) (way : List Spoken) (u : ControlUnit) : Type 0 where
+pub record IsHeardCounted (plan : UnitPlan) (found : ℕ → Bool) (t : Talk) (first : ControlUnit) (held : List HeldAnswer) (way : List Spoken) (u : ControlUnit) : Type 0 where
   pub before : ControlUnit
   pub said : Option (List ℕ)
   pub pending : ℕ
   pub state : StateAt plan t.place before
-  pub takes : Takes t.place before
+  pub takes : Takes plan found first t.place before
   pub make : SameMake first before
   pub step : Obeyed before (bytes_at plan t.place) said u ⊎ ((d : Departed before (bytes_at plan t.place) said u) × IsCounted d.kind t.busies first.counts u.counts)
   pub on_way : way ≡ pending_words (sid_of (bytes_at plan t.place)) pending ++ final_word said
@@ -109,11 +119,11 @@ pub record IsMissedCounted (first : ControlUnit) (way : List Spoken) (u : Contro
   pub on_way : way ≡ Unheard code ∷ []
   pub count : Rose (first.counts.nacked code) (u.counts.nacked code)
 
-abbrev pub IsAwaitCounted : UnitPlan → Talk → List HeldAnswer → List Spoken → Option ControlUnit → Option ControlUnit → Type 0
-IsAwaitCounted plan t held way None None = way ≡ Unheard 3 ∷ []
-IsAwaitCounted plan t held way None (Some w) = ⊥
-IsAwaitCounted plan t held way (Some u) None = ⊥
-IsAwaitCounted plan t held way (Some u) (Some w) = IsMissedCounted u way w ⊎ IsHeardCounted plan t u held way w
+abbrev pub IsAwaitCounted : UnitPlan → (ℕ → Bool) → Talk → List HeldAnswer → List Spoken → Option ControlUnit → Option ControlUnit → Type 0
+IsAwaitCounted plan found t held way None None = way ≡ Unheard 3 ∷ []
+IsAwaitCounted plan found t held way None (Some w) = ⊥
+IsAwaitCounted plan found t held way (Some u) None = ⊥
+IsAwaitCounted plan found t held way (Some u) (Some w) = IsMissedCounted u way w ⊎ IsHeardCounted plan found t u held way w
 
 -- ------ when it comes
 -- the ticks at which messages of the unit are due
@@ -150,15 +160,16 @@ IsTimed tester a sent inbox rest g (Some u) None = ⊥
 IsTimed tester a sent inbox rest g (Some u) (Some w) = Rose u.counts.late w.counts.late ⊎ IsOnTime tester a sent inbox rest g
 
 -- ------ one unit, and all
-pub record IsUnitCounted (tester : ℕ) (plan : UnitPlan) (begun : Bool) (t0 : ℕ) (l : Link) (s : Slot) (first now : Vehicle) : Type 0 where
+pub record IsUnitCounted (tester : ℕ) (plan : UnitPlan) (begun : Bool) (found : ℕ → Bool) (t0 : ℕ) (l : Link) (s : Slot) (first now : Vehicle) : Type 0 where
   pub kept : KeptIn (unit_at first.units plan.address) (unit_at now.units plan.address)
-  pub talk : IsTalkCounted plan begun (unit_at first.units plan.address) (unit_at now.units plan.address) s.talk
+  pub checked : SameChecked plan found (unit_at first.units plan.address) (unit_at now.units plan.address)
+  pub talk : IsTalkCounted plan begun found (unit_at first.units plan.address) (unit_at now.units plan.address) s.talk
   pub awaits : is_live l.phase ≡ true → is_open_slot s ≡ true → s.talk.awaiting ≡ true
-      → IsAwaitCounted plan s.talk (held_of plan.address now.gateway.held) (on_way tester plan.address l.inbox l.rest now.gateway) (unit_at first.units plan.address) (unit_at now.units plan.address)
+      → IsAwaitCounted plan found s.talk (held_of plan.address now.gateway.held) (on_way tester plan.address l.inbox l.rest now.gateway) (unit_at first.units plan.address) (unit_at now.units plan.address)
   pub timed : is_live l.phase ≡ true → is_open_slot s ≡ true → s.talk.awaiting ≡ true
       → IsTimed tester plan.address (t0 + s.talk.since) l.inbox l.rest now.gateway (unit_at first.units plan.address) (unit_at now.units plan.address)
 
 -- each unit of the plan; what was found recorded is
 pub record AreUnitsCounted (rules : LinkRules) (P : List UnitPlan) (found : Entry → Bool) (t0 : ℕ) (c : Core) (first now : Vehicle) : Type 0 where
-  pub units : (n : ℕ) → n < count_of P → IsUnitCounted rules.tester (plan_of P n) (c.recorded (Begun n)) t0 c.link (c.slots n) first now
+  pub units : (n : ℕ) → n < count_of P → IsUnitCounted rules.tester (plan_of P n) (c.recorded (Begun n)) (marks_of found n) t0 c.link (c.slots n) first now
   pub more : (e : Entry) → found e ≡ true → c.recorded e ≡ true

@@ -7,9 +7,8 @@ use Rattle.flash_base.specs.Lists.{Each, same_bytes}
 use Rattle.unit_model.specs.Vehicle.{Gateway, Vehicle}
 use Rattle.run_model.specs.Link.{Link, Phase, Down, Fresh, Waits, Up, Denied, is_live, is_waiting}
 use Rattle.bay_core.specs.LinkLaws.{first_code}
-use Rattle.bay_core.specs.Law.{State}
 use Rattle.bay_core.specs.declared.event.Event.{Event}
-use Rattle.bay_core.specs.declared.event.Event.TheVariants.{Claimed, Began, Sent, Collected, Tended, Completed, DiskFailed, Ended}
+use Rattle.bay_core.specs.declared.event.Event.TheVariants.{Claimed, Began, Sent, Collected, Tended, Marked, Completed, DiskFailed, Ended}
 use Rattle.bay_core.specs.declared.event.Heard.{Heard}
 use Rattle.bay_core.specs.declared.event.Heard.TheVariants.{Kept, Quiet, Piece, Lost}
 use Rattle.bay_core.specs.declared.event.Tend.{Tend}
@@ -40,6 +39,7 @@ is_fault (Began u) old new = false
 is_fault (Sent u place lost) old new = lost
 is_fault (Collected u heard) old new = is_heard_fault heard old new
 is_fault (Tended step) old new = is_tend_fault step old new
+is_fault (Marked u s) old new = false
 is_fault (Completed u) old new = false
 is_fault (DiskFailed u entry) old new = false
 is_fault (Ended u outcome) old new = false
@@ -48,10 +48,10 @@ abbrev pub fault_of : Bool → ℕ
 fault_of fault = if fault then 1 else 0
 
 -- how many there were
-abbrev pub faults_of : List Event → State → List State → ℕ
-faults_of [] s states = 0
-faults_of (e ∷ es) s [] = 0
-faults_of (e ∷ es) s (s2 ∷ states) = fault_of (is_fault e s.vehicle s2.vehicle) + faults_of es s2 states
+abbrev pub faults_of : List Event → Vehicle → List Vehicle → ℕ
+faults_of [] v vehicles = 0
+faults_of (e ∷ es) v [] = 0
+faults_of (e ∷ es) v (w ∷ vehicles) = fault_of (is_fault e v w) + faults_of es w vehicles
 
 -- ------ losses
 -- so many losses are covered by faults of the link and activations that were not answered in time

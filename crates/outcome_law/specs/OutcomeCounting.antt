@@ -10,9 +10,9 @@ use Rattle.flash_plan.specs.declared.unit.UnitPlan.{UnitPlan}
 use Rattle.unit_model.specs.Vehicle.{Vehicle}
 use Rattle.run_model.specs.Script.{AtEnd}
 use Rattle.bay_core.specs.Core.{Core, core_start, core_after, is_disk_failure}
-use Rattle.bay_core.specs.Joint.{IsJoint}
+use Rattle.bay_core.specs.Joint.{IsVehicleJoint}
 use Rattle.bay_core.specs.Legal.{is_allowed}
-use Rattle.bay_core.specs.Moves.{Moves}
+use Rattle.bay_core.specs.Moves.{MovesVehicle}
 use Rattle.bay_core.specs.declared.event.Event.{Event}
 use Rattle.outcome_law.specs.Counting.{AreUnitsCounted}
 use Rattle.outcome_law.specs.LinkCounting.{is_fault, fault_of, IsLostBy, IsLinkCounted}
@@ -23,7 +23,7 @@ use Rattle.outcome_law.specs.Rising.{Rose}
 -- that complete is recorded
 abbrev pub Rests : List UnitPlan → Core → ℕ → Outcome → Type 0
 Rests P c n o =
-    ((c.slots n).talk.place ≡ AtEnd o) ⊎ (((c.slots n).faulted ≡ true) × (o ≡ DiskFault)) ⊎ (c.stop ≡ Some o) ⊎ (o ≡ NoMemory)
+    ((c.slots n).talk.place ≡ AtEnd o) ⊎ (((c.slots n).faulted ≡ true) × (o ≡ DiskFault)) ⊎ (c.halt.stop ≡ Some o) ⊎ (o ≡ NoMemory)
     ⊎ ((by : ℕ) × (o ≡ Blocked by) × IsBlockedBy (plan_of P n) c by) ⊎ ((o ≡ Complete) × (c.recorded (entry.Complete n) ≡ true))
 
 abbrev pub IsStopCounted : LinkRules → Bool → ℕ → Vehicle → Vehicle → Outcome → Type 0
@@ -42,12 +42,12 @@ pub record AreOutcomesCounted (rules : LinkRules) (P : List UnitPlan) (c : Core)
   pub link : IsLinkCounted c.link faults first now
   pub rests : (n : ℕ) (outcome : Outcome) → n < count_of P → (c.slots n).outcome ≡ Some outcome → Rests P c n outcome
   pub faulted : (n : ℕ) → (c.slots n).faulted ≡ true → failed ≡ true
-  pub stop : StopCounted rules failed faults first now c.link.losses c.stop
+  pub stop : StopCounted rules failed faults first now c.link.losses c.halt.stop
 
 -- each allowed event keeps it beside the joint state
 abbrev pub OutcomeCountingLaw : Type 0
-OutcomeCountingLaw = (rules : LinkRules) (P : List UnitPlan) (c : Core) (e : Event) (R R2 : Entry → Bool) (v v2 v0 first : Vehicle) (t0 faults : ℕ) (failed failed2 : Bool)
-    → IsAccepted P → (is_allowed P c e ≡ true) → Moves rules P c e v v2 R R2 → IsJoint rules P c R v v0 t0
+OutcomeCountingLaw = (rules : LinkRules) (P : List UnitPlan) (found : Entry → Bool) (c : Core) (e : Event) (v v2 first : Vehicle) (t0 faults : ℕ) (failed failed2 : Bool)
+    → IsAccepted P → (is_allowed P c e ≡ true) → MovesVehicle rules P c e v v2 → IsVehicleJoint rules P found c v t0
     → (failed ≡ true → failed2 ≡ true) → (is_disk_failure e ≡ true → failed2 ≡ true)
     → AreOutcomesCounted rules P c failed faults first v → AreOutcomesCounted rules P (core_after rules P e c) failed2 (faults + fault_of (is_fault e v v2)) first v2
 
@@ -60,4 +60,4 @@ pub record StartLaw : Type 0 where
 abbrev pub CountedLaw : Type 0
 CountedLaw = (rules : LinkRules) (P : List UnitPlan) (found : Entry → Bool) (c : Core) (failed : Bool) (faults : ℕ) (first now : Vehicle) (t0 n : ℕ) (outcome : Outcome)
     → n < count_of P → AreUnitsCounted rules P found t0 c first now → AreOutcomesCounted rules P c failed faults first now → (c.slots n).outcome ≡ Some outcome
-    → IsOutcomeCaused rules (plan_of P n) c n failed faults first now outcome
+    → IsOutcomeCaused rules (plan_of P n) found c n failed faults first now outcome

@@ -1,8 +1,10 @@
+pub mod Attempt
 pub mod Connected
 pub mod Entries
 pub mod Link
 pub mod Matching
 pub mod Places
+pub mod Rows
 pub mod Script
 pub mod Sound
 pub mod States

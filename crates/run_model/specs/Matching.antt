@@ -1,5 +1,5 @@
 -- A unit that fits its task, and a vehicle whose units match a plan.
-use Rattle.std.specs.Prelude.{◌≡◌, ℕ, ◌<◌, ◌≤◌, ◌^◌, Bool, false, List, length, MatchOption, Contains}
+use Rattle.std.specs.Prelude.{◌≡◌, ℕ, ◌<◌, ◌≤◌, Bool, false, List, length, MatchOption, Contains}
 use Rattle.flash_base.specs.Lists.{Each}
 use Rattle.flash_plan.specs.declared.outcome.Entry.{Entry}
 use Rattle.flash_plan.specs.declared.outcome.Entry.TheVariants.{Begun}
@@ -18,15 +18,13 @@ abbrev pub HasValue : ControlUnit → Wanted → Type 0
 HasValue u w = MatchOption (ident_of u.idents w.did) ⊥ (λ value. Contains w.values value)
 
 -- The unit can be programmed by its task: it has every expected identifier, its regions hold every segment, key rule and
--- check routine are the task's, a block carries a byte, and its seed is one that a key can be asked for. A block number
--- has four bytes here, as the unit's own type.
+-- check routine are the task's, a block carries a byte, and its seed is one that a key can be asked for.
 pub record IsFitting (plan : UnitPlan) (u : ControlUnit) : Type 0 where
   pub idents : Each (HasIdent u) plan.idents
   pub segments : Each (λ s. HasRoom s u) plan.segments
   pub key : u.key ≡ plan.key
   pub check : u.check ≡ plan.check
   pub block : 3 ≤ u.block
-  pub block_range : u.block < 2 ^ 32
   pub seed : 1 ≤ length u.seed
   pub short_seed : length u.seed ≤ 32
   pub open_seed : ¬ Each (λ b. b ≡ 0) u.seed

@@ -1,10 +1,10 @@
 -- What is asked of the places of a script.
-use Rattle.std.specs.Prelude.{◌≡◌, ◌≤◌, Bool, true, false, ◌∷◌, ◌++◌, length, Some}
+use Rattle.std.specs.Prelude.{◌≡◌, ℕ, ◌<◌, ◌≤◌, Bool, true, false, ◌∷◌, ◌++◌, length, Some}
 use Rattle.flash_base.specs.Lists.{Each}
 use Rattle.flash_plan.specs.Plan.{IsWanted}
 use Rattle.flash_plan.specs.declared.unit.UnitPlan.{UnitPlan}
 use Rattle.uds_codec.specs.Key.{level_of}
-use Rattle.run_model.specs.Script.{Cursor, Blocks, Place, AtIdent, AtBegin, AtProgram, AtSeed, AtKey, AtErase, AtDownload, AtBlock, AtExit, AtCheck, AtDone, AtEnd}
+use Rattle.run_model.specs.Script.{Cursor, Blocks, Place, AtIdent, AtBegin, AtProgram, AtSeed, AtKey, AtErase, AtDownload, AtBlock, AtExit, AtCheck, AtMark, AtFinish, AtReset, AtDone, AtEnd}
 
 -- nothing was answered yet that speaks of the unit's state
 abbrev pub is_free : Place → Bool
@@ -29,6 +29,7 @@ needs_begun place = true
 -- a request is due
 abbrev pub needs_request : Place → Bool
 needs_request AtBegin = false
+needs_request (AtMark c) = false
 needs_request AtDone = false
 needs_request (AtEnd outcome) = false
 needs_request place = true
@@ -50,6 +51,7 @@ IsPlace plan (AtDownload c) = IsCursor plan c
 IsPlace plan (AtBlock c b) = IsCursor plan c × IsBlocks c b
 IsPlace plan (AtExit c) = IsCursor plan c
 IsPlace plan (AtCheck c) = IsCursor plan c
+IsPlace plan (AtMark c) = IsCursor plan c
 IsPlace plan place = Unit {0}
 
 -- what the place carries from the plan and from answers is in its range, so that its request can be said
@@ -59,3 +61,25 @@ IsAsked plan (AtSeed level) = level_of plan.key ≡ Some level
 IsAsked plan (AtKey level seed) = (level_of plan.key ≡ Some level) × (1 ≤ length seed) × (length seed ≤ 32)
 IsAsked plan (AtBlock c b) = b.limit ≤ 65535
 IsAsked plan place = Unit {0}
+
+-- the first n segments are marked
+abbrev pub AreMarked : (ℕ → Bool) → ℕ → Type 0
+AreMarked marks n = (k : ℕ) → k < n → marks k ≡ true
+
+-- those before the segment in hand are marked, and it is not
+pub record IsNext (marks : ℕ → Bool) (c : Cursor) : Type 0 where
+  pub before : AreMarked marks (length c.done)
+  pub now : marks (length c.done) ≡ false
+
+-- each segment behind the place is marked, and the one in hand is not: no request erases a marked segment
+abbrev pub FitsMarks : UnitPlan → (ℕ → Bool) → Place → Type 0
+FitsMarks plan marks (AtErase c) = IsNext marks c
+FitsMarks plan marks (AtDownload c) = IsNext marks c
+FitsMarks plan marks (AtBlock c b) = IsNext marks c
+FitsMarks plan marks (AtExit c) = IsNext marks c
+FitsMarks plan marks (AtCheck c) = IsNext marks c
+FitsMarks plan marks (AtMark c) = IsNext marks c
+FitsMarks plan marks AtFinish = AreMarked marks (length plan.segments)
+FitsMarks plan marks AtReset = AreMarked marks (length plan.segments)
+FitsMarks plan marks AtDone = AreMarked marks (length plan.segments)
+FitsMarks plan marks place = Unit {0}

@@ -4,10 +4,10 @@ use Rattle.disk_model.specs.Disk.{DiskState, IsCrashImage}
 use Rattle.flash_base.specs.ByteMaps.{ByteMap, byte_at}
 use Rattle.flash_base.specs.Lists.{Each}
 use Rattle.flash_plan.specs.declared.outcome.Entry.{Entry}
-use Rattle.flash_plan.specs.declared.outcome.Entry.TheVariants.{Begun, Complete}
+use Rattle.flash_plan.specs.declared.outcome.Entry.TheVariants.{Begun, Marked, Complete}
 use Rattle.flash_plan.specs.declared.unit.Segment.{Segment}
 use Rattle.flash_plan.specs.declared.unit.UnitPlan.{UnitPlan}
-use Rattle.flash_plan.specs.Plan.{IsInImage, plan_of, count_of, final_memory}
+use Rattle.flash_plan.specs.Plan.{IsInImage, plan_of, count_of, segment_of, final_memory}
 use Rattle.unit_model.specs.Unit.{ControlUnit}
 use Rattle.unit_model.specs.Vehicle.{Vehicle, unit_at, memory_of, heard_of}
 
@@ -33,18 +33,24 @@ pub record IsProgrammed (plan : UnitPlan) (u : ControlUnit) : Type 0 where
 abbrev pub HasProgrammed : UnitPlan → Vehicle → Type 0
 HasProgrammed plan v = MatchOption (unit_at v.units plan.address) ⊥ (IsProgrammed plan)
 
+-- the vehicle has the unit, and it holds the segment, checked
+abbrev pub VehicleHas : UnitPlan → Segment → Vehicle → Type 0
+VehicleHas plan s v = MatchOption (unit_at v.units plan.address) ⊥ (λ u. HasSegment u s)
+
 abbrev pub AllComplete : (Entry → Bool) → List ℕ → Type 0
 AllComplete R after = Each (λ w. IsTrue (R (Complete w))) after
 
 -- Unit n of a plan, for records R, the vehicle v and the vehicle v0 at the start:
 -- outside its image nothing has changed; recorded complete, it is programmed; not recorded begun, its memory is
--- unchanged; recorded begun, the units before it are recorded complete; and before they are, it has heard nothing.
+-- unchanged; recorded begun, the units before it are recorded complete; before they are, it has heard nothing; and each of its
+-- segments that is recorded marked is in it, checked.
 pub record IsUnitSound (R : Entry → Bool) (n : ℕ) (plan : UnitPlan) (v v0 : Vehicle) : Type 0 where
   pub outside : (a : ℕ) → ¬ IsInImage plan.segments a → memory_of v plan.address a ≡ memory_of v0 plan.address a
   pub complete : IsTrue (R (Complete n)) → IsTrue (R (Begun n)) × HasProgrammed plan v
   pub untouched : ¬ IsTrue (R (Begun n)) → (a : ℕ) → memory_of v plan.address a ≡ memory_of v0 plan.address a
   pub ordered : IsTrue (R (Begun n)) → AllComplete R plan.after
   pub waits : ¬ AllComplete R plan.after → heard_of v plan.address ≤ heard_of v0 plan.address
+  pub marked : (s : ℕ) → s < length plan.segments → IsTrue (R (Marked n s)) → IsTrue (R (Begun n)) × VehicleHas plan (segment_of plan s) v
 
 -- records and a vehicle fit together
 abbrev pub IsSound : List UnitPlan → (Entry → Bool) → Vehicle → Vehicle → Type 0

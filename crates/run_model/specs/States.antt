@@ -1,7 +1,6 @@
 -- What a unit's state is at each place of the script, and what one step of it may have been.
-use Rattle.std.specs.Prelude.{◌≡◌, ◌⊎◌, ℕ, ◌+◌, ◌<◌, true, not, List, length, Option, Some, None, IsTrue, is_some}
+use Rattle.std.specs.Prelude.{◌≡◌, ◌⊎◌, ℕ, ◌+◌, ◌<◌, true, false, List, length, Option, Some, None, IsTrue, is_some}
 use Rattle.flash_base.specs.ByteMaps.{byte_at}
-use Rattle.flash_base.specs.Lists.{Each}
 use Rattle.flash_plan.specs.declared.unit.Segment.{Segment}
 use Rattle.flash_plan.specs.declared.unit.UnitPlan.{UnitPlan}
 use Rattle.uds_codec.specs.Key.{all_zero}
@@ -9,23 +8,25 @@ use Rattle.uds_codec.specs.Request.{sid_of}
 use Rattle.unit_model.specs.Step.{Departure, IsDeparture, Leaves, said_by}
 use Rattle.unit_model.specs.Unit.{ControlUnit, OpenTransfer, has_key, obedient}
 use Rattle.run_model.specs.Places.{is_free}
-use Rattle.run_model.specs.Script.{Cursor, Blocks, Place, AtIdent, AtBegin, AtProgram, AtSeed, AtKey, AtErase, AtDownload, AtBlock, AtExit, AtCheck, AtFinish, AtReset, AtDone, AtEnd, is_empty}
+use Rattle.run_model.specs.Script.{Cursor, Blocks, Place, AtIdent, AtBegin, AtProgram, AtSeed, AtKey, AtErase, AtDownload, AtBlock, AtExit, AtCheck, AtMark, AtFinish, AtReset, AtDone, AtEnd}
 use Rattle.run_model.specs.Sound.{HoldsBytes, HasSegment}
 
 -- the unit has the addresses of the segment
 abbrev pub HasRoom : Segment → ControlUnit → Type 0
 HasRoom s u = (k : ℕ) → k < length s.body → is_some (byte_at u.memory (s.at + k)) ≡ true
 
--- a download is open with the script's next address, rest and counter, and the bytes before it are the image's
+-- a transfer down is open with the script's next address, rest and counter, and the bytes before it are the image's
 pub record HasTransfer (c : Cursor) (b : Blocks) (u : ControlUnit) : Type 0 where
-  pub transfer : u.transfer ≡ Some (record { at = c.now.at + length b.sent; rest = length b.rest; counter = b.counter; taken = not (is_empty b.sent) })
+  pub last : Option ℕ
+  pub transfer : u.transfer ≡ Some (record { up = false; at = c.now.at + length b.sent; rest = length b.rest; counter = b.counter; last = last })
   pub holds : HoldsBytes c.now.at b.sent u.memory
   pub room : HasRoom c.now u
 
--- a download is open whose bytes have all come
+-- a transfer down is open whose bytes have all come
 pub record HasFilled (c : Cursor) (u : ControlUnit) : Type 0 where
   pub last : OpenTransfer
   pub transfer : u.transfer ≡ Some last
+  pub down : last.up ≡ false
   pub at : last.at ≡ c.now.at + length c.now.body
   pub rest : last.rest ≡ 0
   pub holds : HoldsBytes c.now.at c.now.body u.memory
@@ -38,21 +39,23 @@ Programs u = u.session ≡ 2
 abbrev pub Opened : UnitPlan → ControlUnit → Type 0
 Opened plan u = Programs u × (has_key plan.key ≡ true → (u.unlocked ≡ true) ⊎ (all_zero u.seed ≡ true))
 
--- the unit's state agrees with the answers that led to the place
+-- The unit's state agrees with the answers that led to the place. The segments finished before are marked, and that they are in
+-- the unit is said of every marked one; a segment that stands to be marked is in it too.
 abbrev pub StateAt : UnitPlan → Place → ControlUnit → Type 0
 StateAt plan (AtIdent w ws) u = Unit {0}
 StateAt plan AtBegin u = Unit {0}
 StateAt plan AtProgram u = Unit {0}
 StateAt plan (AtSeed level) u = Programs u
 StateAt plan (AtKey level seed) u = Programs u × (u.last_seed ≡ Some seed)
-StateAt plan (AtErase c) u = Opened plan u × Each (HasSegment u) c.done
-StateAt plan (AtDownload c) u = Opened plan u × Each (HasSegment u) c.done
-StateAt plan (AtBlock c b) u = Opened plan u × Each (HasSegment u) c.done × HasTransfer c b u
-StateAt plan (AtExit c) u = Opened plan u × Each (HasSegment u) c.done × HasFilled c u
-StateAt plan (AtCheck c) u = Opened plan u × Each (HasSegment u) c.done × HoldsBytes c.now.at c.now.body u.memory
-StateAt plan AtFinish u = Opened plan u × Each (HasSegment u) plan.segments
-StateAt plan AtReset u = Opened plan u × Each (HasSegment u) plan.segments × IsTrue u.passed
-StateAt plan AtDone u = Each (HasSegment u) plan.segments × IsTrue u.passed
+StateAt plan (AtErase c) u = Opened plan u
+StateAt plan (AtDownload c) u = Opened plan u
+StateAt plan (AtBlock c b) u = Opened plan u × HasTransfer c b u
+StateAt plan (AtExit c) u = Opened plan u × HasFilled c u
+StateAt plan (AtCheck c) u = Opened plan u × HoldsBytes c.now.at c.now.body u.memory
+StateAt plan (AtMark c) u = Opened plan u × HasSegment u c.now
+StateAt plan AtFinish u = Opened plan u
+StateAt plan AtReset u = Opened plan u × IsTrue u.passed
+StateAt plan AtDone u = IsTrue u.passed
 StateAt plan (AtEnd outcome) u = Unit {0}
 
 -- a unit that is not there has answered nothing

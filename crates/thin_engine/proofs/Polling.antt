@@ -17,9 +17,10 @@ use Rattle.doip_frame.specs.Frame.{stream_of}
 use Rattle.uds_codec.specs.Answer.{Good, judge}
 use Rattle.flash_plan.specs.declared.outcome.Outcome.{Outcome}
 use Rattle.flash_plan.specs.declared.unit.UnitPlan.{UnitPlan}
+use Rattle.journal_steps.specs.Make.{no_entry}
 use Rattle.run_model.specs.Script.{Place, AtBegin, request_at, bytes_at, place_next}
 use Rattle.run_model.specs.Sound.{IsSound}
-use Rattle.bay_core.proofs.OneStep.{step_law}
+use Rattle.bay_core.proofs.OneStep.{joint_kept}
 use Rattle.bay_core.specs.Core.{Core, core_after}
 use Rattle.bay_core.specs.Legal.{is_allowed}
 use Rattle.bay_core.specs.Moves.{Moves, Receives}
@@ -77,14 +78,14 @@ module _ (run : Run) where
   pub fits_sound : (R : Entry → Bool) (c : Core) (d : DiskState) (v : Vehicle) → Fits run R c d v → SoundAt run d v
   fits_sound R c d v fits image left =
       let same : records (label_of run.plan) image ≡ R = λ i e. fits.covers image left e i in
-      subst (λ (X : Entry → Bool). IsSound run.plan X v run.v0) (sym same) fits.joint.sound
+      subst (λ (X : Entry → Bool). IsSound run.plan X v run.v0) (sym same) fits.joint.records.sound
 
   -- an event that leaves the records as they are
   pub fits_on : (R : Entry → Bool) (c : Core) (e : Event) (d d2 : DiskState) (v v2 : Vehicle) → d2 ≡ d → is_allowed run.plan c e ≡ true → Moves (rules_of run.tester) run.plan c e v v2 R R → Fits run R c d v
       → Fits run R (core_after (rules_of run.tester) run.plan e c) d2 v2
   fits_on R c e d d2 v v2 same allowed moves fits = record {
     covers = same_covers R d d2 same fits.covers;
-    joint = step_law (rules_of run.tester) run.plan c e R R v v2 run.v0 run.t0 run.is_first.accepted allowed moves fits.joint;
+    joint = joint_kept (rules_of run.tester) run.plan no_entry c e R R v v2 run.v0 run.t0 run.is_first.accepted allowed moves fits.joint;
   }
 
 module _ (awaited : Awaited) (run : Run) (R : Entry → Bool) (place : Place) (got : List ℕ) (quiet : ℕ) where
@@ -99,8 +100,8 @@ module _ (awaited : Awaited) (run : Run) (R : Entry → Bool) (place : Place) (g
   moved c h v w did = go awaited
     where
       go : (x : Awaited) → Moves (rules_of run.tester) run.plan c (event_of x h) v w R R
-      go Activation = (did, refl)
-      go Answer = (did, refl)
+      go Activation = record { vehicle = did; records = refl }
+      go Answer = record { vehicle = did; records = refl }
 
   -- the event of a receive
   pub hears : (h : Heard) (d d2 : DiskState) (v w : Vehicle) → d2 ≡ d → (h ≡ heard.Kept → ⊥) → Waits awaited run R place got quiet d v → Receives h v w → Hears awaited run R place got quiet h d2 w

@@ -19,7 +19,7 @@ use Rattle.journal_steps.specs.Make.{no_entry}
 use Rattle.flash_journal.specs.Kept.{journal_label, has_entry, MayAppend, IsKeptOn, HasOneMore}
 use Rattle.flash_journal.specs.Opened.{IsEmpty}
 use Rattle.flash_journal.specs.declared.journal.Journal.{Journal}
-use Rattle.bay_core.proofs.OneStep.{step_law}
+use Rattle.bay_core.proofs.OneStep.{joint_kept}
 use Rattle.bay_core.specs.Core.{core_after}
 use Rattle.bay_core.specs.Joint.{IsJoint}
 use Rattle.bay_core.specs.declared.event.Event.TheVariants.{Began, Completed}
@@ -85,8 +85,8 @@ module _ (run : Run) where
   ]
 
   -- that the unit is begun is recorded
-  began : (d : DiskState) (v : Vehicle) (rests : IsResting run no_entry AtBegin d v) → IsJoint (rules_of run.tester) run.plan (core_after (rules_of run.tester) run.plan (Began 0) rests.core) is_begun v run.v0 run.t0
-  began d v rests = step_law (rules_of run.tester) run.plan rests.core (Began 0) no_entry is_begun v v run.v0 run.t0 run.is_first.accepted
+  began : (d : DiskState) (v : Vehicle) (rests : IsResting run no_entry AtBegin d v) → IsJoint (rules_of run.tester) run.plan no_entry (core_after (rules_of run.tester) run.plan (Began 0) rests.core) is_begun v run.v0 run.t0
+  began d v rests = joint_kept (rules_of run.tester) run.plan no_entry rests.core (Began 0) no_entry is_begun v v run.v0 run.t0 run.is_first.accepted
       (may_begin_now run.tester run.plan run.is_first.count no_entry rests.core rests.rest refl) (record { vehicle = refl; records = refl }) rests.fits.joint
 
   module _ (j : Journal) (named : journal_label j ≡ label) where
@@ -94,9 +94,9 @@ module _ (run : Run) where
         → OnOk r (HasOneMore j j2 (Begun 0) × IsKeptOn j2 (disk_now new))
         → IsResting run no_entry AtBegin (disk_now old) (vehicle_now old) → Keeps (SoundAt run) old new (OnOk r (IsResting run is_begun AtProgram (disk_now new) (vehicle_now new)))
     begin_keeps j2 old new r empty through stays has rests = stays_keeps (SoundAt run) (AddsAtMost (journal_label j) (has_entry j) (Begun 0)) (vehicle_now old) old new _ through
-        (adds_sound (journal_label j) (has_entry j) no_entry is_begun (Begun 0) (vehicle_now old) named empty.none (λ x. refl) rests.fits.joint.sound joint.sound) (ended r has)
+        (adds_sound (journal_label j) (has_entry j) no_entry is_begun (Begun 0) (vehicle_now old) named empty.none (λ x. refl) rests.fits.joint.records.sound joint.records.sound) (ended r has)
       where
-        joint : IsJoint (rules_of run.tester) run.plan (core_after (rules_of run.tester) run.plan (Began 0) rests.core) is_begun (vehicle_now old) run.v0 run.t0
+        joint : IsJoint (rules_of run.tester) run.plan no_entry (core_after (rules_of run.tester) run.plan (Began 0) rests.core) is_begun (vehicle_now old) run.v0 run.t0
         joint = began (disk_now old) (vehicle_now old) rests
 
         ended : (x : Result Unit Outcome) → OnOk x (HasOneMore j j2 (Begun 0) × IsKeptOn j2 (disk_now new)) → OnOk x (IsResting run is_begun AtProgram (disk_now new) (vehicle_now new))
@@ -105,17 +105,17 @@ module _ (run : Run) where
           rest = begun_rests run.tester run.plan run.is_first.count no_entry rests.core rests.rest;
           fits = record {
             covers = kept_covers j2 is_begun (disk_now new) (begun.0.label ∙ named) (begun_of j j2 empty begun.0) begun.1;
-            joint = subst (λ (w : Vehicle). IsJoint (rules_of run.tester) run.plan (core_after (rules_of run.tester) run.plan (Began 0) rests.core) is_begun w run.v0 run.t0) (sym stays) joint;
+            joint = subst (λ (w : Vehicle). IsJoint (rules_of run.tester) run.plan no_entry (core_after (rules_of run.tester) run.plan (Began 0) rests.core) is_begun w run.v0 run.t0) (sym stays) joint;
           };
         }
         ended (Err e) begun = tt
 
   -- that it is complete is recorded
   completed : (d : DiskState) (v : Vehicle) (rests : IsResting run is_begun AtDone d v) → IsSound run.plan (with_entry (Complete 0) is_begun) v run.v0
-  completed d v rests = (step_law (rules_of run.tester) run.plan rests.core (Completed 0) is_begun (with_entry (Complete 0) is_begun) v v run.v0 run.t0 run.is_first.accepted
-      (may_complete run.tester run.plan run.is_first.count is_begun rests.core rests.rest) (record { vehicle = refl; records = refl }) rests.fits.joint).sound
+  completed d v rests = (joint_kept (rules_of run.tester) run.plan no_entry rests.core (Completed 0) is_begun (with_entry (Complete 0) is_begun) v v run.v0 run.t0 run.is_first.accepted
+      (may_complete run.tester run.plan run.is_first.count is_begun rests.core rests.rest) (record { vehicle = refl; records = refl }) rests.fits.joint).records.sound
 
   pub complete_keeps : (j2 : Journal) (old new : History) → journal_label j2 ≡ label → ((x : Entry) → has_entry j2 x ≡ is_begun x) → HoldsOnDisk old new (AddsAtMost (journal_label j2) (has_entry j2) (Complete 0))
       → IsResting run is_begun AtDone (disk_now old) (vehicle_now old) → Keeps (SoundAt run) old new (Unit {0})
   complete_keeps j2 old new named begun through rests = stays_keeps (SoundAt run) (AddsAtMost (journal_label j2) (has_entry j2) (Complete 0)) (vehicle_now old) old new (Unit {0}) through
-      (adds_sound (journal_label j2) (has_entry j2) is_begun (with_entry (Complete 0) is_begun) (Complete 0) (vehicle_now old) named begun (λ x. refl) rests.fits.joint.sound (completed (disk_now old) (vehicle_now old) rests)) tt
+      (adds_sound (journal_label j2) (has_entry j2) is_begun (with_entry (Complete 0) is_begun) (Complete 0) (vehicle_now old) named begun (λ x. refl) rests.fits.joint.records.sound (completed (disk_now old) (vehicle_now old) rests)) tt

@@ -13,7 +13,7 @@ use Rattle.shop_model.specs.History.{History, LAST, Send, Redial, Sent, Redialed
 use Rattle.run_model.specs.Script.{Place, AtBegin, request_at, bytes_at, idents_from}
 use Rattle.run_model.specs.Sound.{IsSound}
 use Rattle.journal_steps.specs.Make.{no_entry}
-use Rattle.bay_core.proofs.OneStep.{core_law, step_law}
+use Rattle.bay_core.proofs.OneStep.{start_joint, joint_kept}
 use Rattle.bay_core.specs.Core.{Core, core_start, core_after}
 use Rattle.bay_core.specs.Joint.{IsJoint}
 use Rattle.flash_base.specs.Lists.{all_of}
@@ -60,19 +60,19 @@ module _ (run : Run) where
   -- the unit is taken up
   pub starts : (d : DiskState) (v : Vehicle) → run.t0 ≡ v.gateway.tick → Covers run no_entry d → IsSound run.plan no_entry v run.v0 → Fits run no_entry (taken_up run) d v
   starts d v tick covers sound =
-      let first : IsJoint (rules_of run.tester) run.plan (core_start run.plan no_entry) no_entry v run.v0 v.gateway.tick = core_law (rules_of run.tester) run.plan no_entry [] (record { vehicle = v; records = no_entry }) [] run.v0 run.is_first.accepted sound refl refl refl in
-      let joint = subst (λ (t : ℕ). IsJoint (rules_of run.tester) run.plan (core_start run.plan no_entry) no_entry v run.v0 t) (sym tick) first in
+      let first : IsJoint (rules_of run.tester) run.plan no_entry (core_start run.plan no_entry) no_entry v run.v0 v.gateway.tick = start_joint (rules_of run.tester) run.plan no_entry v run.v0 run.is_first.accepted sound in
+      let joint = subst (λ (t : ℕ). IsJoint (rules_of run.tester) run.plan no_entry (core_start run.plan no_entry) no_entry v run.v0 t) (sym tick) first in
       record {
         covers = covers;
-        joint = step_law (rules_of run.tester) run.plan (core_start run.plan no_entry) (Claimed 0) no_entry no_entry v v run.v0 run.t0 run.is_first.accepted may_take (record { vehicle = refl; records = refl }) joint;
+        joint = joint_kept (rules_of run.tester) run.plan no_entry (core_start run.plan no_entry) (Claimed 0) no_entry no_entry v v run.v0 run.t0 run.is_first.accepted may_take (record { vehicle = refl; records = refl }) joint;
       }
 
   -- the connection is asked for
   dial_moves : (done : Bool) (d d2 : DiskState) (v v2 : Vehicle) (r : Result Unit DeviceFault) → done ≡ is_ok r → d2 ≡ d → Redialed v v2 r → Fits run no_entry (taken_up run) d v → SoundAt run d2 v2 × (done ≡ true → Fits run no_entry dialed d2 v2)
   dial_moves done d d2 v v2 (Ok x) says same did fits =
-      let f = fits_on run no_entry (taken_up run) (Tended (Dialed false)) d d2 v v2 same refl (did.ok, refl) fits in (fits_sound run no_entry dialed d2 v2 f, λ is. f)
+      let f = fits_on run no_entry (taken_up run) (Tended (Dialed false)) d d2 v v2 same refl (record { vehicle = did.ok; records = refl }) fits in (fits_sound run no_entry dialed d2 v2 f, λ is. f)
   dial_moves done d d2 v v2 (Err e) says same did fits =
-      let f = fits_on run no_entry (taken_up run) (Tended (Dialed true)) d d2 v v2 same refl (did.err, refl) fits in
+      let f = fits_on run no_entry (taken_up run) (Tended (Dialed true)) d d2 v v2 same refl (record { vehicle = did.err; records = refl }) fits in
       (fits_sound run no_entry (core_after (rules_of run.tester) run.plan (Tended (Dialed true)) (taken_up run)) d2 v2 f, λ is. absurd (false≢true (sym says ∙ is)))
 
   pub dial_keeps : (old new : History) (done : Bool) → old.moment ≤ LAST → Dials old new done → Fits run no_entry (taken_up run) (disk_now old) (vehicle_now old) → Keeps (SoundAt run) old new (done ≡ true → Fits run no_entry dialed (disk_now new) (vehicle_now new))
@@ -84,9 +84,9 @@ module _ (run : Run) where
   ask_moves : (done : Bool) (d d2 : DiskState) (v v2 : Vehicle) (r : Result Unit DeviceFault) → done ≡ is_ok r → d2 ≡ d → Sent (activate_bytes run.tester) v v2 r → Fits run no_entry dialed d v
       → SoundAt run d2 v2 × (done ≡ true → Waits Activation run no_entry AtBegin [] 0 d2 v2)
   ask_moves done d d2 v v2 (Ok x) says same did fits =
-      let f = fits_on run no_entry dialed (Tended (Asked false)) d d2 v v2 same refl (did.ok, refl) fits in (fits_sound run no_entry asked d2 v2 f, λ is. record { core = asked; stands = asks_now; fits = f })
+      let f = fits_on run no_entry dialed (Tended (Asked false)) d d2 v v2 same refl (record { vehicle = did.ok; records = refl }) fits in (fits_sound run no_entry asked d2 v2 f, λ is. record { core = asked; stands = asks_now; fits = f })
   ask_moves done d d2 v v2 (Err e) says same did fits =
-      let f = fits_on run no_entry dialed (Tended (Asked true)) d d2 v v2 same refl (did.err, refl) fits in
+      let f = fits_on run no_entry dialed (Tended (Asked true)) d d2 v v2 same refl (record { vehicle = did.err; records = refl }) fits in
       (fits_sound run no_entry (core_after (rules_of run.tester) run.plan (Tended (Asked true)) dialed) d2 v2 f, λ is. absurd (false≢true (sym says ∙ is)))
 
   pub ask_keeps : (frame : List ℕ) (old new : History) (done : Bool) → old.moment ≤ LAST → Delivers frame old new done → frame ≡ activate_bytes run.tester → Fits run no_entry dialed (disk_now old) (vehicle_now old)
@@ -105,13 +105,13 @@ module _ (run : Run) where
     send_moves done d d2 v v2 (Ok x) says same did rests =
         let n = (rests.core.slots 0).talk.number in
         let fed = subst (λ (p : Place). Feeds (message_bytes run.tester (task_of run).address (bytes_at (task_of run) p)) v v2) (sym rests.rest.place_is) did.ok in
-        let f = fits_on run R rests.core (Was_sent 0 n false) d d2 v v2 same (may_send run.tester run.plan run.is_first.count R rests.core place rests.rest due false) (fed, refl) rests.fits in
+        let f = fits_on run R rests.core (Was_sent 0 n false) d d2 v v2 same (may_send run.tester run.plan run.is_first.count R rests.core place rests.rest due false) (record { vehicle = fed; records = refl }) rests.fits in
         let c2 = core_after (rules_of run.tester) run.plan (Was_sent 0 n false) rests.core in
         (fits_sound run R c2 d2 v2 f, λ is. record { core = c2; stands = sent_awaits run.tester run.plan run.is_first.count R rests.core place rests.rest; fits = f })
     send_moves done d d2 v v2 (Err e) says same did rests =
         let n = (rests.core.slots 0).talk.number in
         let fed = subst (λ (p : Place). FeedsPart (message_bytes run.tester (task_of run).address (bytes_at (task_of run) p)) v v2) (sym rests.rest.place_is) did.err in
-        let f = fits_on run R rests.core (Was_sent 0 n true) d d2 v v2 same (may_send run.tester run.plan run.is_first.count R rests.core place rests.rest due true) (fed, refl) rests.fits in
+        let f = fits_on run R rests.core (Was_sent 0 n true) d d2 v v2 same (may_send run.tester run.plan run.is_first.count R rests.core place rests.rest due true) (record { vehicle = fed; records = refl }) rests.fits in
         (fits_sound run R (core_after (rules_of run.tester) run.plan (Was_sent 0 n true) rests.core) d2 v2 f, λ is. absurd (false≢true (sym says ∙ is)))
 
     pub send_keeps : (frame : List ℕ) (old new : History) (done : Bool) → old.moment ≤ LAST → Delivers frame old new done → frame ≡ frame_at → IsResting run R place (disk_now old) (vehicle_now old)

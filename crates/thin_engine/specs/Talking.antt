@@ -60,7 +60,7 @@ Covers run R d = (image : List ℕ) → IsCrashImage d image → (e : Entry) →
 -- the core's account of the events, the disk and the vehicle fit together
 pub record Fits (run : Run) (R : Entry → Bool) (c : Core) (d : DiskState) (v : Vehicle) : Type 0 where
   pub covers : Covers run R d
-  pub joint : IsJoint (rules_of run.tester) run.plan c R v run.v0 run.t0
+  pub joint : IsJoint (rules_of run.tester) run.plan no_entry c R v run.v0 run.t0
 
 -- the unit is taken up, and nothing was sent yet
 abbrev pub taken_up : Run → Core

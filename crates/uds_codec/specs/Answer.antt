@@ -2,8 +2,8 @@
 use Rattle.std.specs.Prelude.{ℕ, ◌+◌, ◌/◌, Bool, ◌&&◌, ◌||◌, ◌==◌, nat_le, List, [], ◌∷◌, length, take, Option, Some, None, if◌then◌else◌}
 use Rattle.flash_base.specs.Numbers.{number2, number_of}
 use Rattle.uds_codec.specs.declared.request.Request.{Request}
-use Rattle.uds_codec.specs.declared.request.Request.TheVariants.{Session, Seed, Key, ReadId, Routine, Download, Transfer, Exit, Reset}
-use Rattle.uds_codec.specs.Request.{sid_of, request_of}
+use Rattle.uds_codec.specs.declared.request.Request.TheVariants.{Session, Seed, Key, ReadId, Routine, Download, Upload, Transfer, Pull, Exit, Reset, Setting, Messages}
+use Rattle.uds_codec.specs.Request.{sid_of, request_of, setting_code, messages_code}
 
 -- Later: a response pending. Again: busy. Good: a positive answer in the form, with what stands behind its beginning.
 pub data Verdict : Type 0 where
@@ -57,8 +57,12 @@ form_of (Seed level) rest = after_one rest level seed_form
 form_of (Key level key) rest = after_one rest (level + 1) Good
 form_of (Routine id option) rest = routine_form id rest
 form_of (Download width at size) rest = block_form rest
+form_of (Upload width at size) rest = block_form rest
 form_of (Transfer counter body) rest = after_one rest counter Good
+form_of (Pull counter) rest = after_one rest counter Good
 form_of Exit rest = Good rest
+form_of (Setting off) rest = after_one rest (setting_code off) Good
+form_of (Messages off) rest = after_one rest (messages_code off) Good
 
 abbrev pub form_in : Option Request → List ℕ → Verdict
 form_in None rest = Strange

@@ -1,10 +1,11 @@
 -- What bytes are read as, place by place.
-use Rattle.std.specs.Prelude.{ℕ, ◌+◌, ◌-◌, ◌*◌, ◌/◌, ◌%◌, ◌&&◌, ◌==◌, not, nat_lt, nat_le, List, [], ◌∷◌, length, take, drop, slice_index, Result, Ok, Err, if◌then◌else◌}
+use Rattle.std.specs.Prelude.{ℕ, ◌+◌, ◌-◌, ◌*◌, ◌/◌, ◌%◌, Bool, true, false, ◌&&◌, ◌==◌, not, nat_lt, nat_le, List, [], ◌∷◌, length, take, drop, slice_index, Result, Ok, Err, if◌then◌else◌}
 use Rattle.flash_base.specs.Numbers.{number_of}
+use Rattle.flash_base.specs.declared.unit.Width.{Width}
 use Rattle.uds_codec.specs.declared.request.Reply.{Reply}
 use Rattle.uds_codec.specs.declared.request.Reply.TheVariants.{Positive, Negative}
 use Rattle.uds_codec.specs.declared.request.Request.{Request}
-use Rattle.uds_codec.specs.declared.request.Request.TheVariants.{Session, Seed, Key, ReadId, Routine, Download, Transfer, Exit, Reset}
+use Rattle.uds_codec.specs.declared.request.Request.TheVariants.{Session, Seed, Key, ReadId, Routine, Download, Upload, Transfer, Pull, Exit, Reset, Setting, Messages}
 use Rattle.uds_codec.specs.declared.request.UdsFault.{UdsFault}
 use Rattle.uds_codec.specs.declared.request.UdsFault.TheVariants.{Short, UnknownSid, BadForm}
 use Rattle.uds_codec.specs.Request.{is_service}
@@ -57,35 +58,58 @@ routine_at s =
     else if nat_lt (length s) 4 then Err Short
     else Ok (Routine (two_at s 2) (drop 4 s))
 
-abbrev pub range_at : List ℕ → ℕ → ℕ → Result Request UdsFault
-range_at s size at =
+abbrev pub range_at : (Width → ℕ → ℕ → Request) → List ℕ → ℕ → ℕ → Result Request UdsFault
+range_at load s size at =
     if nat_lt (length s) (3 + at + size) then Err Short
     else if nat_lt (3 + at + size) (length s) then Err (BadForm (3 + at + size))
-    else Ok (Download (record { size = size; at = at }) (number_of (take at (drop 3 s))) (number_of (drop (3 + at) s)))
+    else Ok (load (record { size = size; at = at }) (number_of (take at (drop 3 s))) (number_of (drop (3 + at) s)))
 
-abbrev pub widths_at : List ℕ → ℕ → ℕ → Result Request UdsFault
-widths_at s size at =
+abbrev pub widths_at : (Width → ℕ → ℕ → Request) → List ℕ → ℕ → ℕ → Result Request UdsFault
+widths_at load s size at =
     if nat_lt size 1 then Err (BadForm 2)
     else if nat_lt 4 size then Err (BadForm 2)
     else if nat_lt at 1 then Err (BadForm 2)
-    else if nat_lt 4 at then Err (BadForm 2)
-    else range_at s size at
+    else if nat_lt 5 at then Err (BadForm 2)
+    else range_at load s size at
 
-abbrev pub download_at : List ℕ → Result Request UdsFault
-download_at s =
+abbrev pub load_at : (Width → ℕ → ℕ → Request) → List ℕ → Result Request UdsFault
+load_at load s =
     if nat_lt (length s) 2 then Err Short
     else if not (slice_index s 1 == 0) then Err (BadForm 1)
     else if nat_lt (length s) 3 then Err Short
-    else widths_at s (slice_index s 2 / 16) (slice_index s 2 % 16)
+    else widths_at load s (slice_index s 2 / 16) (slice_index s 2 % 16)
 
 abbrev pub transfer_at : List ℕ → Result Request UdsFault
 transfer_at s =
-    if nat_lt (length s) 3 then Err Short
+    if nat_lt (length s) 2 then Err Short
+    else if nat_lt (length s) 3 then Ok (Pull (slice_index s 1))
     else if nat_lt 65535 (length s) then Err (BadForm 65535)
     else Ok (Transfer (slice_index s 1) (drop 2 s))
 
 abbrev pub exit_at : List ℕ → Result Request UdsFault
 exit_at s = if nat_lt 1 (length s) then Err (BadForm 1) else Ok Exit
+
+abbrev pub setting_at : List ℕ → Result Request UdsFault
+setting_at s =
+    if nat_lt (length s) 2 then Err Short
+    else if nat_lt (slice_index s 1) 1 then Err (BadForm 1)
+    else if nat_lt 2 (slice_index s 1) then Err (BadForm 1)
+    else if nat_lt 2 (length s) then Err (BadForm 2)
+    else Ok (Setting (slice_index s 1 == 2))
+
+abbrev pub messages_with : List ℕ → Bool → Result Request UdsFault
+messages_with s off =
+    if nat_lt (length s) 3 then Err Short
+    else if not (slice_index s 2 == 1) then Err (BadForm 2)
+    else if nat_lt 3 (length s) then Err (BadForm 3)
+    else Ok (Messages off)
+
+abbrev pub messages_at : List ℕ → Result Request UdsFault
+messages_at s =
+    if nat_lt (length s) 2 then Err Short
+    else if slice_index s 1 == 0 then messages_with s false
+    else if slice_index s 1 == 3 then messages_with s true
+    else Err (BadForm 1)
 
 abbrev pub decoded_at : List ℕ → ℕ → Result Request UdsFault
 decoded_at s sid =
@@ -94,9 +118,12 @@ decoded_at s sid =
     else if sid == 34 then read_id_at s
     else if sid == 39 then security_at s
     else if sid == 49 then routine_at s
-    else if sid == 52 then download_at s
+    else if sid == 52 then load_at Download s
+    else if sid == 53 then load_at Upload s
     else if sid == 54 then transfer_at s
     else if sid == 55 then exit_at s
+    else if sid == 133 then setting_at s
+    else if sid == 40 then messages_at s
     else Err (UnknownSid sid)
 
 abbrev pub decoded : List ℕ → Result Request UdsFault

@@ -1,9 +1,9 @@
 -- Which bytes begin a request, and what refused bytes are.
-use Rattle.std.specs.Prelude.{◌≡◌, ℕ, ◌+◌, ◌/◌, ◌%◌, ◌<◌, ◌≤◌, Bool, true, false, ◌&&◌, ◌==◌, nat_le, List, [], ◌∷◌, length, take, Some, None, Result, Ok, Err, if◌then◌else◌}
+use Rattle.std.specs.Prelude.{◌≡◌, ℕ, ◌+◌, ◌/◌, ◌%◌, ◌<◌, ◌≤◌, Bool, true, false, ◌&&◌, ◌||◌, ◌==◌, nat_le, List, [], ◌∷◌, length, take, Some, None, Result, Ok, Err, if◌then◌else◌}
 use Rattle.uds_codec.specs.declared.request.Request.{Request}
 use Rattle.uds_codec.specs.declared.request.UdsFault.{UdsFault}
 use Rattle.uds_codec.specs.declared.request.UdsFault.TheVariants.{Short, UnknownSid, BadForm, NoMemory}
-use Rattle.uds_codec.specs.Request.{request_of, is_service, is_width}
+use Rattle.uds_codec.specs.Request.{request_of, is_service, is_size_width, is_at_width}
 
 -- the bytes behind a service's that begin one of its requests
 abbrev pub begins_one : (ℕ → Bool) → List ℕ → Bool
@@ -21,11 +21,16 @@ begins_routine (kind ∷ rest) = kind == 1
 
 abbrev pub begins_range : List ℕ → Bool
 begins_range [] = true
-begins_range (digits ∷ rest) = is_width (digits / 16) && is_width (digits % 16) && nat_le (length rest) (digits % 16 + digits / 16)
+begins_range (digits ∷ rest) = is_size_width (digits / 16) && is_at_width (digits % 16) && nat_le (length rest) (digits % 16 + digits / 16)
 
-abbrev pub begins_download : List ℕ → Bool
-begins_download [] = true
-begins_download (form ∷ rest) = form == 0 && begins_range rest
+-- a download or an upload
+abbrev pub begins_load : List ℕ → Bool
+begins_load [] = true
+begins_load (form ∷ rest) = form == 0 && begins_range rest
+
+abbrev pub begins_messages : List ℕ → Bool
+begins_messages [] = true
+begins_messages (code ∷ rest) = (code == 0 || code == 3) && begins_one (λ kind. kind == 1) rest
 
 abbrev pub begins_transfer : List ℕ → Bool
 begins_transfer [] = true
@@ -40,9 +45,12 @@ begins (sid ∷ rest) =
     else if sid == 34 then nat_le (length rest) 2
     else if sid == 39 then begins_security rest
     else if sid == 49 then begins_routine rest
-    else if sid == 52 then begins_download rest
+    else if sid == 52 then begins_load rest
+    else if sid == 53 then begins_load rest
     else if sid == 54 then begins_transfer rest
     else if sid == 55 then length rest == 0
+    else if sid == 133 then begins_one (λ code. code == 1 || code == 2) rest
+    else if sid == 40 then begins_messages rest
     else false
 
 -- the first place up to which, with it, the bytes begin none

@@ -1,8 +1,9 @@
 -- Laws of the spellings.
-use Rattle.std.specs.Prelude.{◌≡◌, ℕ, ◌+◌, ◌*◌, true, List, [], ◌∷◌, ◌++◌, length, Some}
+use Rattle.std.specs.Prelude.{◌≡◌, ℕ, ◌+◌, ◌*◌, true, false, List, [], ◌∷◌, ◌++◌, length, Some}
 use Rattle.flash_base.specs.Numbers.{number2, number_of}
+use Rattle.flash_base.specs.declared.unit.Width.{Width}
 use Rattle.uds_codec.specs.declared.request.Request.{Request}
-use Rattle.uds_codec.specs.declared.request.Request.TheVariants.{Session, Seed, Key, ReadId, Routine, Download, Transfer, Exit, Reset}
+use Rattle.uds_codec.specs.declared.request.Request.TheVariants.{Session, Seed, Key, ReadId, Routine, Download, Upload, Transfer, Pull, Exit, Reset, Setting, Messages}
 use Rattle.uds_codec.specs.Form.{IsLevel, IsWidth, HasLength, HasForm, AreBytes, Fits}
 use Rattle.uds_codec.specs.Grammar.{begins}
 use Rattle.uds_codec.specs.Request.{spelled, request_of}
@@ -18,6 +19,11 @@ pub record AreNumbers (size_width at_width at size : ℕ) (address amount : List
   pub address_number : number_of address ≡ at
   pub amount_number : number_of amount ≡ size
 
+-- an address and a size behind their digits, for the service
+abbrev pub SpellsLoad : ℕ → Width → ℕ → ℕ → List ℕ → Type 0
+SpellsLoad sid width at size bytes = (address : List ℕ) × (amount : List ℕ)
+    × (bytes ≡ sid ∷ 0 ∷ (width.size * 16 + width.at) ∷ (address ++ amount)) × AreNumbers width.size width.at at size address amount × IsWidth width
+
 -- The grammar: the bytes spell the request, by its rows.
 abbrev pub Spells : Request → List ℕ → Type 0
 Spells (Session kind) bytes = (bytes ≡ 16 ∷ kind ∷ []) × HasForm (Session kind)
@@ -26,10 +32,15 @@ Spells (ReadId did) bytes = (hi : ℕ) × (lo : ℕ) × (bytes ≡ 34 ∷ hi ∷
 Spells (Seed level) bytes = (bytes ≡ 39 ∷ level ∷ []) × IsLevel level
 Spells (Key level key) bytes = (bytes ≡ 39 ∷ (level + 1) ∷ key) × IsLevel level × HasLength 1 32 key
 Spells (Routine id option) bytes = (hi : ℕ) × (lo : ℕ) × (bytes ≡ 49 ∷ 1 ∷ hi ∷ lo ∷ option) × IsPair hi lo id
-Spells (Download width at size) bytes = (address : List ℕ) × (amount : List ℕ)
-    × (bytes ≡ 52 ∷ 0 ∷ (width.size * 16 + width.at) ∷ (address ++ amount)) × AreNumbers width.size width.at at size address amount × IsWidth width
+Spells (Download width at size) bytes = SpellsLoad 52 width at size bytes
+Spells (Upload width at size) bytes = SpellsLoad 53 width at size bytes
 Spells (Transfer counter body) bytes = (bytes ≡ 54 ∷ counter ∷ body) × HasLength 1 65533 body
+Spells (Pull counter) bytes = bytes ≡ 54 ∷ counter ∷ []
 Spells Exit bytes = bytes ≡ 55 ∷ []
+Spells (Setting true) bytes = bytes ≡ 133 ∷ 2 ∷ []
+Spells (Setting false) bytes = bytes ≡ 133 ∷ 1 ∷ []
+Spells (Messages true) bytes = bytes ≡ 40 ∷ 3 ∷ 1 ∷ []
+Spells (Messages false) bytes = bytes ≡ 40 ∷ 0 ∷ 1 ∷ []
 
 -- what is written is read again
 abbrev pub IsReadAgain : Type 0

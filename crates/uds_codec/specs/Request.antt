@@ -1,13 +1,20 @@
 -- The requests and what bytes spell them (ISO 14229-1).
-use Rattle.std.specs.Prelude.{ℕ, ◌+◌, ◌-◌, ◌*◌, ◌/◌, ◌%◌, Bool, ◌&&◌, ◌||◌, ◌==◌, nat_lt, nat_le, List, [], ◌∷◌, ◌++◌, length, take, drop, Option, Some, None, if◌then◌else◌}
+use Rattle.std.specs.Prelude.{ℕ, ◌+◌, ◌-◌, ◌*◌, ◌/◌, ◌%◌, Bool, true, false, ◌&&◌, ◌||◌, ◌==◌, nat_lt, nat_le, List, [], ◌∷◌, ◌++◌, length, take, drop, Option, Some, None, if◌then◌else◌}
 use Rattle.flash_base.specs.Numbers.{number2, big_endian, number_of}
 use Rattle.flash_base.specs.declared.unit.Width.{Width}
 use Rattle.uds_codec.specs.declared.request.Request.{Request}
-use Rattle.uds_codec.specs.declared.request.Request.TheVariants.{Session, Seed, Key, ReadId, Routine, Download, Transfer, Exit, Reset}
+use Rattle.uds_codec.specs.declared.request.Request.TheVariants.{Session, Seed, Key, ReadId, Routine, Download, Upload, Transfer, Pull, Exit, Reset, Setting, Messages}
 
 -- an address and a size behind the digits of their widths
 abbrev pub range_bytes : Width → ℕ → ℕ → List ℕ
 range_bytes width at size = (width.size * 16 + width.at) ∷ (big_endian width.at at ++ big_endian width.size size)
+
+-- the setting of trouble codes: 1 on, 2 off; normal messages: 0 on, 3 off
+abbrev pub setting_code : Bool → ℕ
+setting_code off = if off then 2 else 1
+
+abbrev pub messages_code : Bool → ℕ
+messages_code off = if off then 3 else 0
 
 -- the bytes of a request
 abbrev pub spelled : Request → List ℕ
@@ -18,8 +25,12 @@ spelled (Seed level) = 39 ∷ level ∷ []
 spelled (Key level key) = 39 ∷ (level + 1) ∷ key
 spelled (Routine id option) = 49 ∷ 1 ∷ (big_endian 2 id ++ option)
 spelled (Download width at size) = 52 ∷ 0 ∷ range_bytes width at size
+spelled (Upload width at size) = 53 ∷ 0 ∷ range_bytes width at size
 spelled (Transfer counter body) = 54 ∷ counter ∷ body
+spelled (Pull counter) = 54 ∷ counter ∷ []
 spelled Exit = 55 ∷ []
+spelled (Setting off) = 133 ∷ setting_code off ∷ []
+spelled (Messages off) = 40 ∷ messages_code off ∷ 1 ∷ []
 
 abbrev pub one_byte : List ℕ → (ℕ → Option Request) → Option Request
 one_byte (x ∷ []) f = f x
@@ -49,35 +60,52 @@ pub record Range : Type 0 where
   pub size : ℕ
   pub more : List ℕ
 
-abbrev pub is_width : ℕ → Bool
-is_width n = nat_le 1 n && nat_le n 4
+-- so many bytes for a size, for an address
+abbrev pub is_size_width : ℕ → Bool
+is_size_width n = nat_le 1 n && nat_le n 4
+
+abbrev pub is_at_width : ℕ → Bool
+is_at_width n = nat_le 1 n && nat_le n 5
 
 abbrev pub range_with : ℕ → ℕ → List ℕ → Option Range
 range_with s a rest =
-    if is_width s && is_width a && nat_le (a + s) (length rest) then
+    if is_size_width s && is_at_width a && nat_le (a + s) (length rest) then
     Some (record { width = record { size = s; at = a }; at = number_of (take a rest); size = number_of (take s (drop a rest)); more = drop s (drop a rest) })
     else None
 
--- the range at the beginning of bytes: of a download's, or of a routine's option
+-- the range at the beginning of bytes: of a download's or an upload's, or of a routine's option
 abbrev pub range_of : List ℕ → Option Range
 range_of [] = None
 range_of (digits ∷ rest) = range_with (digits / 16) (digits % 16) rest
 
-abbrev pub download_in : Option Range → Option Request
-download_in None = None
-download_in (Some r) = if length r.more == 0 then Some (Download r.width r.at r.size) else None
+-- nothing stands behind the range
+abbrev pub load_in : (Width → ℕ → ℕ → Request) → Option Range → Option Request
+load_in load None = None
+load_in load (Some r) = if length r.more == 0 then Some (load r.width r.at r.size) else None
 
-abbrev pub download_of : List ℕ → Option Request
-download_of [] = None
-download_of (form ∷ rest) = if form == 0 then download_in (range_of rest) else None
+-- a download or an upload of plain data
+abbrev pub load_of : (Width → ℕ → ℕ → Request) → List ℕ → Option Request
+load_of load [] = None
+load_of load (form ∷ rest) = if form == 0 then load_in load (range_of rest) else None
 
+-- a counter alone asks for a block; with data it sends one
 abbrev pub transfer_of : List ℕ → Option Request
 transfer_of [] = None
-transfer_of (counter ∷ body) = if nat_le 1 (length body) && nat_le (length body) 65533 then Some (Transfer counter body) else None
+transfer_of (counter ∷ []) = Some (Pull counter)
+transfer_of (counter ∷ x ∷ body) = if nat_le (length body) 65532 then Some (Transfer counter (x ∷ body)) else None
 
 abbrev pub exit_of : List ℕ → Option Request
 exit_of [] = Some Exit
 exit_of (x ∷ xs) = None
+
+abbrev pub setting_of : List ℕ → Option Request
+setting_of (code ∷ []) = if code == 1 then Some (Setting false) else if code == 2 then Some (Setting true) else None
+setting_of xs = None
+
+abbrev pub messages_of : List ℕ → Option Request
+messages_of (code ∷ kind ∷ []) =
+    if kind == 1 && code == 0 then Some (Messages false) else if kind == 1 && code == 3 then Some (Messages true) else None
+messages_of xs = None
 
 -- the request that bytes spell
 abbrev pub request_of : List ℕ → Option Request
@@ -88,14 +116,17 @@ request_of (sid ∷ rest) =
     else if sid == 34 then read_id_of rest
     else if sid == 39 then security_of rest
     else if sid == 49 then routine_of rest
-    else if sid == 52 then download_of rest
+    else if sid == 52 then load_of Download rest
+    else if sid == 53 then load_of Upload rest
     else if sid == 54 then transfer_of rest
     else if sid == 55 then exit_of rest
+    else if sid == 133 then setting_of rest
+    else if sid == 40 then messages_of rest
     else None
 
 -- the services of the table
 abbrev pub is_service : ℕ → Bool
-is_service sid = sid == 16 || sid == 17 || sid == 34 || sid == 39 || sid == 49 || sid == 52 || sid == 54 || sid == 55
+is_service sid = sid == 16 || sid == 17 || sid == 34 || sid == 39 || sid == 40 || sid == 49 || sid == 52 || sid == 53 || sid == 54 || sid == 55 || sid == 133
 
 abbrev pub sid_of : List ℕ → ℕ
 sid_of [] = 0

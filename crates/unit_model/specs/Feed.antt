@@ -23,31 +23,44 @@ enqueue g due frame = if nat_le due g.tick then record g { ready = g.ready ++ fr
 abbrev pub tester_of : Gateway → ℕ
 tester_of g = unwrap_or g.active 0
 
--- a reply of a unit to a service
+-- a reply of a unit that is due at a tick
 pub record Word : Type 0 where
   pub unit : ℕ
-  pub sid : ℕ
-  pub reply : UnitReply
-
-abbrev pub queue_word : Gateway → ℕ → ℕ → Due → List ℕ → Gateway
-queue_word g unit sid (At due) body = enqueue g due (message_bytes unit (tester_of g) body)
-queue_word g unit sid (Held every watch service) body = record g {
-  held = g.held ++ (record { unit = unit; sid = sid; body = body; every = every; watch = watch; service = service; from = g.tick; pending = 0 } ∷ []);
-}
+  pub due : ℕ
+  pub body : List ℕ
 
 abbrev pub queue_words : Gateway → List Word → Gateway
 queue_words g [] = g
-queue_words g (w ∷ ws) = queue_words (queue_word g w.unit w.sid w.reply.due w.reply.body) ws
+queue_words g (w ∷ ws) = queue_words (enqueue g w.due (message_bytes w.unit (tester_of g) w.body)) ws
+
+-- of the replies of a unit to a service, those that are due at a tick
+abbrev pub due_word : ℕ → Due → List ℕ → List Word
+due_word unit (At due) body = record { unit = unit; due = due; body = body } ∷ []
+due_word unit (Held every watch service) body = []
+
+abbrev pub due_words : ℕ → List UnitReply → List Word
+due_words unit [] = []
+due_words unit (r ∷ rs) = due_word unit r.due r.body ++ due_words unit rs
+
+-- and those that are held, from this tick on
+abbrev pub held_answer : ℕ → ℕ → ℕ → Due → List ℕ → List HeldAnswer
+held_answer tick unit sid (At due) body = []
+held_answer tick unit sid (Held every watch service) body =
+    record { unit = unit; sid = sid; body = body; every = every; watch = watch; service = service; from = tick; pending = 0 } ∷ []
+
+abbrev pub held_answers : ℕ → ℕ → ℕ → List UnitReply → List HeldAnswer
+held_answers tick unit sid [] = []
+held_answers tick unit sid (r ∷ rs) = held_answer tick unit sid r.due r.body ++ held_answers tick unit sid rs
 
 abbrev pub waits_for : ℕ → ℕ → HeldAnswer → Bool
 waits_for target sid h = h.watch == target && h.service == sid
 
--- the held answers that this request lets go
+-- the held answers that this request lets go, due at once
 abbrev pub released : ℕ → ℕ → ℕ → List HeldAnswer → List Word
-released tick target sid held = map (λ h. record { unit = h.unit; sid = h.sid; reply = record { due = At tick; body = h.body } }) (filter (waits_for target sid) held)
+released tick target sid held = map (λ h. record { unit = h.unit; due = tick; body = h.body }) (filter (waits_for target sid) held)
 
-abbrev pub words_of : ℕ → ℕ → List UnitReply → List Word
-words_of unit sid replies = map (λ r. record { unit = unit; sid = sid; reply = r }) replies
+abbrev pub still_held : ℕ → ℕ → List HeldAnswer → List HeldAnswer
+still_held target sid held = filter (λ h. not (waits_for target sid h)) held
 
 abbrev pub say : Vehicle → List ℕ → Vehicle
 say v frame = record v { gateway = record v.gateway { ready = v.gateway.ready ++ frame } }
@@ -58,16 +71,17 @@ pub record Nacks (source target : ℕ) (u : ControlUnit) (old new : Vehicle) (ou
   pub none : out ≡ []
   pub becomes : new ≡ record (say old (nack_bytes target source code)) { units = with_unit old.units target (record u { counts = record u.counts { nacked = raise_code code u.counts.nacked } }) }
 
--- the unit hears the body
+-- The unit hears the body. What it lets go comes before its own replies; a reply that it holds is held from here on, so that a
+-- later frame may let it go.
 pub record Hears (source target : ℕ) (body : List ℕ) (u : ControlUnit) (old new : Vehicle) (out : List Word) : Type 0 where
   pub replies : List UnitReply
   pub after : ControlUnit
   pub step : UnitStep u body old.gateway.tick replies after
-  pub lets_out : out ≡ released old.gateway.tick target (sid_of body) old.gateway.held ++ words_of target (sid_of body) replies
+  pub lets_out : out ≡ released old.gateway.tick target (sid_of body) old.gateway.held ++ due_words target replies
   pub becomes : new ≡ record {
     gateway = record old.gateway {
       ready = old.gateway.ready ++ ack_bytes target source;
-      held = filter (λ h. not (waits_for target (sid_of body) h)) old.gateway.held;
+      held = still_held target (sid_of body) old.gateway.held ++ held_answers old.gateway.tick target (sid_of body) replies;
     };
     units = with_unit old.units target after;
   }
@@ -134,7 +148,7 @@ Handles (Ack source target code before) old new out = Nothing old new out
 Handles (Nack source target code before) old new out = Nothing old new out
 Handles (Other kind payload) old new out = Nothing old new out
 
--- what the first frame does, and then what the rest does; the units' replies are gathered
+-- what the first frame does, and then what the rest does; the units' replies are gathered in the order in which they came to be
 abbrev pub AfterCut : Cut → (List ℕ → Vehicle → Vehicle → List Word → Type 0) → List ℕ → Vehicle → Vehicle → List Word → Type 0
 AfterCut Partial Rest bytes old new out = (new ≡ record old { gateway = record old.gateway { unfinished = bytes } }) × (out ≡ [])
 AfterCut (Wrong bad) Rest bytes old new out = (new ≡ say (record old { gateway = record old.gateway { deaf = true; unfinished = [] } }) (header_nack_bytes (nack_code bad))) × (out ≡ [])
@@ -145,6 +159,7 @@ abbrev pub FeedsAll : ℕ → List ℕ → Vehicle → Vehicle → List Word →
 FeedsAll zero bytes old new out = (new ≡ old) × (out ≡ [])
 FeedsAll (suc n) bytes old new out = AfterCut (cut_frame bytes) (FeedsAll n) bytes old new out
 
+-- the replies are queued behind the gateway's own answers
 pub record FeedsHearing (bytes : List ℕ) (old new : Vehicle) : Type 0 where
   pub mid : Vehicle
   pub out : List Word

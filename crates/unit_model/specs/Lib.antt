@@ -4,6 +4,7 @@ pub mod Poll
 pub mod RegionMaps
 pub mod Regions
 pub mod RegionTests
+pub mod Rows
 pub mod Running
 pub mod Step
 pub mod Unit

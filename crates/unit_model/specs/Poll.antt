@@ -1,6 +1,6 @@
 -- What a receive carries, and what a tick does. A tick is a receive at which no byte was due; there is no other clock.
 use Rattle.std.specs.Prelude.{◌≡◌, ◌⊎◌, ℕ, ◌+◌, ◌-◌, ◌%◌, Bool, false, not, ◌&&◌, ◌||◌, ◌==◌, nat_le, List, [], ◌∷◌, ◌++◌, map, filter, None, is_some, if◌then◌else◌, IsTrue}
-use Rattle.flash_base.specs.Lists.{BeginsWith}
+use Rattle.flash_base.specs.Lists.{BeginsWith, IsSomeOf}
 use Rattle.doip_frame.specs.Frame.{stream_of, message_bytes, alive_ask_bytes}
 use Rattle.unit_model.specs.Unit.{ControlUnit}
 use Rattle.unit_model.specs.Step.{raise_if, pending_bytes}
@@ -77,6 +77,7 @@ pub record IsShown (piece : List ℕ) (old new : Vehicle) : Type 0 where
   pub carries : Carries piece old new
   pub how : IsPlain piece old new ⊎ IsSeen piece old new
 
--- a receive that failed: due bytes may be gone
+-- a receive that failed: due bytes may be gone, and what stays is some of them in their order
 pub record Misses (old new : Vehicle) : Type 0 where
   pub becomes : new ≡ record old { gateway = record old.gateway { ready = new.gateway.ready } }
+  pub some : IsSomeOf new.gateway.ready old.gateway.ready

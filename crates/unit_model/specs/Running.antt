@@ -14,7 +14,7 @@ calm = record { refused = λ code. 0; odd = 0; failed = 0; muted = 0; late = 0; 
 
 abbrev pub open_of : Option Transfer → Option OpenTransfer
 open_of None = None
-open_of (Some t) = Some (record { at = t.at; rest = t.rest; counter = t.counter; taken = t.taken })
+open_of (Some t) = Some (record { up = t.up; at = t.at; rest = t.rest; counter = t.counter; last = t.last })
 
 -- the control unit that a running unit is; one that obeys has no trouble
 abbrev pub control_unit : RunningUnit → ControlUnit
@@ -29,6 +29,9 @@ control_unit u = record {
   checked = u.checked.items;
   passed = u.passed;
   heard = u.heard;
+  dtc_off = u.dtc_off;
+  messages_off = u.messages_off;
+  woken = u.woken;
   idents = u.idents;
   key = u.key;
   block = u.block;
@@ -55,6 +58,9 @@ unit_of spec = record {
   checked = spec.checked;
   passed = spec.passed;
   heard = spec.heard;
+  dtc_off = spec.dtc_off;
+  messages_off = spec.messages_off;
+  woken = 0;
   idents = spec.idents;
   key = spec.key;
   block = spec.block;

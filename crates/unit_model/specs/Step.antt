@@ -3,7 +3,7 @@ use Rattle.std.specs.Prelude.{◌≡◌, ◌⊎◌, ℕ, ◌+◌, ◌≤◌, Boo
 use Rattle.flash_base.specs.ByteMaps.{byte_at, SameOutside}
 use Rattle.flash_base.specs.Lists.{Each}
 use Rattle.uds_codec.specs.declared.request.Request.{Request}
-use Rattle.uds_codec.specs.declared.request.Request.TheVariants.{Session, Reset, ReadId, Seed, Key, Routine, Download, Transfer, Exit}
+use Rattle.uds_codec.specs.declared.request.Request.TheVariants.{Session, Reset, ReadId, Seed, Key, Routine, Download, Upload, Transfer, Pull, Exit, Setting, Messages}
 use Rattle.uds_codec.specs.Request.{Range, range_of, request_of, sid_of}
 use Rattle.uds_codec.specs.Answer.{Verdict, Later, Again, Refusal, Good, Bad_status, Strange, judge}
 use Rattle.unit_model.specs.declared.reply.Due.TheVariants.{At, Held}
@@ -40,22 +40,18 @@ raise_if c n = if c then one_more n else n
 abbrev pub timed : Bool → Bool → ControlUnit → ControlUnit
 timed late stalled u = record u { counts = record u.counts { late = raise_if late u.counts.late; stalled = raise_if stalled u.counts.stalled } }
 
--- the replies: responses pending at these ticks, and behind them the answer, if there is one
-pub record Comes (tick : ℕ) (sid : ℕ) (ticks : List ℕ) (said : List ℕ) (due : ℕ) (replies : List UnitReply) : Type 0 where
-  pub ascending : IsTrue (ascends tick (ticks ++ (due ∷ [])))
-  pub gives : replies ≡ pendings sid ticks ++ (reply_at due said ∷ [])
-
--- the range that the obedient step writes, and whether it is an erase
+-- a range that a departure may leave with any bytes, and whether it is an erase's
 pub record Spoil : Type 0 where
   pub at : ℕ
   pub size : ℕ
   pub erase : Bool
 
+-- an erase's, in any state of the unit and whatever its answer would have been; an option that is not in form has none
 abbrev pub erase_range : Option Range → Option Spoil
 erase_range None = None
-erase_range (Some r) = Some (record { at = r.at; size = r.size; erase = true })
+erase_range (Some r) = if r.size == 0 || not (length r.more == 0) then None else Some (record { at = r.at; size = r.size; erase = true })
 
--- a block that is said again writes nothing
+-- a block's, where the obedient step would have written it; one that is said again writes nothing
 abbrev pub block_range : Option OpenTransfer → ℕ → ℕ → Option Spoil
 block_range None counter n = None
 block_range (Some t) counter n = if counter == t.counter then Some (record { at = t.at; size = n; erase = false }) else None
@@ -65,7 +61,7 @@ is_accepted [] = false
 is_accepted (x ∷ xs) = not (x == 127)
 
 abbrev pub spoil_of : ControlUnit → Request → Option Spoil
-spoil_of u (Routine id option) = if id == 65280 && is_accepted (obey u (Routine id option)).1 then erase_range (range_of option) else None
+spoil_of u (Routine id option) = if id == 65280 then erase_range (range_of option) else None
 spoil_of u (Transfer counter body) = if is_accepted (obey u (Transfer counter body)).1 then block_range u.transfer counter (length body) else None
 spoil_of u (Session kind) = None
 spoil_of u Reset = None
@@ -73,19 +69,23 @@ spoil_of u (ReadId did) = None
 spoil_of u (Seed level) = None
 spoil_of u (Key level key) = None
 spoil_of u (Download width at size) = None
+spoil_of u (Upload width at size) = None
+spoil_of u (Pull counter) = None
 spoil_of u Exit = None
+spoil_of u (Setting off) = None
+spoil_of u (Messages off) = None
 
 abbrev pub spoil_in : ControlUnit → Option Request → Option Spoil
 spoil_in u None = None
 spoil_in u (Some r) = spoil_of u r
 
--- the range is spoiled: any bytes in it, and nothing else but what follows from it
+-- the range is spoiled: any bytes at those of its addresses that the unit has, and nothing else but what follows from it
 pub record Spoiled (s : Spoil) (old new : ControlUnit) : Type 0 where
   pub memory : SameOutside s.at s.size old.memory new.memory
   pub domain : (a : ℕ) → is_some (byte_at new.memory a) ≡ is_some (byte_at old.memory a)
   pub rest : new ≡ record old { memory = new.memory; checked = apart s.at s.size old.checked; passed = false; transfer = if s.erase then None else old.transfer }
 
--- what a departure leaves: the old state, or, where the obedient step would have written a range, that range spoiled
+-- what a departure leaves: the old state, or, of an erase or of a block that would have been written, its range spoiled
 abbrev pub Leaves : ControlUnit → List ℕ → ControlUnit → Type 0
 Leaves old bytes mid = (mid ≡ old) ⊎ ((s : Spoil) × (spoil_in old (request_of bytes) ≡ Some s) × Spoiled s old mid)
 

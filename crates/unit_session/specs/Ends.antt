@@ -7,7 +7,7 @@ use Rattle.flash_plan.specs.declared.unit.Wanted.{Wanted}
 use Rattle.run_model.specs.Places.{is_ended}
 use Rattle.run_model.specs.Script.{AtIdent, AtEnd, bytes_at, has_value, routine_at}
 use Rattle.run_model.specs.Talk.{Talk, talk_hears, talk_quiet, sid_at}
-use Rattle.run_model.specs.Ways.{Spoken, Reply, Unheard}
+use Rattle.run_model.specs.Ways.{Reply, Unheard}
 use Rattle.uds_codec.specs.Answer.{Good, Bad_status, Strange, judge}
 
 -- the answer of an identifier that was expected, with a value that was not

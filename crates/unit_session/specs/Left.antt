@@ -1,8 +1,8 @@
--- How many requests an attempt has still to make, at most.
+-- How many requests an attempt has still to make, at most: none is left out.
 use Rattle.std.specs.Prelude.{ℕ, ◌+◌, List, [], ◌∷◌, length}
 use Rattle.flash_plan.specs.declared.unit.Segment.{Segment}
 use Rattle.flash_plan.specs.declared.unit.UnitPlan.{UnitPlan}
-use Rattle.run_model.specs.Script.{Place, AtIdent, AtBegin, AtProgram, AtSeed, AtKey, AtErase, AtDownload, AtBlock, AtExit, AtCheck, AtFinish, AtReset, AtDone, AtEnd}
+use Rattle.run_model.specs.Script.{Place, AtIdent, AtBegin, AtProgram, AtSeed, AtKey, AtErase, AtDownload, AtBlock, AtExit, AtCheck, AtMark, AtFinish, AtReset, AtDone, AtEnd}
 
 -- for each segment an erase, a download, a block for each byte, an exit and a check; then the whole check and the reset
 abbrev pub left_for : List Segment → ℕ
@@ -20,6 +20,7 @@ requests_left u (AtDownload c) = length c.now.body + 3 + left_for c.left
 requests_left u (AtBlock c b) = length b.rest + 2 + left_for c.left
 requests_left u (AtExit c) = 2 + left_for c.left
 requests_left u (AtCheck c) = 1 + left_for c.left
+requests_left u (AtMark c) = left_for c.left
 requests_left u AtFinish = 2
 requests_left u AtReset = 1
 requests_left u AtDone = 0

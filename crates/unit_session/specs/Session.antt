@@ -1,29 +1,23 @@
 -- A session's numbers as a conversation of its unit.
-use Rattle.std.specs.Prelude.{◌≡◌, ℕ, ◌+◌, ◌<◌, ◌≤◌, Bool, true, false, List, [], length, take, drop, slice_index_or, Option, Some, None}
-use Rattle.flash_plan.specs.declared.unit.Segment.{Segment}
+use Rattle.std.specs.Prelude.{◌≡◌, ℕ, ◌+◌, ◌/◌, ◌%◌, ◌^◌, ◌==◌, ◌<◌, ◌≤◌, Bool, true, false, List, length, take, drop, slice_index, Option, Some, None}
 use Rattle.flash_plan.specs.declared.unit.UnitPlan.{UnitPlan}
-use Rattle.flash_plan.specs.Plan.{no_plan}
+use Rattle.flash_plan.specs.Plan.{no_plan, segment_of}
 use Rattle.run_model.specs.Places.{needs_request}
 use Rattle.run_model.specs.Script as script
-use Rattle.run_model.specs.Script.{Cursor, Place, AtProgram, AtSeed, AtKey, AtErase, AtDownload, AtBlock, AtExit, AtCheck, AtFinish, AtReset, AtDone, AtEnd, idents_from, ask_at}
+use Rattle.run_model.specs.Script.{Cursor, Place, AtProgram, AtSeed, AtKey, AtErase, AtDownload, AtBlock, AtExit, AtCheck, AtMark, AtFinish, AtReset, AtDone, AtEnd, idents_from, ask_at}
 use Rattle.run_model.specs.Talk.{Talk}
 use Rattle.uds_codec.specs.Key.{level_of}
 use Rattle.unit_session.specs.Left.{requests_left}
 use Rattle.unit_session.specs.declared.session.Ask.{Ask}
 use Rattle.unit_session.specs.declared.session.Ask.TheVariants as ask
+use Rattle.unit_session.specs.declared.marks.Marks.{Marks}
 use Rattle.unit_session.specs.declared.session.UnitSession.{UnitSession}
 use Rattle.unit_session.specs.declared.stage.KeptSeed.{KeptSeed}
 use Rattle.unit_session.specs.declared.stage.Stage.{Stage}
-use Rattle.unit_session.specs.declared.stage.Stage.TheVariants.{Ident, Program, Seed, Key, Erase, Download, Block, Exit, Check, Finish, Reset, Done, Ended}
+use Rattle.unit_session.specs.declared.stage.Stage.TheVariants.{Ident, Program, Seed, Key, Erase, Download, Block, Exit, Check, Mark, Finish, Reset, Done, Ended}
 
 abbrev pub seed_bytes : KeptSeed → List ℕ
 seed_bytes s = take s.size s.bytes
-
-abbrev pub no_segment : Segment
-no_segment = record { at = 0; body = [] }
-
-abbrev pub segment_of : UnitPlan → ℕ → Segment
-segment_of u n = slice_index_or u.segments n no_segment
 
 abbrev pub cursor_at : UnitPlan → ℕ → Cursor
 cursor_at u n = record { done = take n u.segments; now = segment_of u n; left = drop (n + 1) u.segments }
@@ -43,6 +37,7 @@ place_at u (Download n) = AtDownload (cursor_at u n)
 place_at u (Block n sent counter limit) = AtBlock (cursor_at u n) (record { sent = take sent (segment_of u n).body; rest = drop sent (segment_of u n).body; counter = counter; limit = limit })
 place_at u (Exit n) = AtExit (cursor_at u n)
 place_at u (Check n) = AtCheck (cursor_at u n)
+place_at u (Mark n) = AtMark (cursor_at u n)
 place_at u Finish = AtFinish
 place_at u Reset = AtReset
 place_at u Done = AtDone
@@ -72,14 +67,19 @@ IsStage u (Download n) = n < length u.segments
 IsStage u (Block n sent counter limit) = IsBlockStage u n sent limit
 IsStage u (Exit n) = n < length u.segments
 IsStage u (Check n) = n < length u.segments
+IsStage u (Mark n) = n < length u.segments
 IsStage u Finish = Unit {0}
 IsStage u Reset = Unit {0}
 IsStage u Done = Unit {0}
 IsStage u (Ended outcome) = Unit {0}
 
+-- the set that marks are
+abbrev pub has_mark : Marks → ℕ → Bool
+has_mark m n = slice_index m.bits (n / 64) / 2 ^ (n % 64) % 2 == 1
+
 -- the conversation that a session stands for
 abbrev pub talk_of : UnitPlan → UnitSession → Talk
-talk_of u s = record { place = place_at u s.stage; number = s.number; awaiting = s.awaiting; since = s.since; pendings = s.pendings; busies = s.busies }
+talk_of u s = record { place = place_at u s.stage; marks = has_mark s.marks; number = s.number; awaiting = s.awaiting; since = s.since; pendings = s.pendings; busies = s.busies }
 
 -- what of it does not lie in the unit's task
 abbrev pub talk_of_any : UnitSession → Talk
@@ -109,6 +109,7 @@ pub record IsOf (u : UnitPlan) (s : UnitSession) : Type 0 where
 abbrev pub asked : Bool → script.Ask → Ask
 asked true a = ask.Wait
 asked false script.Begin = ask.Begin
+asked false (script.Mark n) = ask.Mark n
 asked false (script.Send bytes) = ask.Send
 asked false script.Done = ask.Done
 asked false (script.Over outcome) = ask.Ended outcome

@@ -15,6 +15,8 @@ pub enum Ask {
     Send,
     /// An answer is awaited.
     Wait,
+    /// The segment with this number holds its bytes and was found equal; that it is marked is to be recorded.
+    Mark { segment: u16 },
     /// Each request was answered; that the unit is complete is to be recorded.
     Done,
     /// It ended with this outcome.
@@ -27,6 +29,7 @@ pub enum Ask {
 pub struct UnitSession {
     stage: Stage,
     begun: bool,
+    marks: Marks,
     awaiting: bool,
     number: u32,
     since: u64,
