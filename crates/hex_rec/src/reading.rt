@@ -4,12 +4,13 @@ ghost use Rattle.span_store.specs.ByteMap.{ByteMap};
 ghost use Rattle.hex_rec.specs.HexText.{IsHexText};
 ghost use Rattle.hex_rec.specs.Refusals.{IsRefused};
 ghost use Rattle.hex_rec.specs.Record.{is_kind};
-ghost use Rattle.hex_rec.specs.Reading.{put_line, applied, step, reading_of, with_map};
+ghost use Rattle.rec_text.specs.Putting.{Does};
+ghost use Rattle.hex_rec.specs.Reading.{put_line, applied, step, reading_of};
 ghost use Rattle.rec_text.specs.declared.fault.RecFault.{RecFault};
 
 use crate::base::Base;
 use crate::line::record;
-use rec_text::{RecFault, SPELLED, first_line, put_in};
+use rec_text::{Filling, RecFault, SPELLED, first_line, put_in};
 use span_store::Spans;
 use std::alloc::Global;
 
@@ -18,15 +19,15 @@ use std::alloc::Global;
 pub struct State {
     pub base: Base,
     pub ended: bool,
-    pub spans: Spans,
+    pub spans: Filling,
 }
 
 /// Puts the bytes of one line.
-fn put_data(spans: Spans, base: Base, offset: u64, bytes: &[u8]) -> Result<Spans, RecFault>
+fn put_data(spans: &mut Filling, base: Base, offset: u64, bytes: &[u8]) -> Result<(), RecFault>
     requires offset { offset < 2 ^ 16 }
     requires size { length bytes.now < 2 ^ 8 }
     requires base { IsBase base }
-    ensures { (result ≡ Err RecFault.NoMemory) ⊎ (result ≡ put_line spans base offset bytes.now) }
+    ensures { Does result spans.new (put_line spans.old base offset bytes.now) }
 {
     match base {
         Base::Linear(base) => {
@@ -38,54 +39,46 @@ fn put_data(spans: Spans, base: Base, offset: u64, bytes: &[u8]) -> Result<Spans
 }
 
 /// What one record does.
-fn apply(state: State, bytes: &[u8]) -> Result<State, RecFault>
+fn apply(state: &mut State, bytes: &[u8]) -> Result<(), RecFault>
     requires length { length bytes.now ≡ slice_index bytes.now 0 + 5 }
     requires kind { is_kind (slice_index bytes.now 3) (slice_index bytes.now 0) ≡ true }
-    requires base { IsBase state.base }
-    ensures applied { (result ≡ Err RecFault.NoMemory) ⊎ (result ≡ applied state bytes.now) }
-    ensures base { IfOk result (λ s. IsBase s.base) }
+    requires base { IsBase state.old.base }
+    ensures applied { Does result state.new (applied state.old bytes.now) }
+    ensures base { IsBase state.new.base }
 {
-    let State { base, ended, spans } = state;
     let count = bytes[0] as usize;
     match bytes[3] {
         0 => {
             let offset = u64::from(bytes[1]) * 256 + u64::from(bytes[2]);
-            let spans = put_data(spans, base, offset, &bytes[4..4 + count])?;
-            Ok(State { base, ended, spans })
+            put_data(&mut state.spans, state.base, offset, &bytes[4..4 + count])?;
         }
-        1 => Ok(State {
-            base,
-            ended: true,
-            spans,
-        }),
+        1 => state.ended = true,
         2 => {
             let value = u64::from(bytes[4]) * 256 + u64::from(bytes[5]);
-            Ok(State {
-                base: Base::Segment(value * 16),
-                ended,
-                spans,
-            })
+            state.base = Base::Segment(value * 16);
         }
         4 => {
             let value = u64::from(bytes[4]) * 256 + u64::from(bytes[5]);
-            Ok(State {
-                base: Base::Linear(value * 65536),
-                ended,
-                spans,
-            })
+            state.base = Base::Linear(value * 65536);
         }
-        _ => Ok(State { base, ended, spans }),
+        _ => {}
     }
+    Ok(())
 }
 
 /// What line n does.
-fn next(state: State, n: usize, line: &[u8], buffer: &mut [u8; SPELLED]) -> Result<State, RecFault>
-    requires base { IsBase state.base }
-    ensures step { (result ≡ Err RecFault.NoMemory) ⊎ (result ≡ step state n line.now) }
-    ensures base { IfOk result (λ s. IsBase s.base) }
+fn next(
+    state: &mut State,
+    n: usize,
+    line: &[u8],
+    buffer: &mut [u8; SPELLED],
+) -> Result<(), RecFault>
+    requires base { IsBase state.old.base }
+    ensures step { Does result state.new (step state.old n line.now) }
+    ensures base { IsBase state.new.base }
 {
     if line.is_empty() {
-        return Ok(state);
+        return Ok(());
     }
     if state.ended {
         return Err(RecFault::AfterEnd { n });
@@ -105,7 +98,7 @@ pub fn read(alloc: Global, text: &[u8]) -> Result<Spans, RecFault>
     let mut state = State {
         base: Base::Linear(0),
         ended: false,
-        spans: Spans::new(alloc),
+        spans: Filling::new(alloc),
     };
     let mut buffer = [0u8; SPELLED];
     let mut at = 0;
@@ -113,11 +106,11 @@ pub fn read(alloc: Global, text: &[u8]) -> Result<Spans, RecFault>
     while at < text.len() {
         let (line, size) = first_line(&text[at..]);
         n += 1;
-        state = next(state, n, line, &mut buffer)?;
+        next(&mut state, n, line, &mut buffer)?;
         at += size;
     }
     if state.ended {
-        Ok(state.spans)
+        state.spans.finish()
     } else {
         Err(RecFault::NoEnd)
     }

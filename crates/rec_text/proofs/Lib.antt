@@ -1,5 +1,7 @@
 pub mod Adds
 pub mod Ends
+pub mod Helds
+pub mod Wide
 pub mod Spelled
 pub mod Conflicts
 pub mod Cuts

@@ -1,14 +1,11 @@
 -- The bytes that digits spell.
-use Rattle.std.proofs.Common.{suc, ◌≡◌, ℕ, ◌+◌, ◌*◌, ◌<◌, List, [], ◌∷◌, ◌++◌, length, take, drop, set, get_or, Option, Some, None, refl, sym, ap, ◌∙◌, arith}
-use Rattle.std.proofs.lemmas.List.{append_assoc, drop_more, take_more_set}
+use Rattle.std.proofs.Common.{suc, ◌≡◌, ℕ, ◌+◌, ◌*◌, ◌<◌, ◌≤◌, List, [], ◌∷◌, ◌++◌, length, sum, take, drop, set, get_or, Option, Some, None, refl, sym, ap, ◌∙◌, arith}
+use Rattle.std.proofs.lemmas.List.{append_assoc, append-nil, drop_more, take_more_set}
 use Rattle.std.proofs.lemmas.Option.{none-some, same_Some}
 use Rattle.std.proofs.lemmas.Bool.Decides.{nat_tests}
 use Rattle.rec_text.specs.Digits.{digit_of, byte_of, with_byte, bytes_of}
-
--- bytes before others, if there are others
-abbrev pub behind : List ℕ → Option (List ℕ) → Option (List ℕ)
-behind front None = None
-behind front (Some bs) = Some (front ++ bs)
+use Rattle.rec_text.specs.Lanes.{behind, Spell, IsBlock}
+use Rattle.std.proofs.lemmas.List.Sums.{sum_by-append}
 
 pub behind_none : (o : Option (List ℕ)) → o ≡ behind [] o
 behind_none None = refl
@@ -31,6 +28,44 @@ spelled_more digits out k b h l is =
     ap (behind (take k out)) (digits_more digits k h ∙ ap (λ o. with_byte o (bytes_of (drop (2 * (k + 1)) digits))) (sym is))
     ∙ behind-with_byte (take k out) b (bytes_of (drop (2 * (k + 1)) digits))
     ∙ ap (λ f. behind f (bytes_of (drop (2 * (k + 1)) digits))) (sym (take_more_set out k b l))
+
+-- as many digits more as bytes
+pub spelled_many : (digits front bs : List ℕ) (k : ℕ) → 2 * k + 2 * length bs ≤ length digits → Spell digits (2 * k) bs
+    → behind front (bytes_of (drop (2 * k) digits)) ≡ behind (front ++ bs) (bytes_of (drop (2 * (k + length bs)) digits))
+spelled_many digits front [] k h s =
+    let z : 2 * k ≡ 2 * (k + 0) = omega arith in
+    ap (λ f. behind f (bytes_of (drop (2 * k) digits))) (sym (append-nil front)) ∙ ap (λ n. behind (front ++ []) (bytes_of (drop n digits))) z
+spelled_many digits front (b ∷ bs) k h s =
+    let x : 2 * k + 2 * 0 ≡ 2 * k = omega arith in
+    let y : 2 * k + (2 * 0 + 1) ≡ 2 * k + 1 = omega arith in
+    let z : 2 * (k + 1 + length bs) ≡ 2 * (k + suc (length bs)) = omega arith in
+    let first : Some b ≡ byte_of (digit_of (get_or digits (2 * k) 0)) (digit_of (get_or digits (2 * k + 1) 0))
+    = s 0 (omega arith) ∙ ap (λ n. byte_of (digit_of (get_or digits n 0)) (digit_of (get_or digits (2 * k + (2 * 0 + 1)) 0))) x ∙ ap (λ n. byte_of (digit_of (get_or digits (2 * k) 0)) (digit_of (get_or digits n 0))) y in
+    ap (behind front) (digits_more digits k (omega arith) ∙ ap (λ o. with_byte o (bytes_of (drop (2 * (k + 1)) digits))) (sym first))
+    ∙ behind-with_byte front b (bytes_of (drop (2 * (k + 1)) digits))
+    ∙ spelled_many digits (front ++ b ∷ []) bs (k + 1) (omega arith) (later digits b bs k s)
+    ∙ ap (λ f. behind f (bytes_of (drop (2 * (k + 1 + length bs)) digits))) (append_assoc front (b ∷ []) bs)
+    ∙ ap (λ n. behind (front ++ (b ∷ bs)) (bytes_of (drop n digits))) z
+  where
+    later : (digits : List ℕ) (b : ℕ) (bs : List ℕ) (k : ℕ) → Spell digits (2 * k) (b ∷ bs) → Spell digits (2 * (k + 1)) bs
+    later digits b bs k s j l =
+        let x : 2 * k + 2 * suc j ≡ 2 * (k + 1) + 2 * j = omega arith in
+        let y : 2 * k + (2 * suc j + 1) ≡ 2 * (k + 1) + (2 * j + 1) = omega arith in
+        s (suc j) (omega arith)
+        ∙ ap (λ n. byte_of (digit_of (get_or digits n 0)) (digit_of (get_or digits (2 * k + (2 * suc j + 1)) 0))) x
+        ∙ ap (λ n. byte_of (digit_of (get_or digits (2 * (k + 1) + 2 * j) 0)) (digit_of (get_or digits n 0))) y
+
+pub block_more : (digits old new : List ℕ) (k total : ℕ) → 2 * k + 32 ≤ length digits → IsBlock digits k old new total
+    → behind (take k old) (bytes_of (drop (2 * k) digits)) ≡ behind (take (k + 16) new) (bytes_of (drop (2 * (k + 16)) digits))
+block_more digits old new k total room b =
+    let z : 2 * (k + length b.bytes) ≡ 2 * (k + 16) = omega (arith, b.size) in
+    spelled_many digits (take k old) b.bytes k (omega (arith, b.size)) b.spell
+    ∙ ap (λ n. behind (take k old ++ b.bytes) (bytes_of (drop n digits))) z
+    ∙ ap (λ f. behind f (bytes_of (drop (2 * (k + 16)) digits))) (sym b.put)
+
+pub block_sum : (digits old new : List ℕ) (k total : ℕ) → IsBlock digits k old new total → sum (take k old) + total ≡ sum (take (k + 16) new)
+block_sum digits old new k total b =
+    ap (λ t. sum (take k old) + t) b.summed ∙ sym (sum_by-append (λ x. x) (take k old) b.bytes) ∙ ap sum (sym b.put)
 
 pub spelled_none : (digits out : List ℕ) (k : ℕ) → 2 * k + 1 < length digits → None ≡ byte_of (digit_of (get_or digits (2 * k) 0)) (digit_of (get_or digits (2 * k + 1) 0))
     → behind (take k out) (bytes_of (drop (2 * k) digits)) ≡ None

@@ -1,5 +1,7 @@
 pub mod Cutting
 pub mod Digits
+pub mod Lanes
 pub mod Lines
 pub mod Putting
+pub mod Runs
 pub mod Spelling

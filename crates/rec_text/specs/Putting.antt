@@ -1,9 +1,9 @@
 -- Bytes put into a map, or the refusal.
-use Rattle.std.specs.Prelude.{ℕ, List, length, take, drop, nat_le, Option, Some, None, Result, Ok, Err, if◌then◌else◌}
+use Rattle.std.specs.Prelude.{◌≡◌, ◌⊎◌, ℕ, List, length, take, drop, nat_le, Option, Some, None, Result, Ok, Err, if◌then◌else◌}
 use Rattle.span_store.specs.ByteMap.{ByteMap, over, clash}
 use Rattle.span_store.specs.declared.clash.Clash.{Clash}
 use Rattle.rec_text.specs.declared.fault.RecFault.{RecFault}
-use Rattle.rec_text.specs.declared.fault.RecFault.TheVariants.{Conflict}
+use Rattle.rec_text.specs.declared.fault.RecFault.TheVariants.{Conflict, NoMemory}
 
 infixl 10 ◌>>=◌
 abbrev pub ◌>>=◌ : {A B : Type 0} → Result A RecFault → (A → Result B RecFault) → Result B RecFault
@@ -23,3 +23,8 @@ abbrev pub put_round : ByteMap → ℕ → ℕ → ℕ → List ℕ → Result B
 put_round m start first room bytes =
     if nat_le (length bytes) room then putting m first bytes
     else (putting m start (drop room bytes) >>= λ half. putting half first (take room bytes))
+
+-- What a call did: as the result says, or it lacked memory.
+abbrev pub Does : {A B : Type 0} → Result B RecFault → A → Result A RecFault → Type 0
+Does (Ok x) new r = r ≡ Ok new
+Does (Err e) new r = (e ≡ NoMemory) ⊎ (r ≡ Err e)

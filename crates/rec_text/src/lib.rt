@@ -4,12 +4,16 @@
 mod cutting;
 mod digit_table;
 mod fault;
+mod filling;
+mod lanes;
 mod line;
 mod putting;
+mod run;
 mod spelling;
 
 pub use cutting::{DATA, cut_front};
 pub use fault::RecFault;
+pub use filling::Filling;
 pub use line::{SPELLED, first_line, parse};
-pub use putting::{put, put_in};
+pub use putting::put_in;
 pub use spelling::{push_both, push_digits, sum_both};

@@ -3,6 +3,8 @@ ghost use Rattle.rec_text.specs.Digits.{bytes_of};
 ghost use Rattle.rec_text.specs.Lines.{lines, without_return};
 
 use crate::digit_table::pair;
+use crate::lanes::by_lanes;
+use memchr::memchr;
 
 /// The most bytes that a line of either format spells.
 pub const SPELLED: usize = 260;
@@ -18,8 +20,9 @@ pub fn parse(digits: &[u8], out: &mut [u8; SPELLED]) -> Option<(usize, u32)>
     if size > SPELLED {
         return None;
     }
-    let mut total = 0u32;
-    for k in 0..size {
+    let (done, sum) = by_lanes(digits, out);
+    let mut total = sum;
+    for k in done..size {
         let Some(byte) = pair(digits[2 * k], digits[2 * k + 1]) else {
             return None;
         };
@@ -49,12 +52,8 @@ pub fn first_line(text: &[u8]) -> (&[u8], usize)
     ensures lines { lines text.now ≡ result.0.now ∷ lines (drop result.1 text.now) }
     ensures within { (0 < result.1) × (result.1 ≤ length text.now) }
 {
-    let mut i = 0;
-    while i < text.len() {
-        if text[i] == b'\n' {
-            return (without_return(&text[..i]), i + 1);
-        }
-        i += 1;
+    match memchr(b'\n', text) {
+        Some(i) => (without_return(&text[..i]), i + 1),
+        None => (text, text.len()),
     }
-    (text, text.len())
 }

@@ -1,8 +1,8 @@
 //! Texts that lie in files.
-use flash_base::{Bytes, NoMemory};
 use rec_text::RecFault;
 use span_store::Spans;
 use std::alloc::Global;
+use std::io::Write;
 use std::time::Instant;
 use std::{fs, io};
 
@@ -14,18 +14,18 @@ pub(crate) fn read(alloc: Global, text: &[u8]) -> Result<Spans, RecFault> {
     }
 }
 
-/// The bytes in ascending order, without the gaps.
-fn packed(alloc: Global, spans: &Spans) -> Result<Bytes, NoMemory> {
-    let mut out = Bytes::new(alloc);
+/// Writes the bytes in ascending order, without the gaps.
+fn write_pieces(rt: &HostRuntime, path: &str, spans: &Spans) -> io::Result<()> {
+    let mut file = fs::File::create(rt, path)?;
     let mut here = 0;
     for _ in 0..u64::MAX {
         let Some((at, bytes)) = spans.piece(here) else {
-            return Ok(out);
+            return Ok(());
         };
-        out.extend(bytes)?;
+        file.write_all(bytes)?;
         here = at + bytes.len() as u64;
     }
-    Ok(out)
+    Ok(())
 }
 
 /// Reads the text of a file, and prints the microseconds or why it was refused.
@@ -51,10 +51,7 @@ pub(crate) fn to_binary(rt: &HostRuntime, path: &str) -> io::Result<()> {
     let Some(spans) = read_file(rt, path)? else {
         return Ok(());
     };
-    match packed(rt.alloc(), &spans) {
-        Ok(bytes) => fs::write(rt, "out.bin", bytes.as_slice()),
-        Err(_) => Ok(()),
-    }
+    write_pieces(rt, "out.bin", &spans)
 }
 
 /// Writes the bytes of a text in both formats to `out.hex` and `out.srec`, and prints the microseconds

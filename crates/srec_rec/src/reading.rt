@@ -1,14 +1,14 @@
-ghost use Rattle.std.specs.Prelude.{◌≡◌, ℕ, List, Ok, ◌+◌, ◌^◌, ◌≤◌, ◌<◌, length, ◌⊎◌, Err, IfOk, true};
+ghost use Rattle.std.specs.Prelude.{◌≡◌, ℕ, List, Ok, ◌+◌, ◌^◌, ◌≤◌, ◌<◌, length, ◌⊎◌, Err, OnOk, true};
 ghost use Rattle.srec_rec.specs.Record.{is_record};
 ghost use Rattle.srec_rec.specs.Reading.{with_map, applied, step, reading_of};
 ghost use Rattle.span_store.specs.ByteMap.{ByteMap};
 ghost use Rattle.srec_rec.specs.SrecText.{IsSrecText};
 ghost use Rattle.srec_rec.specs.Refusals.{IsRefused};
-ghost use Rattle.rec_text.specs.Putting.{putting};
+ghost use Rattle.rec_text.specs.Putting.{putting, Does};
 ghost use Rattle.rec_text.specs.declared.fault.RecFault.{RecFault};
 
 use crate::line::{address_width, number, record};
-use rec_text::{RecFault, SPELLED, first_line, put};
+use rec_text::{Filling, RecFault, SPELLED, first_line};
 use span_store::Spans;
 use std::alloc::Global;
 
@@ -17,18 +17,18 @@ use std::alloc::Global;
 pub struct State {
     pub count: u64,
     pub ended: bool,
-    pub spans: Spans,
+    pub spans: Filling,
 }
 
 /// What one record does.
-fn apply(state: State, kind: u8, bytes: &[u8]) -> Result<State, RecFault>
+fn apply(state: &mut State, kind: u8, bytes: &[u8]) -> Result<(), RecFault>
     requires form { is_record kind bytes.now ≡ true }
-    requires count { state.count < 2 ^ 63 }
-    ensures applied { (result ≡ Err RecFault.NoMemory) ⊎ (result ≡ applied state (kind, bytes.now)) }
-    ensures count { IfOk result (λ s. s.count ≤ state.count + 1) }
+    requires count { state.old.count < 2 ^ 63 }
+    ensures applied { Does result state.new (applied state.old (kind, bytes.now)) }
+    ensures count { OnOk result (state.new.count ≤ state.old.count + 1) }
 {
     if kind == 0 {
-        return Ok(state);
+        return Ok(());
     }
     let size = address_width(kind);
     let value = number(size, bytes);
@@ -43,44 +43,37 @@ fn apply(state: State, kind: u8, bytes: &[u8]) -> Result<State, RecFault>
                 seen: state.count,
             });
         }
-        return Ok(state);
+        return Ok(());
     }
-    let State { count, spans, .. } = state;
-    Ok(State {
-        count,
-        ended: true,
-        spans,
-    })
+    state.ended = true;
+    Ok(())
 }
 
 /// One data record more.
-fn add(state: State, at: u64, bytes: &[u8]) -> Result<State, RecFault>
+fn add(state: &mut State, at: u64, bytes: &[u8]) -> Result<(), RecFault>
     requires within { at + length bytes.now ≤ 2 ^ 32 }
-    requires count { state.count < 2 ^ 63 }
-    ensures added { (result ≡ Err RecFault.NoMemory) ⊎ (result ≡ with_map state (putting state.spans at bytes.now)) }
-    ensures count { IfOk result (λ s. s.count ≤ state.count + 1) }
+    requires count { state.old.count < 2 ^ 63 }
+    ensures added { Does result state.new (with_map state.old (putting state.old.spans at bytes.now)) }
+    ensures count { OnOk result (state.new.count ≤ state.old.count + 1) }
 {
-    let State {
-        count,
-        ended,
-        spans,
-    } = state;
-    let spans = put(spans, at, bytes)?;
-    Ok(State {
-        count: count + 1,
-        ended,
-        spans,
-    })
+    state.spans.put(at, bytes)?;
+    state.count += 1;
+    Ok(())
 }
 
 /// What line n does.
-fn next(state: State, n: usize, line: &[u8], buffer: &mut [u8; SPELLED]) -> Result<State, RecFault>
-    requires count { state.count < 2 ^ 63 }
-    ensures step { (result ≡ Err RecFault.NoMemory) ⊎ (result ≡ step state n line.now) }
-    ensures count { IfOk result (λ s. s.count ≤ state.count + 1) }
+fn next(
+    state: &mut State,
+    n: usize,
+    line: &[u8],
+    buffer: &mut [u8; SPELLED],
+) -> Result<(), RecFault>
+    requires count { state.old.count < 2 ^ 63 }
+    ensures step { Does result state.new (step state.old n line.now) }
+    ensures count { OnOk result (state.new.count ≤ state.old.count + 1) }
 {
     if line.is_empty() {
-        return Ok(state);
+        return Ok(());
     }
     if state.ended {
         return Err(RecFault::AfterEnd { n });
@@ -99,7 +92,7 @@ pub fn read(alloc: Global, text: &[u8]) -> Result<Spans, RecFault>
     let mut state = State {
         count: 0,
         ended: false,
-        spans: Spans::new(alloc),
+        spans: Filling::new(alloc),
     };
     let mut buffer = [0u8; SPELLED];
     let mut at = 0;
@@ -107,11 +100,11 @@ pub fn read(alloc: Global, text: &[u8]) -> Result<Spans, RecFault>
     while at < text.len() {
         let (line, size) = first_line(&text[at..]);
         n += 1;
-        state = next(state, n, line, &mut buffer)?;
+        next(&mut state, n, line, &mut buffer)?;
         at += size;
     }
     if state.ended {
-        Ok(state.spans)
+        state.spans.finish()
     } else {
         Err(RecFault::NoEnd)
     }

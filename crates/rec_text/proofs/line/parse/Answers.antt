@@ -1,11 +1,10 @@
-use Rattle.std.proofs.Common.{refl, ◌∙◌, arith}
+use Rattle.std.proofs.Common.{◌∙◌, arith}
 use Rattle.std.proofs.lemmas.Grind.{common_steps}
-use Rattle.rec_text.specs.Digits.{bytes_of}
-use Rattle.rec_text.proofs.Spelled.{behind_none, spelled_more, length-bytes_of}
+use Rattle.rec_text.proofs.Spelled.{spelled_more, length-bytes_of}
 use Rattle.rec_text.proofs.line.parse.Goals as goal
 
 pub loop-k-init : goal.loop-k-init
-loop-k-init c = record { spelled = behind_none (bytes_of c.args.digits.now); total = refl; small = omega arith }
+loop-k-init c = record { spelled = c.by_lanes-done.ensures.spelled; total = c.by_lanes-done.ensures.total; small = c.by_lanes-done.ensures.small }
 
 pub loop-k-preserved : goal.loop-k-preserved
 loop-k-preserved c = record {

@@ -1,6 +1,6 @@
 use Rattle.std.proofs.Common.{◌≡◌, ◌*◌, ◌≤◌, take, drop, sum}
 use Rattle.rec_text.specs.Digits.{bytes_of}
-use Rattle.rec_text.proofs.Spelled.{behind}
+use Rattle.rec_text.specs.Lanes.{behind}
 use Rattle.rec_text.proofs.line.parse.Given as goal
 
 abbrev pub invariant-loop-k : goal.invariant-loop-k
