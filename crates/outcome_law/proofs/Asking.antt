@@ -8,6 +8,7 @@ use Rattle.std.specs.Prelude.{Bool, Option, ◌==◌, ◌&&◌, ◌||◌, not, n
 use Rattle.std.proofs.lemmas.Bool.{cases_Bool, cases_eq, false≢true, eq-eqb, ne_eqb, and_parts, leb-true, leb-false, ltb-false}
 use Rattle.std.proofs.lemmas.List.{append-nil}
 use Rattle.bay_core.proofs.Queueing.{said_other, queue_more, released_bytes, release_is, filter_can, released_whole, released_words, held_filter, words_front, nack_words, ack_words, Alike, alike_way, alike_ready, alike_words, timely_held}
+use Rattle.bay_core.proofs.Sending.{IsNacked, Refused, Heard, let_out, let_ready, let_whole, let_none, let_lone, answered_alike, active_is, no_X, no_held, no_later, refused_way, let_nothing, let_no_held, held_last, tick_kept}
 use Rattle.bay_core.proofs.Ticking.{left_nil, right_nil, bodies, held_bodies, way_holds_none, up_tester, up_active}
 use Rattle.bay_core.specs.Joint.{HoldsAtMost, held_of}
 use Rattle.flash_base.specs.Lists.{Each}
@@ -15,7 +16,7 @@ use Rattle.doip_frame.specs.Frame.{stream_of, message_bytes, ack_bytes, nack_byt
 use Rattle.doip_frame.specs.declared.frame.Frame.TheVariants.{Message}
 use Rattle.flash_plan.specs.declared.unit.UnitPlan.{UnitPlan}
 use Rattle.run_model.proofs.Hearing.{found_address}
-use Rattle.run_model.proofs.Replies.{Timely, said_words, replies_way, timely_of, said_of}
+use Rattle.run_model.proofs.Replies.{Timely, said_words, replies_way, timely_of, said_of, queue_reply, queue_replies}
 use Rattle.run_model.proofs.Whole.{whole_append, ack_whole, nack_whole, message_frames}
 use Rattle.run_model.specs.Connected.{IsConnected}
 use Rattle.run_model.specs.Link.{Link, is_up}
@@ -27,7 +28,7 @@ use Rattle.uds_codec.specs.Request.{sid_of}
 use Rattle.unit_model.proofs.Feeding.{Handled}
 use Rattle.unit_model.proofs.Steps.{step_frames}
 use Rattle.unit_model.proofs.Units.{SameState, SameIn, SameUnits, same_self, with_same, with_other}
-use Rattle.unit_model.specs.Feed.{Word, with_unit, queue_word, queue_words, tester_of, waits_for, released, words_of, HandlesMessage, HandlesAt, Nacks, Hears, Refuses}
+use Rattle.unit_model.specs.Feed.{tester_of, waits_for}
 use Rattle.unit_model.specs.Step.{CanSend, UnitStep, Obeys, Holds, Departs, Departure, Refuses as declines, Odd, Fails, Mutes, Busies, pendings, last_replies, last_tick, said_by, ascends, is_late, is_stalled, raise_if, raise_code, raised}
 use Rattle.unit_model.specs.Unit.{ControlUnit, Counts, obedient, one_more, heard_one}
 use Rattle.unit_model.specs.Vehicle.{HeldAnswer, Gateway, Vehicle, unit_at}
@@ -36,12 +37,6 @@ use Rattle.unit_model.specs.declared.reply.Due.{Due}
 use Rattle.unit_model.specs.declared.reply.UnitReply.{UnitReply}
 use Rattle.outcome_law.proofs.Waiting.{IsStillOn, IsAwaited}
 use Rattle.outcome_law.specs.Counting.{dues, come, Kept, KeptIn, Takes, TakesIn, BusyBy, IsCounted, IsHeardCounted, IsAwaitCounted, IsHeldTimed, IsOnTime, IsTimed}
-
--- the count of a refusal to deliver rose, or the unit is not there
-abbrev pub IsNacked : ℕ → Option ControlUnit → Option ControlUnit → Type 0
-IsNacked code None now = code ≡ 3
-IsNacked code (Some u) None = ⊥
-IsNacked code (Some u) (Some x) = x.counts ≡ record u.counts { nacked = raise_code code u.counts.nacked }
 
 -- words of another unit are due at no tick of this one
 module _ (tester a : ℕ) where
@@ -52,24 +47,16 @@ module _ (tester a : ℕ) where
     | inr e ↦ rw e (ap (λ (ds : List ℕ). q.0 ∷ ds) (dues_more qs due frame none))
   ]
 
-  dues_word : (g : Gateway) (unit sid : ℕ) (due : Due) (body : List ℕ) → (unit == a) ≡ false → CanSend body → dues tester a (queue_word g unit sid due body).later ≡ dues tester a g.later
+  dues_word : (g : Gateway) (unit sid : ℕ) (due : Due) (body : List ℕ) → (unit == a) ≡ false → CanSend body → dues tester a (queue_reply g unit sid due body).later ≡ dues tester a g.later
   dues_word g unit sid (At due) body e can = elim (cases_Bool (nat_le due g.tick)) [
     | inl now ↦ rw now refl
     | inr after ↦ rw after (dues_more g.later due (message_bytes unit (tester_of g) body) (said_other tester a unit (tester_of g) body can e))
   ]
   dues_word g unit sid (Held every watch service) body e can = refl
 
-  dues_words : (unit sid : ℕ) (rs : List UnitReply) (g : Gateway) → (unit == a) ≡ false → Each (λ r. CanSend r.body) rs → dues tester a (queue_words g (words_of unit sid rs)).later ≡ dues tester a g.later
+  dues_words : (unit sid : ℕ) (rs : List UnitReply) (g : Gateway) → (unit == a) ≡ false → Each (λ r. CanSend r.body) rs → dues tester a (queue_replies g unit sid rs).later ≡ dues tester a g.later
   dues_words unit sid [] g e can = refl
-  dues_words unit sid (r ∷ rs) g e can = dues_words unit sid rs (queue_word g unit sid r.due r.body) e can.1 ∙ dues_word g unit sid r.due r.body e can.0
-
-tick_kept : (ws : List Word) (g : Gateway) → (queue_words g ws).tick ≡ g.tick
-tick_kept [] g = refl
-tick_kept (x ∷ xs) g = tick_kept xs (queue_word g x.unit x.sid x.reply.due x.reply.body) ∙ one x.reply.due
-  where
-    one : (due : Due) → (queue_word g x.unit x.sid due x.reply.body).tick ≡ g.tick
-    one (At due) = elim (cases_Bool (nat_le due g.tick)) [ inl e ↦ rw e refl | inr e ↦ rw e refl ]
-    one (Held every watch service) = refl
+  dues_words unit sid (r ∷ rs) g e can = dues_words unit sid rs (queue_reply g unit sid r.due r.body) e can.1 ∙ dues_word g unit sid r.due r.body e can.0
 
 -- the ticks at which replies are due, and those of them that come later
 abbrev due_of : Due → ℕ
@@ -123,10 +110,10 @@ module _ (tester a sid : ℕ) where
       ap (words_in tester a) (message_frames a (tester_of g) body can)
       ∙ (λ i. (if eq-eqb (tester_of g) tester (ap (λ (o : Option ℕ). unwrap_or o 0) active) i && eq-eqb a a refl i then Reply body ∷ [] else []) ++ [])
 
-  own_dues : (rs : List UnitReply) (from : ℕ) (g : Gateway) → Timely from rs → g.active ≡ Some tester → dues tester a (queue_words g (words_of a sid rs)).later ≡ dues tester a g.later ++ later_ticks g.tick (ticks_of rs)
+  own_dues : (rs : List UnitReply) (from : ℕ) (g : Gateway) → Timely from rs → g.active ≡ Some tester → dues tester a (queue_replies g a sid rs).later ≡ dues tester a g.later ++ later_ticks g.tick (ticks_of rs)
   own_dues [] from g timely active = sym (append-nil (dues tester a g.later))
   own_dues (r ∷ rs) from g (due, is, le, can, more) active =
-      ap (λ (d : Due). dues tester a (queue_words (queue_word g a sid d r.body) (words_of a sid rs)).later) is
+      ap (λ (d : Due). dues tester a (queue_replies (queue_reply g a sid d r.body) a sid rs).later) is
       ∙ elim (cases_Bool (nat_le due g.tick)) [
         | inl e ↦ rw e (own_dues rs due (record g { ready = g.ready ++ message_bytes a (tester_of g) r.body }) more active ∙ ap (λ (ts : List ℕ). dues tester a g.later ++ ts) (sym (due_dropped e)))
         | inr e ↦ rw e (own_dues rs due (record g { later = g.later ++ ((due, message_bytes a (tester_of g) r.body) ∷ []) }) more active
@@ -148,162 +135,26 @@ module _ (tester t : ℕ) (bytes : List ℕ) (l : Link) (v w : Vehicle) (c : IsC
   abbrev waits : HeldAnswer → Bool
   waits h = waits_for t sid h
 
-  -- the gateway with its own answer, and with the answers that are let go
-  abbrev answered : List ℕ → List HeldAnswer → Gateway
-  answered frame held = record v.gateway { ready = v.gateway.ready ++ frame; held = held; unfinished = [] }
+  abbrev out : Gateway
+  out = let_out tester t bytes l v w c up
 
-  abbrev acked : Gateway
-  acked = answered (ack_bytes t tester) (filter (λ h. not (waits h)) v.gateway.held)
+  abbrev WasRefused : Type 0
+  WasRefused = Refused tester t bytes l v w c up
 
-  abbrev pub let_out : Gateway
-  let_out = record acked { ready = acked.ready ++ released_bytes tester (filter waits v.gateway.held) }
-
-  -- how it came out
-  pub record Refused : Type 0 where
-    pub code : ℕ
-    pub gateway : w.gateway ≡ answered (nack_bytes t tester code) v.gateway.held
-    pub same : SameUnits v.units w.units
-    pub count : IsNacked code (unit_at v.units t) (unit_at w.units t)
-
-  pub record Heard : Type 0 where
-    pub old : ControlUnit
-    pub new : ControlUnit
-    pub replies : List UnitReply
-    pub old_at : unit_at v.units t ≡ Some old
-    pub new_at : unit_at w.units t ≡ Some new
-    pub others : (a : ℕ) → (a ≡ t → ⊥) → unit_at w.units a ≡ unit_at v.units a
-    pub step : UnitStep old bytes v.gateway.tick replies new
-    pub gateway : w.gateway ≡ queue_words let_out (words_of t sid replies)
-
-  active_is : v.gateway.active ≡ Some tester
-  active_is = up_active tester l.phase l v.gateway up c.phase
-
-  tester_is : tester_of v.gateway ≡ tester
-  tester_is = up_tester tester l v.gateway c up
-
-  refuses : (code : ℕ) (mid : Vehicle) (out : List Word) → code ≡ 3 → unit_at v.units t ≡ None → Refuses tester t code v mid out → w ≡ record mid { gateway = queue_words (record mid.gateway { unfinished = [] }) out } → Refused
-  refuses code mid out three gone r is = record {
-    code = code;
-    gateway = ap (λ (x : Vehicle). x.gateway) (is ∙ (λ i. record (r.becomes i) { gateway = queue_words (record (r.becomes i).gateway { unfinished = [] }) (r.none i) }));
-    same = λ a. subst (λ (x : List ControlUnit). SameIn (unit_at v.units a) (unit_at x a)) (sym (ap (λ (x : Vehicle). x.units) (is ∙ (λ i. record (r.becomes i) { gateway = queue_words (record (r.becomes i).gateway { unfinished = [] }) (r.none i) })))) (same_self (unit_at v.units a));
-    count = subst (λ (o : Option ControlUnit). IsNacked code o (unit_at w.units t)) (sym gone) three;
-  }
-
-  counted : (u x : ControlUnit) → unit_at v.units t ≡ Some u → SameState u x → SameUnits v.units (with_unit v.units t x)
-  counted u x there same a =
-      let at : x.address ≡ t = ap (λ (y : ControlUnit). y.address) same.same ∙ found_address v.units t u there in
-      elim (cases_eq a t) [
-        | inl e ↦ subst (λ (y : Option ControlUnit × Option ControlUnit). SameIn y.0 y.1) (λ i. (sym (ap (unit_at v.units) e ∙ there) i, sym (ap (unit_at (with_unit v.units t x)) e ∙ with_same v.units t u x there at) i)) same
-        | inr n ↦ subst (λ (y : Option ControlUnit). SameIn (unit_at v.units a) y) (sym (with_other v.units t a x at n)) (same_self (unit_at v.units a))
-      ]
-
-  nacks : (u : ControlUnit) (mid : Vehicle) (out : List Word) → unit_at v.units t ≡ Some u → Nacks tester t u v mid out → w ≡ record mid { gateway = queue_words (record mid.gateway { unfinished = [] }) out } → Refused
-  nacks u mid out there n is =
-      let whole = is ∙ (λ i. record (n.becomes i) { gateway = queue_words (record (n.becomes i).gateway { unfinished = [] }) (n.none i) }) in
-      record {
-        code = n.code;
-        gateway = ap (λ (x : Vehicle). x.gateway) whole;
-        same = subst (λ (x : List ControlUnit). SameUnits v.units x) (sym (ap (λ (x : Vehicle). x.units) whole)) (counted u (record u { counts = record u.counts { nacked = raise_code n.code u.counts.nacked } }) there (record { same = refl }));
-        count = subst (λ (x : Option ControlUnit × Option ControlUnit). IsNacked n.code x.0 x.1)
-            (λ i. (sym there i, sym (ap (λ (x : Vehicle). unit_at x.units t) whole ∙ with_same v.units t u (record u { counts = record u.counts { nacked = raise_code n.code u.counts.nacked } }) there (found_address v.units t u there)) i)) refl;
-      }
-
-  hears : (u : ControlUnit) (mid : Vehicle) (out : List Word) → unit_at v.units t ≡ Some u → Hears tester t bytes u v mid out → w ≡ record mid { gateway = queue_words (record mid.gateway { unfinished = [] }) out } → Heard
-  hears u mid out there h is =
-      let at : h.after.address ≡ t = (step_frames u h.after bytes v.gateway.tick h.replies h.step).address ∙ found_address v.units t u there in
-      let units : w.units ≡ with_unit v.units t h.after = ap (λ (x : Vehicle). x.units) is ∙ ap (λ (x : Vehicle). x.units) h.becomes in
-      record {
-        old = u;
-        new = h.after;
-        replies = h.replies;
-        old_at = there;
-        new_at = ap (λ (x : List ControlUnit). unit_at x t) units ∙ with_same v.units t u h.after there at;
-        others = λ a n. ap (λ (x : List ControlUnit). unit_at x a) units ∙ with_other v.units t a h.after at n;
-        step = h.step;
-        gateway = ap (λ (x : Vehicle). x.gateway) (is ∙ (λ i. record (h.becomes i) { gateway = queue_words (record (h.becomes i).gateway { unfinished = [] }) (h.lets_out i) }))
-            ∙ queue_more acked (released v.gateway.tick t sid v.gateway.held) (words_of t sid h.replies)
-            ∙ ap (λ (g : Gateway). queue_words g (words_of t sid h.replies)) (release_is acked t sid v.gateway.held ∙ (λ i. record acked { ready = acked.ready ++ released_bytes (tester_is i) (filter waits v.gateway.held) }));
-      }
-
-  pub came_out : Handled (Message tester t bytes) v w → Refused ⊎ Heard
-  came_out h = at (unit_at v.units t) refl (subst (λ (o : Option ℕ). HandlesMessage tester t bytes o v h.mid h.out) active_is h.handles)
-    where
-      at : (o : Option ControlUnit) → unit_at v.units t ≡ o → HandlesAt tester t bytes o v h.mid h.out → Refused ⊎ Heard
-      at None is r = inl (refuses 3 h.mid h.out refl is r h.becomes)
-      at (Some u) is (inl n) = inl (nacks u h.mid h.out is n h.becomes)
-      at (Some u) is (inr y) = inr (hears u h.mid h.out is y h.becomes)
-
-  -- ------ what is on the way from any unit before the replies
-  ready_whole : (frame : List ℕ) → IsWhole frame → IsWhole (l.rest ++ (v.gateway.ready ++ frame))
-  ready_whole frame wf = subst (λ (x : List ℕ). IsWhole x) (append_assoc l.rest v.gateway.ready frame) (whole_append (l.rest ++ v.gateway.ready) frame c.ready wf)
-
-  let_whole : IsWhole (l.rest ++ let_out.ready)
-  let_whole = subst (λ (x : List ℕ). IsWhole x) (append_assoc l.rest acked.ready (released_bytes tester (filter waits v.gateway.held)))
-      (whole_append (l.rest ++ acked.ready) (released_bytes tester (filter waits v.gateway.held)) (ready_whole (ack_bytes t tester) (ack_whole t tester)) (released_whole tester (filter waits v.gateway.held) (filter_can waits v.gateway.held c.held)))
-
-  module _ (a : ℕ) (inbox : List (ℕ × Spoken)) where
-    abbrev X : List Spoken
-    X = words_from a inbox
-
-    abbrev Y : List Spoken
-    Y = words_in tester a (stream_of (l.rest ++ v.gateway.ready)).frames
-
-    abbrev L : List Spoken
-    L = words_later tester a v.gateway.later
-
-    abbrev old_way : List Spoken
-    old_way = on_way tester a inbox l.rest v.gateway
-
-    more_ready : (frame : List ℕ) → words_in tester a (stream_of (l.rest ++ (v.gateway.ready ++ frame))).frames ≡ Y ++ words_in tester a (stream_of frame).frames
-    more_ready frame = ap (λ (x : List ℕ). words_in tester a (stream_of x).frames) (sym (append_assoc l.rest v.gateway.ready frame)) ∙ words_front tester a (l.rest ++ v.gateway.ready) frame c.ready
-
-    let_ready : words_in tester a (stream_of (l.rest ++ let_out.ready)).frames ≡ Y ++ bodies (filter waits (held_of a v.gateway.held))
-    let_ready =
-        ap (λ (x : List ℕ). words_in tester a (stream_of x).frames) (sym (append_assoc l.rest acked.ready (released_bytes tester (filter waits v.gateway.held))))
-        ∙ words_front tester a (l.rest ++ acked.ready) (released_bytes tester (filter waits v.gateway.held)) (ready_whole (ack_bytes t tester) (ack_whole t tester))
-        ∙ (λ i. (more_ready (ack_bytes t tester) ∙ ap (λ (ws : List Spoken). Y ++ ws) (ack_words tester a t tester) ∙ append-nil Y) i
-        ++ (released_words tester a (filter waits v.gateway.held) (filter_can waits v.gateway.held c.held) ∙ ap bodies (held_filter tester a waits v.gateway.held)) i)
-
-    let_held : words_held a let_out.held ≡ bodies (filter (λ h. not (waits h)) (held_of a v.gateway.held))
-    let_held = held_bodies a let_out.held ∙ ap bodies (held_filter tester a (λ h. not (waits h)) v.gateway.held)
-
-    let_way : on_way tester a inbox l.rest let_out ≡ X ++ ((Y ++ bodies (filter waits (held_of a v.gateway.held))) ++ (L ++ bodies (filter (λ h. not (waits h)) (held_of a v.gateway.held))))
-    let_way = λ i. X ++ (let_ready i ++ (L ++ let_held i))
-
-    was_way : old_way ≡ X ++ (Y ++ (L ++ bodies (held_of a v.gateway.held)))
-    was_way = λ i. X ++ (Y ++ (L ++ held_bodies a v.gateway.held i))
-
-    let_none : held_of a v.gateway.held ≡ [] → on_way tester a inbox l.rest let_out ≡ old_way
-    let_none none =
-        let_way ∙ (λ i. X ++ ((Y ++ bodies (filter waits (none i))) ++ (L ++ bodies (filter (λ h. not (waits h)) (none i)))))
-        ∙ (λ i. X ++ (append-nil Y i ++ (L ++ []))) ∙ (λ i. X ++ (Y ++ (L ++ bodies (sym none i)))) ∙ sym was_way
-
-    let_lone : (one : HeldAnswer) → held_of a v.gateway.held ≡ one ∷ [] → L ≡ [] → on_way tester a inbox l.rest let_out ≡ old_way
-    let_lone one lone none =
-        let_way ∙ (λ i. X ++ ((Y ++ bodies (filter waits (lone i))) ++ (none i ++ bodies (filter (λ h. not (waits h)) (lone i)))))
-        ∙ ap (λ (ws : List Spoken). X ++ ws) (moved (cases_Bool (waits one))) ∙ (λ i. X ++ (Y ++ (sym none i ++ bodies (sym lone i)))) ∙ sym was_way
-      where
-        moved : (waits one ≡ true) ⊎ (waits one ≡ false) → (Y ++ bodies (filter waits (one ∷ []))) ++ bodies (filter (λ h. not (waits h)) (one ∷ [])) ≡ Y ++ (Reply one.body ∷ [])
-        moved (inl e) = rw e (append-nil (Y ++ (Reply one.body ∷ [])))
-        moved (inr e) = rw e (ap (λ (ws : List Spoken). ws ++ (Reply one.body ∷ [])) (append-nil Y))
-
-  -- ------ another unit
-  answered_alike : (a : ℕ) (frame : List ℕ) → IsWhole frame → words_in tester a (stream_of frame).frames ≡ [] → Alike tester a l.rest v.gateway (answered frame v.gateway.held)
-  answered_alike a frame wf none =
-      let x = alike_ready tester a l.rest v.gateway frame c.ready wf none in
-      record { ready = x.ready; later = refl; held = refl; order = λ from. refl; whole = x.whole; tick = refl }
+  abbrev WasHeard : Type 0
+  WasHeard = Heard tester t bytes l v w c up
 
   -- ------ what another unit keeps
-  let_come : (a : ℕ) (inbox : List (ℕ × Spoken)) → come tester a inbox l.rest let_out ≡ [] → come tester a inbox l.rest v.gateway ≡ []
+  let_come : (a : ℕ) (inbox : List (ℕ × Spoken)) → come tester a inbox l.rest out ≡ [] → come tester a inbox l.rest v.gateway ≡ []
   let_come a inbox e =
       let x : words_from a inbox ≡ [] = left_nil (words_from a inbox) _ e in
-      let y : words_in tester a (stream_of (l.rest ++ v.gateway.ready)).frames ≡ [] = left_nil (words_in tester a (stream_of (l.rest ++ v.gateway.ready)).frames) _ (sym (let_ready a inbox) ∙ right_nil (words_from a inbox) _ e) in
+      let y : words_in tester a (stream_of (l.rest ++ v.gateway.ready)).frames ≡ [] = left_nil (words_in tester a (stream_of (l.rest ++ v.gateway.ready)).frames) _ (sym (let_ready tester t bytes l v w c up a inbox) ∙ right_nil (words_from a inbox) _ e) in
       λ i. x i ++ y i
 
-  let_back : (a : ℕ) (inbox : List (ℕ × Spoken)) (k : ℕ) → HoldsAtMost tester a k v.gateway → (one : HeldAnswer) → held_of a let_out.held ≡ one ∷ [] → held_of a v.gateway.held ≡ one ∷ []
+  let_back : (a : ℕ) (inbox : List (ℕ × Spoken)) (k : ℕ) → HoldsAtMost tester a k v.gateway → (one : HeldAnswer) → held_of a out.held ≡ one ∷ [] → held_of a v.gateway.held ≡ one ∷ []
   let_back a inbox k most one e = go most
     where
-      filtered : held_of a let_out.held ≡ filter (λ h. not (waits h)) (held_of a v.gateway.held)
+      filtered : held_of a out.held ≡ filter (λ h. not (waits h)) (held_of a v.gateway.held)
       filtered = held_filter tester a (λ h. not (waits h)) v.gateway.held
 
       cons_nil : (x : HeldAnswer) (xs : List HeldAnswer) → x ∷ xs ≡ [] → ⊥
@@ -323,11 +174,11 @@ module _ (tester t : ℕ) (bytes : List ℕ) (l : Link) (v w : Vehicle) (c : IsC
       go (inl none) = absurd (cons_nil one [] (sym (sym (filtered ∙ ap (filter (λ h. not (waits h))) none) ∙ e)))
       go (inr lone) = lone.held ∙ kept_one lone.one (sym (filtered ∙ ap (filter (λ h. not (waits h))) lone.held) ∙ e)
 
-  pub others_on : (a k : ℕ) (inbox : List (ℕ × Spoken)) → (a ≡ t → ⊥) → HoldsAtMost tester a k v.gateway → Refused ⊎ Heard → IsStillOn tester a inbox inbox l.rest l.rest v.gateway w.gateway
+  pub others_on : (a k : ℕ) (inbox : List (ℕ × Spoken)) → (a ≡ t → ⊥) → HoldsAtMost tester a k v.gateway → WasRefused ⊎ WasHeard → IsStillOn tester a inbox inbox l.rest l.rest v.gateway w.gateway
   others_on a k inbox apart most (inl r) =
       let not_a : (t == a) ≡ false = ne_eqb t a (λ q. apart (sym q)) in
       let none : words_in tester a (stream_of (nack_bytes t tester r.code)).frames ≡ [] = nack_words tester a t r.code ∙ (λ i. if not_a i then Unheard r.code ∷ [] else []) in
-      let x = answered_alike a (nack_bytes t tester r.code) (nack_whole t tester r.code) none in
+      let x = answered_alike tester t bytes l v w c up a (nack_bytes t tester r.code) (nack_whole t tester r.code) none in
       subst (λ (g : Gateway). IsStillOn tester a inbox inbox l.rest l.rest v.gateway g) (sym r.gateway) (record {
         way = alike_way tester a inbox l.rest v.gateway _ x;
         came = λ e. (λ i. words_from a inbox ++ sym x.ready i) ∙ e;
@@ -338,120 +189,82 @@ module _ (tester t : ℕ) (bytes : List ℕ) (l : Link) (v w : Vehicle) (c : IsC
       })
   others_on a k inbox apart most (inr h) =
       let not_a : (t == a) ≡ false = ne_eqb t a (λ q. apart (sym q)) in
-      let x = alike_words tester a l.rest t sid h.replies let_out not_a let_whole h.step.sizes in
+      let x = alike_words tester a l.rest t sid h.replies out not_a (let_whole tester t bytes l v w c up) h.step.sizes in
       subst (λ (g : Gateway). IsStillOn tester a inbox inbox l.rest l.rest v.gateway g) (sym h.gateway) (record {
-        way = alike_way tester a inbox l.rest let_out _ x ∙ way_of most;
+        way = alike_way tester a inbox l.rest out _ x ∙ way_of most;
         came = λ e. let_come a inbox ((λ i. words_from a inbox ++ sym x.ready i) ∙ e);
-        due = dues_words tester a t sid h.replies let_out not_a h.step.sizes;
+        due = dues_words tester a t sid h.replies out not_a h.step.sizes;
         later = x.later;
         holds = λ one e. let_back a inbox k most one (sym x.held ∙ e);
         tick = x.tick;
       })
     where
-      way_of : HoldsAtMost tester a k v.gateway → on_way tester a inbox l.rest let_out ≡ on_way tester a inbox l.rest v.gateway
-      way_of (inl none) = let_none a inbox none
-      way_of (inr lone) = let_lone a inbox lone.one lone.held lone.later
+      way_of : HoldsAtMost tester a k v.gateway → on_way tester a inbox l.rest out ≡ on_way tester a inbox l.rest v.gateway
+      way_of (inl none) = let_none tester t bytes l v w c up a inbox none
+      way_of (inr lone) = let_lone tester t bytes l v w c up a inbox lone.one lone.held lone.later
 
   -- ------ the unit that the request was for: nothing was on the way from it
   module _ (inbox : List (ℕ × Spoken)) (nothing : on_way tester t inbox l.rest v.gateway ≡ []) where
-    no_X : words_from t inbox ≡ []
-    no_X = left_nil (words_from t inbox) _ nothing
-
-    no_Y : words_in tester t (stream_of (l.rest ++ v.gateway.ready)).frames ≡ []
-    no_Y = left_nil (words_in tester t (stream_of (l.rest ++ v.gateway.ready)).frames) _ (right_nil (words_from t inbox) _ nothing)
-
-    no_held : held_of t v.gateway.held ≡ []
-    no_held = (way_holds_none tester t inbox l.rest v.gateway nothing).0
-
-    no_later : words_later tester t v.gateway.later ≡ []
-    no_later = (way_holds_none tester t inbox l.rest v.gateway nothing).1
-
-    refused_way : (r : Refused) → on_way tester t inbox l.rest w.gateway ≡ Unheard r.code ∷ []
-    refused_way r =
-        ap (λ (g : Gateway). on_way tester t inbox l.rest g) r.gateway
-        ∙ (λ i. no_X i ++ ((more_ready t inbox (nack_bytes t tester r.code) ∙ (λ j. no_Y j ++ (nack_words tester t t r.code ∙ (λ k. if eq-eqb t t refl k then Unheard r.code ∷ [] else [])) j)) i
-        ++ (no_later i ++ (held_bodies t v.gateway.held ∙ ap bodies no_held) i)))
-
-    let_nothing : on_way tester t inbox l.rest let_out ≡ []
-    let_nothing = let_none t inbox no_held ∙ nothing
-
-    let_no_held : words_held t let_out.held ≡ []
-    let_no_held = held_bodies t let_out.held ∙ ap bodies (held_filter tester t (λ h. not (waits h)) v.gateway.held ∙ ap (filter (λ h. not (waits h))) no_held)
-
-    -- the answer is held
-    held_last : (held : List HeldAnswer) (h : HeldAnswer) → (h.unit == t) ≡ true → held_of t held ≡ [] → held_of t (held ++ (h ∷ [])) ≡ h ∷ []
-    held_last [] h e none = rw e refl
-    held_last (x ∷ xs) h e none = elim (cases_Bool (x.unit == t)) [
-      | inl f ↦ absurd (cons_nil x (held_of t xs) (rw f at none))
-      | inr f ↦ rw f (held_last xs h e (rw f at none))
-    ]
-      where
-        cons_nil : (x : HeldAnswer) (xs : List HeldAnswer) → x ∷ xs ≡ [] → ⊥
-        cons_nil x xs e = false≢true (sym (ap is_cons e))
-          where
-            is_cons : List HeldAnswer → Bool
-            is_cons [] = false
-            is_cons (y ∷ ys) = true
-
     -- nothing is due from it, whatever the answer will be
     no_dues : dues tester t v.gateway.later ≡ []
-    no_dues = dues_none tester t v.gateway.later no_later
+    no_dues = dues_none tester t v.gateway.later (no_later tester t bytes l v w c up inbox nothing)
 
-    pub record RefusedIt (r : Refused) : Type 0 where
+    pub record RefusedIt (r : WasRefused) : Type 0 where
       pub way : on_way tester t inbox l.rest w.gateway ≡ Unheard r.code ∷ []
       pub held : held_of t w.gateway.held ≡ []
       pub later : words_later tester t w.gateway.later ≡ []
       pub tick : w.gateway.tick ≡ v.gateway.tick
 
-    pub refused_it : (r : Refused) → RefusedIt r
+    pub refused_it : (r : WasRefused) → RefusedIt r
     refused_it r = record {
-      way = refused_way r;
-      held = ap (λ (g : Gateway). held_of t g.held) r.gateway ∙ no_held;
-      later = ap (λ (g : Gateway). words_later tester t g.later) r.gateway ∙ no_later;
+      way = refused_way tester t bytes l v w c up inbox nothing r;
+      held = ap (λ (g : Gateway). held_of t g.held) r.gateway ∙ no_held tester t bytes l v w c up inbox nothing;
+      later = ap (λ (g : Gateway). words_later tester t g.later) r.gateway ∙ no_later tester t bytes l v w c up inbox nothing;
       tick = ap (λ (g : Gateway). g.tick) r.gateway;
     }
 
     -- replies with ticks
-    pub record SaidIt (h : Heard) : Type 0 where
+    pub record SaidIt (h : WasHeard) : Type 0 where
       pub way : on_way tester t inbox l.rest w.gateway ≡ said_words h.replies
       pub held : held_of t w.gateway.held ≡ []
       pub due : dues tester t w.gateway.later ≡ later_ticks v.gateway.tick (ticks_of h.replies)
       pub tick : w.gateway.tick ≡ v.gateway.tick
 
-    pub said_it : (h : Heard) → Timely v.gateway.tick h.replies → SaidIt h
+    pub said_it : (h : WasHeard) → Timely v.gateway.tick h.replies → SaidIt h
     said_it h timely = record {
       way = ap (λ (g : Gateway). on_way tester t inbox l.rest g) h.gateway
-          ∙ replies_way tester t sid inbox l.rest h.replies v.gateway.tick let_out timely (record { whole = let_whole; active = active_is; held = let_no_held }) (inl no_later)
-          ∙ ap (λ (ws : List Spoken). ws ++ said_words h.replies) let_nothing;
-      held = ap (λ (g : Gateway). held_of t g.held) h.gateway ∙ ap (held_of t) (timely_held tester t t sid h.replies v.gateway.tick let_out timely) ∙ held_filter tester t (λ x. not (waits x)) v.gateway.held ∙ ap (filter (λ x. not (waits x))) no_held;
-      due = ap (λ (g : Gateway). dues tester t g.later) h.gateway ∙ own_dues tester t sid h.replies v.gateway.tick let_out timely active_is ∙ ap (λ (ds : List ℕ). ds ++ later_ticks v.gateway.tick (ticks_of h.replies)) no_dues;
-      tick = ap (λ (g : Gateway). g.tick) h.gateway ∙ tick_kept (words_of t sid h.replies) let_out;
+          ∙ replies_way tester t sid inbox l.rest h.replies v.gateway.tick out timely
+          (record { whole = let_whole tester t bytes l v w c up; active = active_is tester t bytes l v w c up; held = let_no_held tester t bytes l v w c up inbox nothing }) (inl (no_later tester t bytes l v w c up inbox nothing))
+          ∙ ap (λ (ws : List Spoken). ws ++ said_words h.replies) (let_nothing tester t bytes l v w c up inbox nothing);
+      held = ap (λ (g : Gateway). held_of t g.held) h.gateway ∙ ap (held_of t) (timely_held tester t t sid h.replies v.gateway.tick out timely) ∙ held_filter tester t (λ x. not (waits x)) v.gateway.held ∙ ap (filter (λ x. not (waits x))) (no_held tester t bytes l v w c up inbox nothing);
+      due = ap (λ (g : Gateway). dues tester t g.later) h.gateway ∙ own_dues tester t sid h.replies v.gateway.tick out timely (active_is tester t bytes l v w c up) ∙ ap (λ (ds : List ℕ). ds ++ later_ticks v.gateway.tick (ticks_of h.replies)) no_dues;
+      tick = ap (λ (g : Gateway). g.tick) h.gateway ∙ tick_kept t sid h.replies out;
     }
 
     -- the answer is held
-    pub record HoldsIt (h : Heard) (holds : Holds h.old bytes v.gateway.tick h.replies h.new) : Type 0 where
+    pub record HoldsIt (h : WasHeard) (holds : Holds h.old bytes v.gateway.tick h.replies h.new) : Type 0 where
       pub way : on_way tester t inbox l.rest w.gateway ≡ said_words h.replies
       pub held : held_of t w.gateway.held ≡ record { unit = t; sid = sid; body = (obedient h.old bytes).1; every = holds.every; watch = holds.unit; service = holds.sid; from = v.gateway.tick; pending = 0 } ∷ []
       pub later : words_later tester t w.gateway.later ≡ []
       pub tick : w.gateway.tick ≡ v.gateway.tick
 
-    pub holds_it : (h : Heard) (holds : Holds h.old bytes v.gateway.tick h.replies h.new) → HoldsIt h holds
+    pub holds_it : (h : WasHeard) (holds : Holds h.old bytes v.gateway.tick h.replies h.new) → HoldsIt h holds
     holds_it h holds =
-        let is : w.gateway ≡ record let_out { held = let_out.held ++ (record { unit = t; sid = sid; body = (obedient h.old bytes).1; every = holds.every; watch = holds.unit; service = holds.sid; from = v.gateway.tick; pending = 0 } ∷ []) } =
-        h.gateway ∙ ap (λ (rs : List UnitReply). queue_words let_out (words_of t sid rs)) holds.gives in
-        let one : held_of t (let_out.held ++ (record { unit = t; sid = sid; body = (obedient h.old bytes).1; every = holds.every; watch = holds.unit; service = holds.sid; from = v.gateway.tick; pending = 0 } ∷ [])) ≡ record { unit = t; sid = sid; body = (obedient h.old bytes).1; every = holds.every; watch = holds.unit; service = holds.sid; from = v.gateway.tick; pending = 0 } ∷ [] =
-        held_last let_out.held _ (eq-eqb t t refl) (held_filter tester t (λ x. not (waits x)) v.gateway.held ∙ ap (filter (λ x. not (waits x))) no_held) in
+        let is : w.gateway ≡ record out { held = out.held ++ (record { unit = t; sid = sid; body = (obedient h.old bytes).1; every = holds.every; watch = holds.unit; service = holds.sid; from = v.gateway.tick; pending = 0 } ∷ []) } =
+        h.gateway ∙ ap (λ (rs : List UnitReply). queue_replies out t sid rs) holds.gives in
+        let one : held_of t (out.held ++ (record { unit = t; sid = sid; body = (obedient h.old bytes).1; every = holds.every; watch = holds.unit; service = holds.sid; from = v.gateway.tick; pending = 0 } ∷ [])) ≡ record { unit = t; sid = sid; body = (obedient h.old bytes).1; every = holds.every; watch = holds.unit; service = holds.sid; from = v.gateway.tick; pending = 0 } ∷ [] =
+        held_last tester t bytes l v w c up inbox nothing out.held _ (eq-eqb t t refl) (held_filter tester t (λ x. not (waits x)) v.gateway.held ∙ ap (filter (λ x. not (waits x))) (no_held tester t bytes l v w c up inbox nothing)) in
         record {
           way = ap (λ (g : Gateway). on_way tester t inbox l.rest g) is
-              ∙ (λ i. no_X i ++ (left_nil (words_in tester t (stream_of (l.rest ++ let_out.ready)).frames) _ (right_nil (words_from t inbox) _ let_nothing) i ++ (no_later i ++ (held_bodies t _ ∙ ap bodies one) i)))
+              ∙ (λ i. no_X tester t bytes l v w c up inbox nothing i ++ (left_nil (words_in tester t (stream_of (l.rest ++ out.ready)).frames) _ (right_nil (words_from t inbox) _ (let_nothing tester t bytes l v w c up inbox nothing)) i ++ (no_later tester t bytes l v w c up inbox nothing i ++ (held_bodies t _ ∙ ap bodies one) i)))
               ∙ sym (ap said_words holds.gives);
           held = ap (λ (g : Gateway). held_of t g.held) is ∙ one;
-          later = ap (λ (g : Gateway). words_later tester t g.later) is ∙ no_later;
+          later = ap (λ (g : Gateway). words_later tester t g.later) is ∙ no_later tester t bytes l v w c up inbox nothing;
           tick = ap (λ (g : Gateway). g.tick) is;
         }
 
 -- ------ what is awaited then
-module _ (tester : ℕ) (plan : UnitPlan) (talk : Talk) (l : Link) (v w first : Vehicle) (c : IsConnected tester l v.gateway) (up : is_up l.phase ≡ true) (t0 : ℕ) (ticks : v.gateway.tick ≡ t0 + l.ticks) (nothing : on_way tester plan.address l.inbox l.rest v.gateway ≡ []) where
+module _ (tester : ℕ) (plan : UnitPlan) (found : ℕ → Bool) (talk : Talk) (l : Link) (v w first : Vehicle) (c : IsConnected tester l v.gateway) (up : is_up l.phase ≡ true) (t0 : ℕ) (ticks : v.gateway.tick ≡ t0 + l.ticks) (nothing : on_way tester plan.address l.inbox l.rest v.gateway ≡ []) where
   abbrev asked : List ℕ
   asked = bytes_at plan talk.place
 
@@ -484,7 +297,7 @@ module _ (tester : ℕ) (plan : UnitPlan) (talk : Talk) (l : Link) (v w first : 
       is_cons (y ∷ ys) = true
 
   -- it was not delivered
-  refused_awaits : (r : RefusedNow) (fo vo wo : Option ControlUnit) → KeptIn fo vo → KeptIn vo wo → IsNacked r.code vo wo → on_way tester plan.address l.inbox l.rest w.gateway ≡ Unheard r.code ∷ [] → IsAwaitCounted plan now (held_of plan.address w.gateway.held) (on_way tester plan.address l.inbox l.rest w.gateway) fo wo
+  refused_awaits : (r : RefusedNow) (fo vo wo : Option ControlUnit) → KeptIn fo vo → KeptIn vo wo → IsNacked r.code vo wo → on_way tester plan.address l.inbox l.rest w.gateway ≡ Unheard r.code ∷ [] → IsAwaitCounted plan found now (held_of plan.address w.gateway.held) (on_way tester plan.address l.inbox l.rest w.gateway) fo wo
   refused_awaits r None None None k k2 three way = way ∙ ap (λ (n : ℕ). Unheard n ∷ []) three
   refused_awaits r None None (Some x) k k2 count way = absurd k2
   refused_awaits r None (Some u) wo k k2 count way = absurd k
@@ -508,7 +321,7 @@ module _ (tester : ℕ) (plan : UnitPlan) (talk : Talk) (l : Link) (v w first : 
       inr (begins (t0 + l.ticks) refl it.tick [] (dues_none tester plan.address w.gateway.later it.later) refl refl (λ one e. absurd (cons_nil one [] (sym e ∙ it.held))))
 
   pub refused_awaited : RefusedNow → KeptIn (unit_at first.units plan.address) (unit_at v.units plan.address) → KeptIn (unit_at v.units plan.address) (unit_at w.units plan.address) → KeptIn (unit_at first.units plan.address) (unit_at w.units plan.address)
-      → IsAwaited tester plan t0 now l first w
+      → IsAwaited tester plan found t0 now l first w
   refused_awaited r k k2 k3 = record {
     awaits = refused_awaits r _ _ _ k k2 r.count (refused_it tester plan.address asked l v w c up l.inbox nothing r).way;
     timed = refused_times r _ _ k3;
@@ -516,10 +329,10 @@ module _ (tester : ℕ) (plan : UnitPlan) (talk : Talk) (l : Link) (v w first : 
 
   -- it was heard
   record Known (f new : ControlUnit) : Type 0 where
-    heard : IsHeardCounted plan now f (held_of plan.address w.gateway.held) (on_way tester plan.address l.inbox l.rest w.gateway) new
+    heard : IsHeardCounted plan found now f (held_of plan.address w.gateway.held) (on_way tester plan.address l.inbox l.rest w.gateway) new
     timed : Rose f.counts.late new.counts.late ⊎ IsOnTime tester plan.address (t0 + l.ticks) l.inbox l.rest w.gateway
 
-  module _ (f old new : ControlUnit) (kept : Kept f old) (busy : RoseBy talk.busies f.counts.busy old.counts.busy) (state : StateAt plan talk.place old) (takes : Takes talk.place old) where
+  module _ (f old new : ControlUnit) (kept : Kept f old) (busy : RoseBy talk.busies f.counts.busy old.counts.busy) (state : StateAt plan talk.place old) (takes : Takes plan found f talk.place old) where
     counts_too : (o : ControlUnit) (h : ℕ) (cs : Counts) → new ≡ record o { heard = h; counts = cs } → SameButCounts o new
     counts_too o h cs is = record { same = is ∙ (λ i. record o { heard = ap (λ (x : ControlUnit). x.heard) (sym is) i; counts = ap (λ (x : ControlUnit). x.counts) (sym is) i }) }
 
@@ -542,7 +355,7 @@ module _ (tester : ℕ) (plan : UnitPlan) (talk : Talk) (l : Link) (v w first : 
 
     -- a step with these counts, however the answer came
     obeyed_counted : (held : List HeldAnswer) (way : List Spoken) (n : ℕ) → SameButCounts (obedient old asked).0 new → way ≡ pending_words (sid_of asked) n ++ final_word (Some (obedient old asked).1) → (0 + n ≤ 200) ⊎ Rose f.counts.stalled new.counts.stalled
-        → ((one : HeldAnswer) → held ≡ one ∷ [] → (0 + n ≤ one.pending) × ((one.pending ≤ 200) ⊎ Rose f.counts.stalled new.counts.stalled)) → IsHeardCounted plan now f held way new
+        → ((one : HeldAnswer) → held ≡ one ∷ [] → (0 + n ≤ one.pending) × ((one.pending ≤ 200) ⊎ Rose f.counts.stalled new.counts.stalled)) → IsHeardCounted plan found now f held way new
     obeyed_counted held way n same is few holding = record {
       before = old;
       said = Some (obedient old asked).1;
@@ -632,7 +445,7 @@ module _ (tester : ℕ) (plan : UnitPlan) (talk : Talk) (l : Link) (v w first : 
               (λ one e. absurd (cons_nil one [] (sym e ∙ it.held))));
         }
 
-  heard_known : (h : HeardNow) (f : ControlUnit) → Kept f h.old → RoseBy talk.busies f.counts.busy h.old.counts.busy → StateAt plan talk.place h.old → Takes talk.place h.old → Known f h.new
+  heard_known : (h : HeardNow) (f : ControlUnit) → Kept f h.old → RoseBy talk.busies f.counts.busy h.old.counts.busy → StateAt plan talk.place h.old → Takes plan found f talk.place h.old → Known f h.new
   heard_known h f kept busy state takes = go h.step.how
     where
       go : Obeys h.old asked v.gateway.tick h.replies h.new ⊎ Holds h.old asked v.gateway.tick h.replies h.new ⊎ Departs h.old asked v.gateway.tick h.replies h.new → Known f h.new
@@ -640,11 +453,11 @@ module _ (tester : ℕ) (plan : UnitPlan) (talk : Talk) (l : Link) (v w first : 
       go (inr (inl o)) = holds_known f h.old h.new kept busy state takes h refl refl o
       go (inr (inr d)) = departs_known f h.old h.new kept busy state takes h d
 
-  pub heard_awaited : (h : HeardNow) (fo : Option ControlUnit) → unit_at first.units plan.address ≡ fo → KeptIn fo (Some h.old) → BusyBy talk.busies fo (Some h.old) → StateIn plan talk.place (Some h.old) → TakesIn talk.place (Some h.old) → IsAwaited tester plan t0 now l first w
+  pub heard_awaited : (h : HeardNow) (fo : Option ControlUnit) → unit_at first.units plan.address ≡ fo → KeptIn fo (Some h.old) → BusyBy talk.busies fo (Some h.old) → StateIn plan talk.place (Some h.old) → TakesIn plan found fo talk.place (Some h.old) → IsAwaited tester plan found t0 now l first w
   heard_awaited h None is kept busy state takes = absurd kept
   heard_awaited h (Some f) is kept busy state takes =
       let k = heard_known h f kept busy state takes in
       record {
-        awaits = subst (λ (x : Option ControlUnit × Option ControlUnit). IsAwaitCounted plan now (held_of plan.address w.gateway.held) (on_way tester plan.address l.inbox l.rest w.gateway) x.0 x.1) (λ i. (sym is i, sym h.new_at i)) (inr k.heard);
+        awaits = subst (λ (x : Option ControlUnit × Option ControlUnit). IsAwaitCounted plan found now (held_of plan.address w.gateway.held) (on_way tester plan.address l.inbox l.rest w.gateway) x.0 x.1) (λ i. (sym is i, sym h.new_at i)) (inr k.heard);
         timed = subst (λ (x : Option ControlUnit × Option ControlUnit). IsTimed tester plan.address (t0 + l.ticks) l.inbox l.rest w.gateway x.0 x.1) (λ i. (sym is i, sym h.new_at i)) k.timed;
       }

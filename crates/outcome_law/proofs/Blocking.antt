@@ -6,7 +6,7 @@ use Rattle.std.specs.List.{IsDistinct, AllByRecursion, list_any}
 use Rattle.std.proofs.lemmas.Bool.{cases_Bool, false≢true, both_ways, eqb-true, ne_eqb}
 use Rattle.std.proofs.lemmas.Map.Steps.{length-le_from_distinct_below}
 use Rattle.flash_base.specs.Lists.{Each}
-use Rattle.flash_plan.specs.Plan.{StandsBefore, next_to, before, plan_of, count_of}
+use Rattle.flash_plan.specs.Plan.{IsAccepted, StandsBefore, next_to, before, plan_of, count_of}
 use Rattle.flash_plan.specs.declared.outcome.Entry.{Entry}
 use Rattle.flash_plan.specs.declared.outcome.Entry.TheVariants as entry
 use Rattle.flash_plan.specs.declared.outcome.Outcome.{Outcome}
@@ -18,9 +18,12 @@ use Rattle.run_model.specs.Troubles.{IsVehicleCalm}
 use Rattle.bay_core.specs.Core.{Core, core_start, core_of}
 use Rattle.bay_core.specs.Stops.{has_failure}
 use Rattle.bay_core.specs.declared.event.Event.{Event}
-use Rattle.outcome_law.proofs.Recorded.{outcome_law, untroubled_law}
+use Rattle.outcome_law.proofs.Recorded.{counted_law, ended_run, kept_untroubled}
+use Rattle.outcome_law.proofs.Runs.{counted_run}
+use Rattle.outcome_law.specs.Counting.{AreUnitsCounted}
 use Rattle.outcome_law.specs.Law.{IsRun, last_vehicle}
 use Rattle.outcome_law.specs.LinkCounting.{faults_of}
+use Rattle.outcome_law.specs.OutcomeCounting.{AreOutcomesCounted}
 use Rattle.outcome_law.specs.Outcomes.{IsBlockedBy, IsOutcomeCaused, IsUntroubled, AllMatch, LacksMemory, CompleteLaw}
 
 -- ------ numbers below a bound, each once
@@ -66,36 +69,39 @@ each_of Q (y ∷ ys) x all (k, lt, is) = at (λ later. each_of Q ys x all.1 late
     at again zero lt is = subst Q is all.0
     at again (suc k) lt is = again (k, omega (arith, lt), is)
 
-module _ (rules : LinkRules) (P : List UnitPlan) (found : Entry → Bool) (events : List Event) (s : Vehicle) (states : List Vehicle) (run : IsRun rules P found events s states) (failed : has_failure events ≡ false) (faults : faults_of events s states ≡ 0)
-    (calm : IsVehicleCalm s (last_vehicle s states)) (matching : AllMatch P found s) where
-  abbrev c : Core
-  c = core_of rules P (core_start P found) events
-
+module _ (rules : LinkRules) (P : List UnitPlan) (found : Entry → Bool) (c : Core) (failed : Bool) (faults : ℕ) (first now : Vehicle) (t0 : ℕ) (accepted : IsAccepted P)
+    (units : AreUnitsCounted rules P found t0 c first now) (outcomes : AreOutcomesCounted rules P c failed faults first now) (fine : failed ≡ false) (none_failed : faults ≡ 0) (calm : IsVehicleCalm first now) (matching : AllMatch P found first) where
   abbrev Ends : Outcome → Type 0
-  Ends o = (o ≡ Complete) ⊎ LacksMemory P (core_of rules P (core_start P found) events)
+  Ends o = (o ≡ Complete) ⊎ LacksMemory P c
 
   of_some : (o : Option Outcome) → is_some o ≡ true → (x : Outcome) × (o ≡ Some x)
   of_some None e = absurd (false≢true e)
   of_some (Some x) e = (x, refl)
 
-  not_complete : (n : ℕ) (o : Outcome) → n < count_of P → ((core_of rules P (core_start P found) events).slots n).outcome ≡ Some o → (core_of rules P (core_start P found) events).recorded (entry.Complete n) ≡ false → o ≡ Complete → ⊥
-  not_complete n o lt at none is = both_ways _ none (outcome_law rules P found events s states n Complete run lt (at ∙ ap (λ (x : Outcome). Some x) is))
+  cause_of : (n : ℕ) (o : Outcome) → n < count_of P → (c.slots n).outcome ≡ Some o → IsOutcomeCaused rules (plan_of P n) found c n failed faults first now o
+  cause_of n o lt at = counted_law rules P found c failed faults first now t0 n o lt units outcomes at
+
+  untroubled_of : (n : ℕ) (o : Outcome) → n < count_of P → (c.slots n).outcome ≡ Some o → IsUntroubled o
+  untroubled_of n o lt at = kept_untroubled rules P found c failed faults first now t0 n units fine none_failed calm (matching n lt) o (cause_of n o lt at)
+
+  not_complete : (n : ℕ) (o : Outcome) → n < count_of P → (c.slots n).outcome ≡ Some o → c.recorded (entry.Complete n) ≡ false → o ≡ Complete → ⊥
+  not_complete n o lt at none is = both_ways _ none (cause_of n Complete lt (at ∙ ap (λ (x : Outcome). Some x) is))
 
   -- from a unit to the one that blocks it; vs are those that it stands before
   along : (fuel : ℕ) (vs : List ℕ) (n : ℕ) (o : Outcome) → n < count_of P → IsDistinct (λ a b. a == b) vs → Each (λ v. v < count_of P) vs → Each (StandsBefore P n) vs → count_of P ≤ fuel + length vs
-      → ((core_of rules P (core_start P found) events).slots n).outcome ≡ Some o → IsUntroubled o → IsOutcomeCaused rules (plan_of P n) (core_of rules P (core_start P found) events) n (has_failure events) (faults_of events s states) s (last_vehicle s states) o → Ends o
+      → (c.slots n).outcome ≡ Some o → IsUntroubled o → IsOutcomeCaused rules (plan_of P n) found c n failed faults first now o → Ends o
   along fuel vs n Complete lt distinct below stands enough at is cause = inl refl
   along fuel vs n NoMemory lt distinct below stands enough at is cause = inr (record { unit = n; below = lt; none = at })
   along zero vs n (Blocked by) lt distinct below stands enough at is cause =
-      let more : suc (length vs) ≤ count_of P = few (count_of P) (n ∷ vs) (one_more n vs (apart_all P n vs (run.accepted.no_cycle n) stands) distinct) (lt, below) in
+      let more : suc (length vs) ≤ count_of P = few (count_of P) (n ∷ vs) (one_more n vs (apart_all P n vs (accepted.no_cycle n) stands) distinct) (lt, below) in
       absurd (omega (arith, more, enough))
   along (suc fuel) vs n (Blocked by) lt distinct below stands enough at is cause =
-      let blocked : IsBlockedBy (plan_of P n) (core_of rules P (core_start P found) events) by = cause in
-      let by_lt : by < count_of P = each_of (λ w. w < count_of P) (plan_of P n).after by (run.accepted.after n lt) blocked.listed in
-      let next = of_some ((core_of rules P (core_start P found) events).slots by).outcome blocked.ended in
+      let blocked : IsBlockedBy (plan_of P n) c by = cause in
+      let by_lt : by < count_of P = each_of (λ w. w < count_of P) (plan_of P n).after by (accepted.after n lt) blocked.listed in
+      let next = of_some (c.slots by).outcome blocked.ended in
       let stands_by : StandsBefore P by n = next_to n blocked.listed in
-      elim (along fuel (n ∷ vs) by next.0 by_lt (one_more n vs (apart_all P n vs (run.accepted.no_cycle n) stands) distinct) (lt, below) (stands_by, stands_all P by n vs stands_by stands) (omega (arith, enough)) next.1
-      (untroubled_law rules P found events s states by next.0 run by_lt next.1 failed faults calm (matching by by_lt)) (outcome_law rules P found events s states by next.0 run by_lt next.1)) [
+      elim (along fuel (n ∷ vs) by next.0 by_lt (one_more n vs (apart_all P n vs (accepted.no_cycle n) stands) distinct) (lt, below) (stands_by, stands_all P by n vs stands_by stands) (omega (arith, enough)) next.1
+      (untroubled_of by next.0 by_lt next.1) (cause_of by next.0 by_lt next.1)) [
         | inl complete ↦ absurd (not_complete by next.0 by_lt next.1 blocked.incomplete complete)
         | inr memory ↦ inr memory
       ]
@@ -111,7 +117,10 @@ module _ (rules : LinkRules) (P : List UnitPlan) (found : Entry → Bool) (event
   along fuel vs n (LinkRefused code) lt distinct below stands enough at is cause = absurd is
   along fuel vs n DiskFault lt distinct below stands enough at is cause = absurd is
 
+  pub kept_complete : (n : ℕ) (o : Outcome) → n < count_of P → (c.slots n).outcome ≡ Some o → (o ≡ Complete) ⊎ LacksMemory P c
+  kept_complete n o lt at = along (count_of P) [] n o lt none_yet tt tt (omega arith) at (untroubled_of n o lt at) (cause_of n o lt at)
+
 pub complete_law : CompleteLaw
 complete_law rules P found events s states n o run lt at failed faults calm matching =
-    along rules P found events s states run failed faults calm matching (count_of P) [] n o lt none_yet tt tt (omega arith) at
-    (untroubled_law rules P found events s states n o run lt at failed faults calm (matching n lt)) (outcome_law rules P found events s states n o run lt at)
+    kept_complete rules P found (core_of rules P (core_start P found) events) (has_failure events) (faults_of events s states) s (last_vehicle s states) s.gateway.tick run.accepted
+    (counted_run rules P found events s states run) (ended_run rules P found events s states run) failed faults calm matching n o lt at

@@ -4,7 +4,7 @@ use Rattle.std.specs.Prelude.{Bool, Option, ◌==◌, ◌&&◌, ◌||◌, nat_le
 use Rattle.std.proofs.lemmas.Bool.{cases_Bool, cases_lt, false≢true, both_ways, eq-eqb, ne_eqb, eqb-true, and_parts, and_from, leb-true, leb-false, le-leb, lt-leb}
 use Rattle.std.proofs.lemmas.List.{append-nil}
 use Rattle.std.proofs.Math.Nat.{add-mod_right}
-use Rattle.bay_core.proofs.Ticking.{left_nil, right_nil, bodies, held_bodies, turn_word, way_none, way_lone}
+use Rattle.bay_core.proofs.Ticking.{some_cons, left_nil, right_nil, bodies, held_bodies, turned, head_of, tail_of, on_none, on_one, turn_word, way_none, way_lone, before_last, missed_not}
 use Rattle.bay_core.specs.Joint.{HoldsAtMost, IsLoneHeld, held_of}
 use Rattle.doip_frame.specs.Frame.{Stream, stream_of}
 use Rattle.flash_base.specs.Lists.{Each}
@@ -30,49 +30,7 @@ use Rattle.outcome_law.proofs.Waiting.{IsAwaited, awaits_on, timed_on, heard_on}
 use Rattle.outcome_law.specs.Counting.{Kept, KeptIn, IsHeardCounted, IsAwaitCounted, dues, come, IsHeldTimed, IsOnTime}
 use Rattle.outcome_law.specs.Rising.{Rose, Grows}
 
-some_cons : {T : Type 0} (x : T) (xs : List T) → x ∷ xs ≡ [] → ⊥
-some_cons {T} x xs e = false≢true (sym (ap is_cons e))
-  where
-    is_cons : List T → Bool
-    is_cons [] = false
-    is_cons (y ∷ ys) = true
-
 -- ------ held answers of one unit after a tick
-abbrev pub turned : ℕ → HeldAnswer → HeldAnswer
-turned tick h = if is_turn tick h then record h { pending = h.pending + 1 } else h
-
-pub turned_unit : (tick : ℕ) (h : HeldAnswer) → (turned tick h).unit ≡ h.unit
-turned_unit tick h = elim (cases_Bool (is_turn tick h)) [ inl e ↦ rw e refl | inr e ↦ rw e refl ]
-
-on_none : (a tick : ℕ) (held : List HeldAnswer) → held_of a held ≡ [] → held_of a (held_on tick held) ≡ []
-on_none a tick [] e = refl
-on_none a tick (h ∷ hs) e = elim (cases_Bool (h.unit == a)) [
-  | inl f ↦ absurd (some_cons h (held_of a hs) (rw f at e))
-  | inr f ↦
-      let g : ((turned tick h).unit == a) ≡ false = ap (λ (k : ℕ). k == a) (turned_unit tick h) ∙ f in
-      rw g (on_none a tick hs (rw f at e))
-]
-
-abbrev head_of : HeldAnswer → List HeldAnswer → HeldAnswer
-head_of h [] = h
-head_of h (x ∷ xs) = x
-
-abbrev tail_of : List HeldAnswer → List HeldAnswer
-tail_of [] = []
-tail_of (x ∷ xs) = xs
-
-pub on_one : (a tick : ℕ) (held : List HeldAnswer) (one : HeldAnswer) → held_of a held ≡ one ∷ [] → held_of a (held_on tick held) ≡ turned tick one ∷ []
-on_one a tick [] one e = absurd (some_cons one [] (sym e))
-on_one a tick (h ∷ hs) one e = elim (cases_Bool (h.unit == a)) [
-  | inl f ↦
-      let e2 : h ∷ held_of a hs ≡ one ∷ [] = rw f at e in
-      let g : ((turned tick h).unit == a) ≡ true = ap (λ (k : ℕ). k == a) (turned_unit tick h) ∙ f in
-      rw g (λ i. turned tick (head_of h (e2 i)) ∷ on_none a tick hs (ap tail_of e2) i)
-  | inr f ↦
-      let g : ((turned tick h).unit == a) ≡ false = ap (λ (k : ℕ). k == a) (turned_unit tick h) ∙ f in
-      rw g (on_one a tick hs one (rw f at e))
-]
-
 pub one_is : (a : ℕ) (held : List HeldAnswer) (x y : HeldAnswer) → held_of a held ≡ x ∷ [] → held_of a held ≡ y ∷ [] → y ≡ x
 one_is a held x y e f = ap (head_of x) (sym f ∙ e)
 
@@ -221,53 +179,11 @@ module _ (tester a : ℕ) where
   ]
 
 -- ------ one unit
-before_last : (sid : ℕ) (final : Option (List ℕ)) (A : List Spoken) (w : Spoken) (k : ℕ) → A ++ (w ∷ []) ≡ pending_words sid k ++ final_word final → A ++ (Reply (pending_bytes sid) ∷ w ∷ []) ≡ pending_words sid (suc k) ++ final_word final
-before_last sid final [] w k e = ap (λ (ws : List Spoken). Reply (pending_bytes sid) ∷ ws) e
-before_last sid None (x ∷ A) w zero e = absurd (some_cons x (A ++ (w ∷ [])) e)
-before_last sid (Some body) (x ∷ A) w zero e = absurd (last_one A w (ap tail_words e))
-  where
-    tail_words : List Spoken → List Spoken
-    tail_words [] = []
-    tail_words (y ∷ ys) = ys
-
-    last_one : (xs : List Spoken) (w : Spoken) → xs ++ (w ∷ []) ≡ [] → ⊥
-    last_one [] w e = some_cons w [] e
-    last_one (y ∷ ys) w e = some_cons y (ys ++ (w ∷ [])) e
-before_last sid final (x ∷ A) w (suc k) e = λ i. head_word x (e i) ∷ before_last sid final A w k (ap tail_words e) i
-  where
-    head_word : Spoken → List Spoken → Spoken
-    head_word w [] = w
-    head_word w (y ∷ ys) = y
-
-    tail_words : List Spoken → List Spoken
-    tail_words [] = []
-    tail_words (y ∷ ys) = ys
-
-missed_not : (A : List Spoken) (body : List ℕ) (code : ℕ) → A ++ (Reply body ∷ []) ≡ Unheard code ∷ [] → ⊥
-missed_not [] body code e = false≢true (ap is_unheard (ap (head_word (Reply body)) e))
-  where
-    head_word : Spoken → List Spoken → Spoken
-    head_word w [] = w
-    head_word w (y ∷ ys) = y
-
-    is_unheard : Spoken → Bool
-    is_unheard (Reply b) = false
-    is_unheard (Unheard n) = true
-missed_not (x ∷ A) body code e = last_one A (Reply body) (ap tail_words e)
-  where
-    tail_words : List Spoken → List Spoken
-    tail_words [] = []
-    tail_words (y ∷ ys) = ys
-
-    last_one : (xs : List Spoken) (w : Spoken) → xs ++ (w ∷ []) ≡ [] → ⊥
-    last_one [] w e = some_cons w [] e
-    last_one (y ∷ ys) w e = some_cons y (ys ++ (w ∷ [])) e
-
 no_words : (ws : List Spoken) → length ws ≡ 0 → ws ≡ []
 no_words [] e = refl
 no_words (w ∷ ws) e = absurd (omega (arith, e))
 
-module _ (tester : ℕ) (plan : UnitPlan) (t0 : ℕ) (t : Talk) (l : Link) (first v : Vehicle) (c : IsConnected tester l v.gateway) (none : v.gateway.ready ≡ []) (order : ascends_for tester plan.address v.gateway.tick v.gateway.later ≡ true) where
+module _ (tester : ℕ) (plan : UnitPlan) (found : ℕ → Bool) (t0 : ℕ) (t : Talk) (l : Link) (first v : Vehicle) (c : IsConnected tester l v.gateway) (none : v.gateway.ready ≡ []) (order : ascends_for tester plan.address v.gateway.tick v.gateway.later ≡ true) where
   abbrev a : ℕ
   a = plan.address
 
@@ -335,9 +251,9 @@ module _ (tester : ℕ) (plan : UnitPlan) (t0 : ℕ) (t : Talk) (l : Link) (firs
       }
     ]
 
-    free_tick : IsAwaited tester plan t0 t l first v → IsAwaited tester plan t0 t (quiet_link l) first (ticked v)
+    free_tick : IsAwaited tester plan found t0 t l first v → IsAwaited tester plan found t0 t (quiet_link l) first (ticked v)
     free_tick is = record {
-      awaits = awaits_on plan t _ _ _ _ _ _ _ same (grows.units plan.address) free_way (λ one e. absurd (some_cons one [] (sym e ∙ free_held))) is.awaits;
+      awaits = awaits_on plan found t _ _ _ _ _ _ _ same (grows.units plan.address) free_way (λ one e. absurd (some_cons one [] (sym e ∙ free_held))) is.awaits;
       timed = timed_on tester plan.address (t0 + t.since) (t0 + t.since) l.inbox l.inbox l.rest l.rest v.gateway next _ _ _ (grows.units plan.address) later_on (λ f u w x y z on. inr (free_time (t0 + t.since) on)) is.timed;
     }
 
@@ -464,9 +380,9 @@ module _ (tester : ℕ) (plan : UnitPlan) (t0 : ℕ) (t : Talk) (l : Link) (firs
 
     -- a response pending goes in before the answer
     lone_heard : (f u w : ControlUnit) → unit_at v.units plan.address ≡ Some u → unit_at (ticked v).units plan.address ≡ Some w → Kept f u → SameState u w → Kept u w → is_turn now one ≡ true
-        → IsHeardCounted plan t f (held_of plan.address v.gateway.held) (on_way tester plan.address l.inbox l.rest v.gateway) u → IsHeardCounted plan t f (held_of plan.address next.held) (on_way tester plan.address l.inbox l.rest next) w
+        → IsHeardCounted plan found t f (held_of plan.address v.gateway.held) (on_way tester plan.address l.inbox l.rest v.gateway) u → IsHeardCounted plan found t f (held_of plan.address next.held) (on_way tester plan.address l.inbox l.rest next) w
     lone_heard f u w y z kept same_u grew turn h =
-        let mid = heard_on plan t f _ (held_of plan.address v.gateway.held) _ (on_way tester plan.address l.inbox l.rest v.gateway) u w same_u grew refl (λ x e. e) h in
+        let mid = heard_on plan found t f _ (held_of plan.address v.gateway.held) _ (on_way tester plan.address l.inbox l.rest v.gateway) u w same_u grew refl (λ x e. e) h in
         let before = mid.holding one lone.held in
         let few : t.pendings + mid.pending ≤ one.pending = before.0 in
         let stalled : (one.pending + 1 ≤ 200) ⊎ Rose f.counts.stalled w.counts.stalled = elim before.1 [
@@ -493,7 +409,7 @@ module _ (tester : ℕ) (plan : UnitPlan) (t0 : ℕ) (t : Talk) (l : Link) (firs
         is x e = one_is plan.address next.held _ x (lone_held ∙ (λ i. (if turn i then record one { pending = one.pending + 1 } else one) ∷ [])) e
 
     lone_awaits : (fo uo wo : Option ControlUnit) → unit_at v.units plan.address ≡ uo → unit_at (ticked v).units plan.address ≡ wo → KeptIn fo uo → SameIn uo wo → KeptIn uo wo → is_turn now one ≡ true
-        → IsAwaitCounted plan t (held_of plan.address v.gateway.held) (on_way tester plan.address l.inbox l.rest v.gateway) fo uo → IsAwaitCounted plan t (held_of plan.address next.held) (on_way tester plan.address l.inbox l.rest next) fo wo
+        → IsAwaitCounted plan found t (held_of plan.address v.gateway.held) (on_way tester plan.address l.inbox l.rest v.gateway) fo uo → IsAwaitCounted plan found t (held_of plan.address next.held) (on_way tester plan.address l.inbox l.rest next) fo wo
     lone_awaits None None wo y z kept s k turn is = absurd (missed_not A one.body 3 (sym ways.1 ∙ is))
     lone_awaits None (Some u) wo y z kept s k turn is = absurd is
     lone_awaits (Some f) None wo y z kept s k turn is = absurd is
@@ -501,11 +417,11 @@ module _ (tester : ℕ) (plan : UnitPlan) (t0 : ℕ) (t : Talk) (l : Link) (firs
     lone_awaits (Some f) (Some u) (Some w) y z kept s k turn (inl m) = absurd (missed_not A one.body m.code (sym ways.1 ∙ m.on_way))
     lone_awaits (Some f) (Some u) (Some w) y z kept s k turn (inr h) = inr (lone_heard f u w y z kept s k turn h)
 
-    lone_tick : KeptIn (unit_at first.units plan.address) (unit_at v.units plan.address) → IsAwaited tester plan t0 t l first v → IsAwaited tester plan t0 t (quiet_link l) first (ticked v)
+    lone_tick : KeptIn (unit_at first.units plan.address) (unit_at v.units plan.address) → IsAwaited tester plan found t0 t l first v → IsAwaited tester plan found t0 t (quiet_link l) first (ticked v)
     lone_tick kept is = record {
       awaits = elim (cases_Bool (is_turn now one)) [
         | inl e ↦ lone_awaits _ _ _ refl refl kept same (grows.units plan.address) e is.awaits
-        | inr e ↦ awaits_on plan t _ _ _ _ _ _ _ same (grows.units plan.address) (ways.0 ∙ (λ i. A ++ ((if e i then Reply (pending_bytes one.sid) ∷ [] else []) ++ (Reply one.body ∷ []))) ∙ sym ways.1)
+        | inr e ↦ awaits_on plan found t _ _ _ _ _ _ _ same (grows.units plan.address) (ways.0 ∙ (λ i. A ++ ((if e i then Reply (pending_bytes one.sid) ∷ [] else []) ++ (Reply one.body ∷ []))) ∙ sym ways.1)
             (λ x h. lone.held ∙ sym (lone_held ∙ (λ i. (if e i then record one { pending = one.pending + 1 } else one) ∷ [])) ∙ h) is.awaits
       ];
       timed = timed_on tester plan.address (t0 + t.since) (t0 + t.since) l.inbox l.inbox l.rest l.rest v.gateway next _ _ _ (grows.units plan.address) later_on
@@ -515,7 +431,7 @@ module _ (tester : ℕ) (plan : UnitPlan) (t0 : ℕ) (t : Talk) (l : Link) (firs
         kept_some : {f u : ControlUnit} → unit_at first.units plan.address ≡ Some f → unit_at v.units plan.address ≡ Some u → Kept f u
         kept_some {f} {u} x y = subst (λ (o : Option ControlUnit × Option ControlUnit). KeptIn o.0 o.1) (λ i. (x i, y i)) kept
 
-  pub tick_awaited : tester_of v.gateway ≡ tester → HoldsAtMost tester plan.address (sid_of (bytes_at plan t.place)) v.gateway → KeptIn (unit_at first.units plan.address) (unit_at v.units plan.address) → IsAwaited tester plan t0 t l first v
-      → IsAwaited tester plan t0 t (quiet_link l) first (ticked v)
+  pub tick_awaited : tester_of v.gateway ≡ tester → HoldsAtMost tester plan.address (sid_of (bytes_at plan t.place)) v.gateway → KeptIn (unit_at first.units plan.address) (unit_at v.units plan.address) → IsAwaited tester plan found t0 t l first v
+      → IsAwaited tester plan found t0 t (quiet_link l) first (ticked v)
   tick_awaited is (inl empty) kept a = free_tick empty a
   tick_awaited is (inr lone) kept a = lone_tick is lone kept a

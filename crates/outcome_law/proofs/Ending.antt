@@ -12,15 +12,15 @@ use Rattle.flash_plan.specs.declared.outcome.Outcome.TheVariants.{Complete, Iden
 use Rattle.flash_plan.specs.declared.unit.LinkRules.{LinkRules}
 use Rattle.flash_plan.specs.declared.unit.UnitPlan.{UnitPlan}
 use Rattle.run_model.specs.Link.{Link, Phase, Down, Fresh, Waits, Up, Denied}
-use Rattle.run_model.specs.Script.{Place, AtIdent, AtBegin, AtProgram, AtSeed, AtKey, AtErase, AtDownload, AtBlock, AtExit, AtCheck, AtFinish, AtReset, AtDone, AtEnd}
+use Rattle.run_model.specs.Script.{Place, AtIdent, AtBegin, AtProgram, AtSeed, AtKey, AtErase, AtDownload, AtBlock, AtExit, AtCheck, AtMark, AtFinish, AtReset, AtDone, AtEnd}
 use Rattle.run_model.specs.Talk.{Talk, talk_lost, keeps_on_loss}
 use Rattle.unit_model.specs.Vehicle.{Vehicle}
-use Rattle.bay_core.proofs.Allowed.{sent_facts, collected_facts, begin_facts, finish_facts, claim_facts, open_none}
+use Rattle.bay_core.proofs.Allowed.{sent_facts, collected_facts, begin_facts, mark_facts, finish_facts, claim_facts, open_none}
 use Rattle.bay_core.proofs.Links.{Steps}
 use Rattle.bay_core.specs.Core.{Slot, Core, core_after, with_slot, with_talk, slots_own, recorded_after, link_after, stop_after, refused_stop, is_disk_failure}
-use Rattle.bay_core.specs.Legal.{is_allowed, is_end, is_stop, is_memory, is_blocked, is_blocker, may_record}
+use Rattle.bay_core.specs.Legal.{is_allowed, is_end, is_stop, is_memory, is_blocked, is_blocker, may_record, without_failures}
 use Rattle.bay_core.specs.declared.event.Event.{Event}
-use Rattle.bay_core.specs.declared.event.Event.TheVariants.{Claimed, Began, Sent, Collected, Tended, Completed, DiskFailed, Ended}
+use Rattle.bay_core.specs.declared.event.Event.TheVariants.{Claimed, Began, Sent, Collected, Tended, Marked, Completed, DiskFailed, Ended}
 use Rattle.outcome_law.proofs.Growing.{VehicleGrows, rose_then}
 use Rattle.outcome_law.specs.LinkCounting.{IsPhaseCounted, IsLinkCounted}
 use Rattle.outcome_law.specs.OutcomeCounting.{Rests, IsStopCounted, StopCounted}
@@ -59,6 +59,7 @@ end_is (AtDownload c) o e = absurd (false≢true e)
 end_is (AtBlock c b) o e = absurd (false≢true e)
 end_is (AtExit c) o e = absurd (false≢true e)
 end_is (AtCheck c) o e = absurd (false≢true e)
+end_is (AtMark c) o e = absurd (false≢true e)
 end_is AtFinish o e = absurd (false≢true e)
 end_is AtReset o e = absurd (false≢true e)
 end_is AtDone o e = absurd (false≢true e)
@@ -157,6 +158,7 @@ more_recorded (Began u) records x is = or_right _ (records x) is
 more_recorded (Sent u place lost) records x is = is
 more_recorded (Collected u h) records x is = is
 more_recorded (Tended step) records x is = is
+more_recorded (Marked u s) records x is = or_right _ (records x) is
 more_recorded (Completed u) records x is = or_right _ (records x) is
 more_recorded (DiskFailed u entry) records x is = is
 more_recorded (Ended u why) records x is = is
@@ -204,6 +206,7 @@ module _ (rules : LinkRules) (P : List UnitPlan) (c : Core) (accepted : IsAccept
   own_outcome (Sent u place lost) n some = own_some u n _ (λ x. x) some
   own_outcome (Collected u h) n some = own_some u n _ (λ x. x) some
   own_outcome (Tended step) n some = some
+  own_outcome (Marked u s) n some = own_some u n _ (λ x. x) some
   own_outcome (Completed u) n some = own_some u n _ (λ x. refl) some
   own_outcome (DiskFailed u entry) n some = own_some u n _ (λ x. x) some
   own_outcome (Ended u why) n some = own_some u n _ (λ x. refl) some
@@ -215,6 +218,7 @@ module _ (rules : LinkRules) (P : List UnitPlan) (c : Core) (accepted : IsAccept
   complete_same (Sent u place lost) ok n some = refl
   complete_same (Collected u h) ok n some = refl
   complete_same (Tended step) ok n some = refl
+  complete_same (Marked u s) ok n some = refl
   complete_same (DiskFailed u entry) ok n some = refl
   complete_same (Ended u why) ok n some = refl
   complete_same (Completed u) ok n some = elim (cases_Bool (n == u)) [
@@ -226,7 +230,7 @@ module _ (rules : LinkRules) (P : List UnitPlan) (c : Core) (accepted : IsAccept
   rest_on : (e : Event) → is_allowed P c e ≡ true → (n : ℕ) (o : Outcome) → ((c.slots n).talk.place ≡ AtEnd o → (slots_own rules P e c n).talk.place ≡ AtEnd o) → ((c.slots n).faulted ≡ true → (slots_own rules P e c n).faulted ≡ true) → Rests P c n o → Rests P (core_after rules P e c) n o
   rest_on e ok n o place fault (inl at) = inl (end_after rules P c accepted e ok n o (place at))
   rest_on e ok n o place fault (inr (inl (f, is))) = inr (inl (same_fault_after rules P c accepted e ok n ∙ fault f, is))
-  rest_on e ok n o place fault (inr (inr (inl stop))) = inr (inr (inl (stop_stays c.stop o e rules (link_after rules P e c.link) stop)))
+  rest_on e ok n o place fault (inr (inr (inl stop))) = inr (inr (inl (stop_stays c.halt.stop o e rules (link_after rules P e c.link) stop)))
   rest_on e ok n o place fault (inr (inr (inr (inl none)))) = inr (inr (inr (inl none)))
   rest_on e ok n o place fault (inr (inr (inr (inr (inl (by, is, b)))))) = inr (inr (inr (inr (inl (
     by,
@@ -254,8 +258,9 @@ module _ (rules : LinkRules) (P : List UnitPlan) (c : Core) (accepted : IsAccept
   ]
 
   record_none : (u : ℕ) (x : Entry) → may_record P c u x ≡ true → (c.slots u).outcome ≡ None
-  record_none u (entry.Begun w) ok = open_none P c u (begin_facts P c u (and_parts _ _ ok).1).opened
-  record_none u (entry.Complete w) ok = open_none P c u (finish_facts P c u (and_parts _ _ ok).1).opened
+  record_none u (entry.Begun w) ok = open_none P c u (begin_facts P (without_failures c) u (and_parts _ _ ok).1).opened
+  record_none u (entry.Marked w s) ok = open_none P c u (mark_facts P (without_failures c) u s (and_parts _ _ ok).1).opened
+  record_none u (entry.Complete w) ok = open_none P c u (finish_facts P (without_failures c) u (and_parts _ _ ok).1).opened
 
   ended_rests : (u : ℕ) (why : Outcome) → u < count_of P → is_allowed P c (Ended u why) ≡ true → Rests P c u why
   ended_rests u why lt ok = elim (or_cases _ _ (and_parts _ _ ok).1) [
@@ -269,9 +274,9 @@ module _ (rules : LinkRules) (P : List UnitPlan) (c : Core) (accepted : IsAccept
     ]
   ]
     where
-      stopped : (f : Bool) → (c.slots u).faulted ≡ f → (if f then same_outcome DiskFault why else is_stop c.stop why) ≡ true → Rests P c u why
+      stopped : (f : Bool) → (c.slots u).faulted ≡ f → (if f then same_outcome DiskFault why else is_stop c.halt.stop why) ≡ true → Rests P c u why
       stopped true f e = inr (inl (f, sym (same_is DiskFault why e)))
-      stopped false f e = inr (inr (inl (stop_is c.stop why e)))
+      stopped false f e = inr (inr (inl (stop_is c.halt.stop why e)))
 
   pub rests_step : (e : Event) → is_allowed P c e ≡ true → (n : ℕ) (o : Outcome) → n < count_of P → ((core_after rules P e c).slots n).outcome ≡ Some o → ((c.slots n).outcome ≡ Some o → Rests P c n o) → Rests P (core_after rules P e c) n o
   rests_step (Claimed u) ok n o lt at old = by_none (Claimed u) ok u n _ o refl refl (claim_facts P c u (and_parts _ _ (and_parts _ _ ok).0).1).none at old
@@ -279,6 +284,7 @@ module _ (rules : LinkRules) (P : List UnitPlan) (c : Core) (accepted : IsAccept
   rests_step (Sent u place lost) ok n o lt at old = by_none (Sent u place lost) ok u n _ o refl refl (sent_facts P c u place lost ok).none at old
   rests_step (Collected u h) ok n o lt at old = by_none (Collected u h) ok u n _ o refl refl (collected_facts P c u h ok).none at old
   rests_step (Tended step) ok n o lt at old = rest_on (Tended step) ok n o (λ p. p) (λ f. f) (old (sym (same_outcome_after rules P c accepted (Tended step) ok n) ∙ at))
+  rests_step (Marked u s) ok n o lt at old = by_none (Marked u s) ok u n _ o refl refl (open_none P c u (mark_facts P c u s ok).opened) at old
   rests_step (DiskFailed u x) ok n o lt at old = by_none (DiskFailed u x) ok u n _ o refl refl (record_none u x ok) at old
   rests_step (Completed u) ok n o lt at old = elim (cases_Bool (n == u)) [
     | inl e ↦
@@ -313,6 +319,7 @@ module _ (rules : LinkRules) (P : List UnitPlan) (c : Core) (accepted : IsAccept
   fault_own (Sent u place lost) n f = inl (sym (own_fault u n _ refl) ∙ f)
   fault_own (Collected u h) n f = inl (sym (own_fault u n _ refl) ∙ f)
   fault_own (Tended step) n f = inl f
+  fault_own (Marked u s) n f = inl (sym (own_fault u n _ refl) ∙ f)
   fault_own (Completed u) n f = inl (sym (own_fault u n _ refl) ∙ f)
   fault_own (DiskFailed u entry) n f = inr refl
   fault_own (Ended u why) n f = inl (sym (own_fault u n _ refl) ∙ f)

@@ -1,4 +1,5 @@
--- What an obedient unit answers at each place of the script: well, or as the table of unfit units says.
+-- What an obedient unit answers at each place of the script: well, or as the table of unfit units says, or that the whole check
+-- found nothing.
 use Rattle.std.proofs.Common.{◌≡◌, ◌⊎◌, inl, inr, ℕ, zero, suc, ◌+◌, ◌-◌, ◌/◌, ◌%◌, ◌^◌, ◌<◌, ◌≤◌, true, false, List, [], ◌∷◌, ◌++◌, length, Some, None, refl, sym, ◌∙◌, ap, subst, arith, length-take}
 use Rattle.std.specs.Prelude.{Bool, Option, ◌==◌, ◌&&◌, ◌||◌, not, is_some, nat_lt, nat_le, min, replicate, if◌then◌else◌, Contains, slice_index_or, unwrap_or}
 use Rattle.std.proofs.lemmas.Bool.{cases_Bool, both_ways, and_from, and_parts, eqb-true, eq-eqb, ne_eqb, le-ltb, ltb-true, cases_lt, false≢true}
@@ -23,14 +24,14 @@ use Rattle.uds_codec.specs.Key.{key_of, level_of, all_zero}
 use Rattle.uds_codec.specs.Request.{Range, range_of, request_of, sid_of}
 use Rattle.uds_codec.specs.declared.request.Request.{Request}
 use Rattle.uds_codec.specs.declared.request.Request.TheVariants.{Session, Reset, ReadId, Seed, Key, Routine, Download, Transfer, Exit}
-use Rattle.unit_model.specs.Unit.{ControlUnit, OpenTransfer, obey, obey_in, obedient, answer, refuse, programming, has_key, has_level, is_locked, ident_of, read_in, key_in, give_seed, seed_given, erase_in, erased, check_in, finish_in, downloading, block_bytes, receive_in, written, exit_in, in_session, next_counter}
+use Rattle.unit_model.specs.Unit.{ControlUnit, OpenTransfer, obey, obey_in, obedient, answer, refuse, programming, has_key, has_level, is_locked, ident_of, read_in, key_in, give_seed, seed_given, erase_in, erased, check_in, finish_in, downloading, block_bytes, block_number, receive_in, is_repeat, written, exit_in, in_session, next_counter}
 use Rattle.run_model.proofs.Along.{says}
 use Rattle.run_model.proofs.Ranges.{cursor_reads, each_at}
 use Rattle.run_model.specs.Places.{IsPlace, IsAsked, IsCursor, IsBlocks, needs_request}
-use Rattle.run_model.specs.Script.{Cursor, Blocks, Place, AtIdent, AtBegin, AtProgram, AtSeed, AtKey, AtErase, AtDownload, AtBlock, AtExit, AtCheck, AtFinish, AtReset, AtDone, AtEnd, bytes_at, range_record, block_of, is_empty, place_next, after_block, more_blocks, segments_from, idents_from, after_program, has_value}
-use Rattle.run_model.specs.Sound.{HoldsBytes, HasSegment, has_range}
+use Rattle.run_model.specs.Script.{Cursor, Blocks, Place, AtIdent, AtBegin, AtProgram, AtSeed, AtKey, AtErase, AtDownload, AtBlock, AtExit, AtCheck, AtMark, AtFinish, AtReset, AtDone, AtEnd, bytes_at, routine_at, range_record, block_of, is_empty, place_next, after_block, more_blocks, segments_from, idents_from, after_program, has_value}
+use Rattle.run_model.specs.Sound.{HoldsBytes}
 use Rattle.run_model.specs.States.{StateAt, HasRoom, Opened}
-use Rattle.outcome_law.specs.Causes.{Unfit, lacks_ident, lacks_level, other_key, stays_locked, lacks_room, other_check, odd_seed, odd_block, OtherIdent}
+use Rattle.outcome_law.specs.Causes.{Unfit, lacks_ident, lacks_level, other_key, stays_locked, lacks_room, other_check, odd_seed, odd_block, OtherIdent, HasNoneChecked}
 use Rattle.outcome_law.proofs.Growing.{fill_domain}
 use Rattle.outcome_law.specs.Counting.{SameMake, Takes, IsIdentPlace}
 
@@ -83,16 +84,27 @@ abbrev pub IsFairEnd : UnitPlan → Bool → ControlUnit → Place → Type 0
 IsFairEnd plan begun first (AtEnd outcome) = IsOther plan begun first outcome
 IsFairEnd plan begun first place = Unit {0}
 
-abbrev pub IsFairNext : UnitPlan → Bool → ControlUnit → ControlUnit → Place → Type 0
-IsFairNext plan begun first w place = IsFairEnd plan begun first place × Takes place w × IsIdentPlace plan begun place
+-- what the place asks of the unit, but for the whole check, which rests on every segment
+abbrev pub TakesOn : Place → ControlUnit → Type 0
+TakesOn (AtDownload c) u = (is_locked u ≡ false) × HasRoom c.now u
+TakesOn (AtBlock c b) u = b.limit ≤ u.block
+TakesOn place u = Unit {0}
 
-abbrev pub IsFair : UnitPlan → Bool → ControlUnit → Place → ControlUnit → Verdict → Type 0
-IsFair plan begun first place w Later = ⊥
-IsFair plan begun first place w Again = ⊥
-IsFair plan begun first place w (Refusal nrc) = Unfit plan begun first (Refused (sid_of (bytes_at plan place)) nrc)
-IsFair plan begun first place w (Good rest) = IsFairNext plan begun first w (place_next plan place rest)
-IsFair plan begun first place w (Bad_status status) = ⊥
-IsFair plan begun first place w Strange = Unfit plan begun first (BadAnswer (sid_of (bytes_at plan place)))
+abbrev pub IsFairNext : UnitPlan → Bool → ControlUnit → ControlUnit → Place → Type 0
+IsFairNext plan begun first w place = IsFairEnd plan begun first place × TakesOn place w × IsIdentPlace plan begun place
+
+-- a whole check that found nothing
+abbrev pub IsFairStatus : UnitPlan → (ℕ → Bool) → ControlUnit → Place → Type 0
+IsFairStatus plan found first place = ((routine_at plan place).0 ≡ 65281) × HasNoneChecked plan found first
+
+-- found: the segments that were found marked; skipped: those that are left out now
+abbrev pub IsFair : UnitPlan → Bool → (ℕ → Bool) → (ℕ → Bool) → ControlUnit → Place → ControlUnit → Verdict → Type 0
+IsFair plan begun found skipped first place w Later = ⊥
+IsFair plan begun found skipped first place w Again = ⊥
+IsFair plan begun found skipped first place w (Refusal nrc) = Unfit plan begun first (Refused (sid_of (bytes_at plan place)) nrc)
+IsFair plan begun found skipped first place w (Good rest) = IsFairNext plan begun first w (place_next plan skipped place rest)
+IsFair plan begun found skipped first place w (Bad_status status) = IsFairStatus plan found first place
+IsFair plan begun found skipped first place w Strange = Unfit plan begun first (BadAnswer (sid_of (bytes_at plan place)))
 
 level_not : (rule : KeyRule) (level : ℕ) → has_level rule level ≡ false → level_of rule ≡ Some level → ⊥
 level_not Free level e is = false≢true (ap (is_some {T = ℕ}) is)
@@ -116,9 +128,9 @@ replicate_length : (n x : ℕ) → length (replicate n x) ≡ n
 replicate_length zero x = refl
 replicate_length (suc n) x = ap suc (replicate_length n x)
 
-module _ (plan : UnitPlan) (ok : IsAcceptedUnit plan) (begun : Bool) (first u : ControlUnit) (make : SameMake first u) where
+module _ (plan : UnitPlan) (ok : IsAcceptedUnit plan) (begun : Bool) (found skipped : ℕ → Bool) (first u : ControlUnit) (make : SameMake first u) where
   abbrev Fair : Place → ControlUnit × List ℕ → Type 0
-  Fair place step = IsFair plan begun first place step.0 (judge (bytes_at plan place) step.1)
+  Fair place step = IsFair plan begun found skipped first place step.0 (judge (bytes_at plan place) step.1)
 
   by : (place : Place) (r : Request) → request_of (bytes_at plan place) ≡ Some r → Fair place (obey u r) → Fair place (obedient u (bytes_at plan place))
   by place r reads f = subst (λ (o : Option Request). Fair place (obey_in u (sid_of (bytes_at plan place)) o)) (sym reads) f
@@ -131,8 +143,8 @@ module _ (plan : UnitPlan) (ok : IsAcceptedUnit plan) (begun : Bool) (first u : 
   programs place sid step is f = let e : (u.session == 2) ≡ true = eq-eqb u.session 2 is in rw e f
 
   good : (place : Place) (r : Request) (w : ControlUnit) (x : ℕ) (rest : List ℕ) → request_of (bytes_at plan place) ≡ Some r → (x == 127) ≡ false → (x == sid_of (bytes_at plan place) + 64) ≡ true
-      → IsFair plan begun first place w (form_of r rest) → Fair place (w, x ∷ rest)
-  good place r w x rest reads a b f = subst (λ (v : Verdict). IsFair plan begun first place w v) (sym is) f
+      → IsFair plan begun found skipped first place w (form_of r rest) → Fair place (w, x ∷ rest)
+  good place r w x rest reads a b f = subst (λ (v : Verdict). IsFair plan begun found skipped first place w v) (sym is) f
     where
       is : judge (bytes_at plan place) (x ∷ rest) ≡ form_of r rest
       is = rw (a, b) (ap (λ (o : Option Request). form_in o rest) reads)
@@ -142,11 +154,11 @@ module _ (plan : UnitPlan) (ok : IsAcceptedUnit plan) (begun : Bool) (first u : 
   idents_on seen [] w fresh is = (tt, tt, tt)
   idents_on seen (x ∷ xs) w fresh is = (tt, tt, (fresh, (seen, is)))
 
-  segments_on : (done left : List Segment) (w : ControlUnit) → IsFairNext plan begun first w (segments_from done left)
+  segments_on : (done left : List Segment) (w : ControlUnit) → IsFairNext plan begun first w (segments_from skipped done left)
   segments_on done [] w = (tt, tt, tt)
-  segments_on done (s ∷ ss) w = (tt, tt, tt)
+  segments_on done (s ∷ ss) w = elim (cases_Bool (skipped (length done))) [ inl e ↦ rw e (segments_on (done ++ (s ∷ [])) ss w) | inr e ↦ rw e (tt, tt, tt) ]
 
-  program_on : (rule : KeyRule) (w : ControlUnit) → IsFairNext plan begun first w (after_program plan rule)
+  program_on : (rule : KeyRule) (w : ControlUnit) → IsFairNext plan begun first w (after_program plan skipped rule)
   program_on Free w = segments_on [] plan.segments w
   program_on (Xor level mask) w = (tt, tt, tt)
   program_on (Digest level size secret) w = (tt, tt, tt)
@@ -218,10 +230,10 @@ module _ (plan : UnitPlan) (ok : IsAcceptedUnit plan) (begun : Bool) (first u : 
       size : length (seed_given u) ≡ length first.seed
       size = elim (cases_Bool u.unlocked) [ inl e ↦ rw e (replicate_length (length u.seed) 0 ∙ ap (λ (xs : List ℕ). length xs) make.seed) | inr e ↦ rw e (ap (λ (xs : List ℕ). length xs) make.seed) ]
 
-      keyed : (rest : List ℕ) (w : ControlUnit) → IsFairNext plan begun first w (if all_zero rest then segments_from [] plan.segments else AtKey level rest)
+      keyed : (rest : List ℕ) (w : ControlUnit) → IsFairNext plan begun first w (if all_zero rest then segments_from skipped [] plan.segments else AtKey level rest)
       keyed rest w = elim (cases_Bool (all_zero rest)) [ inl e ↦ rw e (segments_on [] plan.segments w) | inr e ↦ rw e (tt, tt, tt) ]
 
-      formed : (w : ControlUnit) (seed : List ℕ) → length seed ≡ length first.seed → IsFair plan begun first (AtSeed level) w (seed_form seed)
+      formed : (w : ControlUnit) (seed : List ℕ) → length seed ≡ length first.seed → IsFair plan begun found skipped first (AtSeed level) w (seed_form seed)
       formed w seed same = elim (cases_Bool (nat_le 1 (length seed) && nat_le (length seed) 32)) [
         | inl e ↦ rw e (keyed seed w)
         | inr e ↦ rw e (odd_seed (go (cases_Bool (nat_le 1 (length seed))) e))
@@ -261,8 +273,8 @@ module _ (plan : UnitPlan) (ok : IsAcceptedUnit plan) (begun : Bool) (first u : 
           (λ q. both_ways _ f (ap (λ (k : KeyRule). same_bytes (key_of plan.key seed) (key_of k seed)) (make.key ∙ q) ∙ same_self (key_of plan.key seed)))))
 
   erase_fair : (c : Cursor) → IsCursor plan c → StateAt plan (AtErase c) u → Fair (AtErase c) (obedient u (bytes_at plan (AtErase c)))
-  erase_fair c is state = by (AtErase c) (Routine 65280 (range_record plan c.now)) reads (programs (AtErase c) 49 _ state.0.0
-      (pick (AtErase c) (is_locked u) (refuse u 49 51) (erase_in u (range_of (range_record plan c.now))) (locked_why state.0)
+  erase_fair c is state = by (AtErase c) (Routine 65280 (range_record plan c.now)) reads (programs (AtErase c) 49 _ state.0
+      (pick (AtErase c) (is_locked u) (refuse u 49 51) (erase_in u (range_of (range_record plan c.now))) (locked_why state)
       (λ open_u. subst (λ (o : Option Range). Fair (AtErase c) (erase_in u o)) (sym range) (at open_u))))
     where
       reads : request_of (bytes_at plan (AtErase c)) ≡ Some (Routine 65280 (range_record plan c.now))
@@ -283,44 +295,43 @@ module _ (plan : UnitPlan) (ok : IsAcceptedUnit plan) (begun : Bool) (first u : 
   abbrev block_verdict : ℕ → Verdict
   block_verdict n = block_form (block_bytes n)
 
-  abbrev Said : Cursor → ControlUnit → ℕ → Verdict → Type 0
-  Said c w n v = IsFair plan begun first (AtDownload c) w v
-
-  in_bytes : (c : Cursor) (w : ControlUnit) (n : ℕ) (bytes : List ℕ) (number : ℕ) → first.block ≡ n → w.block ≡ n → number ≡ number_of bytes → number ≤ n → ((number < 3) → (n < 3) ⊎ (2 ^ 32 ≤ n))
-      → IsFair plan begun first (AtDownload c) w (if nat_le 3 (number_of bytes) then Good bytes else Strange)
-  in_bytes c w n bytes number is block said few low = elim (cases_Bool (nat_le 3 (number_of bytes))) [
+  -- m: what the bytes say, of a unit with block number n
+  in_bytes : (c : Cursor) (w : ControlUnit) (n m : ℕ) (bytes : List ℕ) → first.block ≡ n → w.block ≡ n → number_of bytes ≡ m → m ≤ n → (m < 3 → n < 3)
+      → IsFair plan begun found skipped first (AtDownload c) w (if nat_le 3 (number_of bytes) then Good bytes else Strange)
+  in_bytes c w n m bytes is block said few low = elim (cases_Bool (nat_le 3 (number_of bytes))) [
     | inl e ↦ rw e (blocks_on c (record { sent = []; rest = c.now.body; counter = 1; limit = min (number_of bytes) 65535 }) w (omega (arith, said, few, block)))
     | inr e ↦ rw e (odd_block (
         let under : number_of bytes < 3 = below 3 (number_of bytes) e in
-        elim (low (omega (arith, said, under))) [ inl a ↦ inl (omega (arith, a, is)) | inr a ↦ inr (omega (arith, a, is)) ]))
+        let lt : n < 3 = low (omega (arith, said, under)) in
+        omega (arith, lt, is)))
   ]
     where
       below : (a b : ℕ) → nat_le a b ≡ false → b < a
       below a b e = grind (arith, e)
 
-  block_fair : (c : Cursor) (w : ControlUnit) (n : ℕ) → first.block ≡ n → w.block ≡ n → IsFair plan begun first (AtDownload c) w (block_verdict n)
-  block_fair c w n is block = elim (cases_Bool (nat_lt n 256)) [
-    | inl e ↦ (let lt : n < 256 = ltb-true n 256 e in rw e (in_bytes c w n (big_endian 1 n) n is block (sym (big_number 1 n (omega (arith, lt)))) (omega arith) (λ a. inl a)))
-    | inr e ↦ elim (cases_Bool (nat_lt n 65536)) [
-      | inl f ↦ (let lt : n < 65536 = ltb-true n 65536 f in rw (e, f) (in_bytes c w n (big_endian 2 n) n is block (sym (big_number 2 n (omega (arith, lt)))) (omega arith) (λ a. inl a)))
-      | inr f ↦ elim (cases_Bool (nat_lt n 16777216)) [
-        | inl g ↦ (let lt : n < 16777216 = ltb-true n 16777216 g in rw (e, f, g) (in_bytes c w n (big_endian 3 n) n is block (sym (big_number 3 n (omega (arith, lt)))) (omega arith) (λ a. inl a)))
-        | inr g ↦ rw (e, f, g) (elim (cases_lt n 4294967296) [
-          | inl lt ↦ in_bytes c w n (big_endian 4 n) n is block (sym (big_number 4 n (omega (arith, lt)))) (omega arith) (λ a. inl a)
-          | inr ge ↦ in_bytes c w n (big_endian 4 n) (number_of (big_endian 4 n)) is block refl (let few : number_of (big_endian 4 n) ≤ 4294967295 = four (n / 256 / 256 / 256 % 256) (n / 256 / 256 % 256) (n / 256 % 256) (n % 256) (omega arith) (omega arith) (omega arith) (omega arith) in omega (arith, few, ge)) (λ a. inr (omega (arith, ge)))
-        ])
+  block_fair : (c : Cursor) (w : ControlUnit) (n m : ℕ) → first.block ≡ n → w.block ≡ n → m ≡ min n 4294967295 → IsFair plan begun found skipped first (AtDownload c) w (block_verdict m)
+  block_fair c w n m is block said = elim (cases_Bool (nat_lt m 256)) [
+    | inl e ↦ (let lt : m < 256 = ltb-true m 256 e in rw e (in_bytes c w n m (big_endian 1 m) is block (big_number 1 m (omega (arith, lt))) few low))
+    | inr e ↦ elim (cases_Bool (nat_lt m 65536)) [
+      | inl f ↦ (let lt : m < 65536 = ltb-true m 65536 f in rw (e, f) (in_bytes c w n m (big_endian 2 m) is block (big_number 2 m (omega (arith, lt))) few low))
+      | inr f ↦ elim (cases_Bool (nat_lt m 16777216)) [
+        | inl g ↦ (let lt : m < 16777216 = ltb-true m 16777216 g in rw (e, f, g) (in_bytes c w n m (big_endian 3 m) is block (big_number 3 m (omega (arith, lt))) few low))
+        | inr g ↦ rw (e, f, g) (in_bytes c w n m (big_endian 4 m) is block (big_number 4 m (omega (arith, said))) few low)
       ]
     ]
   ]
     where
-      four : (a b c d : ℕ) → a < 256 → b < 256 → c < 256 → d < 256 → number_of (a ∷ b ∷ c ∷ d ∷ []) ≤ 4294967295
-      four a b c d la lb lc ld = omega (arith, la, lb, lc, ld)
+      few : m ≤ n
+      few = omega (arith, said)
 
-  download_fair : (c : Cursor) → IsCursor plan c → StateAt plan (AtDownload c) u → Takes (AtDownload c) u → Fair (AtDownload c) (obedient u (bytes_at plan (AtDownload c)))
-  download_fair c is state takes = by (AtDownload c) (Download plan.width c.now.at (length c.now.body)) reads (programs (AtDownload c) 52 _ state.0.0
+      low : m < 3 → n < 3
+      low lt = omega (arith, said, lt)
+
+  download_fair : (c : Cursor) → IsCursor plan c → StateAt plan (AtDownload c) u → TakesOn (AtDownload c) u → Fair (AtDownload c) (obedient u (bytes_at plan (AtDownload c)))
+  download_fair c is state takes = by (AtDownload c) (Download plan.width c.now.at (length c.now.body)) reads (programs (AtDownload c) 52 _ state.0
       (let shut = takes.0 in let room = room_held c.now.at (length c.now.body) u.memory takes.1 in rw (shut, room)
-      (good (AtDownload c) (Download plan.width c.now.at (length c.now.body)) (downloading u c.now.at (length c.now.body)) 116 (block_bytes u.block) reads refl refl
-      (block_fair c (downloading u c.now.at (length c.now.body)) u.block (sym make.block) refl))))
+      (good (AtDownload c) (Download plan.width c.now.at (length c.now.body)) (downloading u c.now.at (length c.now.body)) 116 (block_bytes (block_number u)) reads refl refl
+      (block_fair c (downloading u c.now.at (length c.now.body)) u.block (block_number u) (sym make.block) refl refl))))
     where
       reads : request_of (bytes_at plan (AtDownload c)) ≡ Some (Download plan.width c.now.at (length c.now.body))
       reads = (says plan (AtDownload c) ok is tt refl).reads
@@ -331,24 +342,27 @@ module _ (plan : UnitPlan) (ok : IsAcceptedUnit plan) (begun : Bool) (first u : 
     | inr e ↦ rw e (ne_eqb (n + 1) n (λ q. omega (arith, q)))
   ]
 
-  taking : (t : OpenTransfer) (counter : ℕ) (body : List ℕ) → t.counter ≡ counter → length body + 2 ≤ u.block → length body ≤ t.rest → receive_in u (Some t) counter body ≡ (written u t body, 118 ∷ counter ∷ [])
-  taking t counter body same few fits =
-      let a : (t.taken && next_counter counter == t.counter) ≡ false = (λ i. t.taken && next_counter counter == same i) ∙ (λ i. t.taken && counter_moves counter i) ∙ never t.taken in
+  taking : (t : OpenTransfer) (counter : ℕ) (body : List ℕ) → t.up ≡ false → t.counter ≡ counter → length body + 2 ≤ block_number u → length body ≤ t.rest → receive_in u (Some t) counter body ≡ (written u t body, 118 ∷ counter ∷ [])
+  taking t counter body down same few fits =
+      let a : is_repeat t counter ≡ false = (λ i. is_some t.last && next_counter counter == same i) ∙ (λ i. is_some t.last && counter_moves counter i) ∙ never (is_some t.last) in
       let b : (counter == t.counter) ≡ true = eq-eqb counter t.counter (sym same) in
-      let c : nat_lt u.block (length body + 2) ≡ false = le-ltb _ _ few in
+      let c : nat_lt (block_number u) (length body + 2) ≡ false = le-ltb _ _ few in
       let d : nat_lt t.rest (length body) ≡ false = le-ltb _ _ fits in
-      rw (a, b, c, d) refl
+      rw (down, a, b, c, d) refl
     where
       never : (x : Bool) → (x && false) ≡ false
       never true = refl
       never false = refl
 
-  transfer_fair : (c : Cursor) (b : Blocks) → IsCursor plan c × IsBlocks c b → IsAsked plan (AtBlock c b) → StateAt plan (AtBlock c b) u → Takes (AtBlock c b) u → Fair (AtBlock c b) (obedient u (bytes_at plan (AtBlock c b)))
+  abbrev transfer_at : Cursor → Blocks → Option ℕ → OpenTransfer
+  transfer_at c b last = record { up = false; at = c.now.at + length b.sent; rest = length b.rest; counter = b.counter; last = last }
+
+  transfer_fair : (c : Cursor) (b : Blocks) → IsCursor plan c × IsBlocks c b → IsAsked plan (AtBlock c b) → StateAt plan (AtBlock c b) u → TakesOn (AtBlock c b) u → Fair (AtBlock c b) (obedient u (bytes_at plan (AtBlock c b)))
   transfer_fair c b is asked state takes = by (AtBlock c b) (Transfer b.counter (block_of b)) reads (programs (AtBlock c b) 54 _ state.0.0
       (subst (λ (x : ControlUnit × List ℕ). Fair (AtBlock c b) x) (sym step)
-      (good (AtBlock c b) (Transfer b.counter (block_of b)) (written u (record { at = c.now.at + length b.sent; rest = length b.rest; counter = b.counter; taken = not (is_empty b.sent) }) (block_of b)) 118 (b.counter ∷ []) reads refl refl
+      (good (AtBlock c b) (Transfer b.counter (block_of b)) (written u (transfer_at c b state.1.last) (block_of b)) 118 (b.counter ∷ []) reads refl refl
       (let same : (b.counter == b.counter) ≡ true = eq-eqb b.counter b.counter refl in
-      rw same (blocks_on c (after_block b) (written u (record { at = c.now.at + length b.sent; rest = length b.rest; counter = b.counter; taken = not (is_empty b.sent) }) (block_of b)) takes)))))
+      rw same (blocks_on c (after_block b) (written u (transfer_at c b state.1.last) (block_of b)) takes)))))
     where
       reads : request_of (bytes_at plan (AtBlock c b)) ≡ Some (Transfer b.counter (block_of b))
       reads = (says plan (AtBlock c b) ok is asked refl).reads
@@ -356,13 +370,13 @@ module _ (plan : UnitPlan) (ok : IsAcceptedUnit plan) (begun : Bool) (first u : 
       size : length (block_of b) ≡ min (b.limit - 2) (length b.rest)
       size = length-take (b.limit - 2) b.rest
 
-      step : receive_in u u.transfer b.counter (block_of b) ≡ (written u (record { at = c.now.at + length b.sent; rest = length b.rest; counter = b.counter; taken = not (is_empty b.sent) }) (block_of b), 118 ∷ b.counter ∷ [])
-      step = ap (λ (o : Option OpenTransfer). receive_in u o b.counter (block_of b)) state.2.transfer
-          ∙ taking (record { at = c.now.at + length b.sent; rest = length b.rest; counter = b.counter; taken = not (is_empty b.sent) }) b.counter (block_of b) refl (omega (arith, size, takes, is.1.limit)) (omega (arith, size))
+      step : receive_in u u.transfer b.counter (block_of b) ≡ (written u (transfer_at c b state.1.last) (block_of b), 118 ∷ b.counter ∷ [])
+      step = ap (λ (o : Option OpenTransfer). receive_in u o b.counter (block_of b)) state.1.transfer
+          ∙ taking (transfer_at c b state.1.last) b.counter (block_of b) refl refl (omega (arith, size, takes, asked, is.1.limit)) (omega (arith, size))
 
   exit_fair : (c : Cursor) → IsCursor plan c → StateAt plan (AtExit c) u → Fair (AtExit c) (obedient u (bytes_at plan (AtExit c)))
   exit_fair c is state = by (AtExit c) Exit refl (programs (AtExit c) 55 _ state.0.0
-      (subst (λ (o : Option OpenTransfer). Fair (AtExit c) (exit_in u o)) (sym state.2.transfer) (exits state.2.last state.2.rest)))
+      (subst (λ (o : Option OpenTransfer). Fair (AtExit c) (exit_in u o)) (sym state.1.transfer) (exits state.1.last state.1.rest)))
     where
       exits : (t : OpenTransfer) → t.rest ≡ 0 → Fair (AtExit c) (exit_in u (Some t))
       exits t none = let e : (t.rest == 0) ≡ true = eq-eqb t.rest 0 none in rw e (tt, tt, tt)
@@ -386,7 +400,7 @@ module _ (plan : UnitPlan) (ok : IsAcceptedUnit plan) (begun : Bool) (first u : 
       number_is = let lt : plan.check < 65536 = ok.check_range in omega (arith, lt)
 
       same : same_bytes (sha256 c.now.body) (sha256 (bytes_of c.now.at (length c.now.body) u.memory)) ≡ true
-      same = ap (λ (xs : List ℕ). same_bytes (sha256 c.now.body) (sha256 xs)) (bytes_held c.now.at c.now.body u.memory state.2) ∙ same_self (sha256 c.now.body)
+      same = ap (λ (xs : List ℕ). same_bytes (sha256 c.now.body) (sha256 xs)) (bytes_held c.now.at c.now.body u.memory state.1) ∙ same_self (sha256 c.now.body)
 
       long : (length (sha256 c.now.body) == 32) ≡ true
       long = eq-eqb _ _ (length-sha256 c.now.body)
@@ -396,25 +410,21 @@ module _ (plan : UnitPlan) (ok : IsAcceptedUnit plan) (begun : Bool) (first u : 
           (pick (AtCheck c) (not (has_each c.now.at (length c.now.body) u.memory)) (refuse u 49 49) _ (λ e. no_room c is (not_true _ e))
           (λ e. rw same (good (AtCheck c) (Routine plan.check option) (record u { checked = (c.now.at, length c.now.body) ∷ u.checked }) 113 (1 ∷ (big_endian 2 plan.check ++ (0 ∷ []))) reads refl refl
           (let number : (number2 (plan.check / 256 % 256) (plan.check % 256) == plan.check) ≡ true = eq-eqb _ _ number_is in
-          rw number (segments_on (c.done ++ (c.now ∷ [])) c.left _)))))
+          rw number (tt, tt, tt)))))
 
-  finish_fair : StateAt plan AtFinish u → Fair AtFinish (obedient u (bytes_at plan AtFinish))
-  finish_fair state = by AtFinish (Routine 65281 []) refl (programs AtFinish 49 _ state.0.0
-      (pick AtFinish (is_locked u) (refuse u 49 51) (finish_in u u.checked) (locked_why state.0) (λ open_u. finishes u.checked (some_range plan.segments ok.some state.1))))
+  finish_fair : StateAt plan AtFinish u → (u.checked ≡ [] → HasNoneChecked plan found first) → Fair AtFinish (obedient u (bytes_at plan AtFinish))
+  finish_fair state takes = by AtFinish (Routine 65281 []) refl (programs AtFinish 49 _ state.0
+      (pick AtFinish (is_locked u) (refuse u 49 51) (finish_in u u.checked) (locked_why state) (λ open_u. finishes u.checked takes)))
     where
-      some_range : (ss : List Segment) → 1 ≤ length ss → Each (HasSegment u) ss → (at : ℕ) × (size : ℕ) × (has_range u.checked at size ≡ true)
-      some_range [] some all = absurd (omega (arith, some))
-      some_range (s ∷ ss) some all = (s.at, length s.body, all.0.checked)
-
-      finishes : (cs : List (ℕ × ℕ)) → (at : ℕ) × (size : ℕ) × (has_range cs at size ≡ true) → Fair AtFinish (finish_in u cs)
-      finishes [] (at, size, has) = absurd (false≢true has)
-      finishes (r ∷ rs) has = (tt, tt, tt)
+      finishes : (cs : List (ℕ × ℕ)) → (cs ≡ [] → HasNoneChecked plan found first) → Fair AtFinish (finish_in u cs)
+      finishes [] none = (refl, none refl)
+      finishes (r ∷ rs) none = (tt, tt, tt)
 
   reset_fair : Fair AtReset (obedient u (bytes_at plan AtReset))
   reset_fair = by AtReset Reset refl (tt, tt, tt)
 
-  pub fair : (place : Place) → IsPlace plan place → IsAsked plan place → IsIdentPlace plan begun place → needs_request place ≡ true → StateAt plan place u → Takes place u
-      → IsFair plan begun first place (obedient u (bytes_at plan place)).0 (judge (bytes_at plan place) (obedient u (bytes_at plan place)).1)
+  pub fair : (place : Place) → IsPlace plan place → IsAsked plan place → IsIdentPlace plan begun place → needs_request place ≡ true → StateAt plan place u → Takes plan found first place u
+      → IsFair plan begun found skipped first place (obedient u (bytes_at plan place)).0 (judge (bytes_at plan place) (obedient u (bytes_at plan place)).1)
   fair (AtIdent w ws) is asked at needs state takes = ident_fair w ws at asked
   fair AtBegin is asked at needs state takes = absurd (false≢true needs)
   fair AtProgram is asked at needs state takes = program_fair
@@ -425,7 +435,8 @@ module _ (plan : UnitPlan) (ok : IsAcceptedUnit plan) (begun : Bool) (first u : 
   fair (AtBlock c b) is asked at needs state takes = transfer_fair c b is asked state takes
   fair (AtExit c) is asked at needs state takes = exit_fair c is state
   fair (AtCheck c) is asked at needs state takes = check_fair c is state
-  fair AtFinish is asked at needs state takes = finish_fair state
+  fair (AtMark c) is asked at needs state takes = absurd (false≢true needs)
+  fair AtFinish is asked at needs state takes = finish_fair state takes
   fair AtReset is asked at needs state takes = reset_fair
   fair AtDone is asked at needs state takes = absurd (false≢true needs)
   fair (AtEnd outcome) is asked at needs state takes = absurd (false≢true needs)

@@ -11,11 +11,12 @@ use Rattle.doip_frame.specs.declared.frame.Frame.{Frame}
 use Rattle.flash_base.specs.Lists.{Each}
 use Rattle.run_model.proofs.Connected.{FreshParts, pending_can}
 use Rattle.run_model.proofs.Gateway.{all_append}
+use Rattle.run_model.proofs.Replies.{queue_reply, queue_replies}
 use Rattle.run_model.proofs.Whole.{stream_one, stream_more, whole_append, whole_none, message_whole, message_frames, ack_whole, ack_frames, nack_whole, nack_frames}
 use Rattle.run_model.specs.Connected.{IsConnected}
 use Rattle.run_model.specs.Link.{Link, quiet_link}
 use Rattle.run_model.specs.Ways.{IsWhole}
-use Rattle.unit_model.specs.Feed.{Activation, Accepts, Denies, Delays, Ignores, activation, queue_word, queue_words, tester_of, words_of}
+use Rattle.unit_model.specs.Feed.{Activation, Accepts, Denies, Delays, Ignores, activation, tester_of}
 use Rattle.unit_model.specs.Poll.{bytes_due, not_due, alive_bytes, has_tick, is_turn, pending_of, ticked_gateway}
 use Rattle.unit_model.specs.Step.{CanSend, pending_bytes}
 use Rattle.unit_model.specs.Vehicle.{HeldAnswer, Gateway, Vehicle}
@@ -105,16 +106,16 @@ module _ (old new : ℕ → ℕ) where
   keeps_ready : (got : List ℕ) (g : Gateway) (frame : List ℕ) → IsFor frame → Keeps got g → Keeps got (record g { ready = g.ready ++ frame })
   keeps_ready got g frame x k = record { ready = subst (λ (b : List ℕ). IsFor b) (append_assoc got g.ready frame) (for_append (got ++ g.ready) frame k.ready x); later = k.later }
 
-  keeps_word : (got : List ℕ) (g : Gateway) (unit sid : ℕ) (due : Due) (body : List ℕ) → CanSend body → Keeps got g → Keeps got (queue_word g unit sid due body)
+  keeps_word : (got : List ℕ) (g : Gateway) (unit sid : ℕ) (due : Due) (body : List ℕ) → CanSend body → Keeps got g → Keeps got (queue_reply g unit sid due body)
   keeps_word got g unit sid (At due) body can k = elim (cases_Bool (nat_le due g.tick)) [
     | inl e ↦ rw e (keeps_ready got g (message_bytes unit (tester_of g) body) (for_message unit (tester_of g) body can) k)
     | inr e ↦ rw e (record { ready = k.ready; later = all_append (λ q. IsFor q.1) g.later _ k.later (for_message unit (tester_of g) body can, tt) })
   ]
   keeps_word got g unit sid (Held every watch service) body can k = record { ready = k.ready; later = k.later }
 
-  keeps_words : (got : List ℕ) (unit sid : ℕ) (rs : List UnitReply) (g : Gateway) → Each (λ r. CanSend r.body) rs → Keeps got g → Keeps got (queue_words g (words_of unit sid rs))
+  keeps_words : (got : List ℕ) (unit sid : ℕ) (rs : List UnitReply) (g : Gateway) → Each (λ r. CanSend r.body) rs → Keeps got g → Keeps got (queue_replies g unit sid rs)
   keeps_words got unit sid [] g can k = k
-  keeps_words got unit sid (r ∷ rs) g can k = keeps_words got unit sid rs (queue_word g unit sid r.due r.body) can.1 (keeps_word got g unit sid r.due r.body can.0 k)
+  keeps_words got unit sid (r ∷ rs) g can k = keeps_words got unit sid rs (queue_reply g unit sid r.due r.body) can.1 (keeps_word got g unit sid r.due r.body can.0 k)
 
   due_for : (tick : ℕ) (queue : List (ℕ × List ℕ)) → Each (λ q. IsFor q.1) queue → IsFor (bytes_due tick queue)
   due_for tick [] all = for_none
@@ -171,7 +172,7 @@ module _ (old new : ℕ → ℕ) where
   nacked_fair tester t code l g c a = let k = keeps_ready l.got g (nack_bytes t tester code) (for_nack t tester code) (keeps_of tester l g c a) in record { ready = k.ready.all; later = only_for g.later k.later }
 
   pub heard_fair : (tester t sid : ℕ) (waits : HeldAnswer → Bool) (held : List HeldAnswer) (l : Link) (g : Gateway) (rs : List UnitReply) → IsConnected tester l g → AreFair old new l g → Each (λ r. CanSend r.body) rs
-      → AreFair old new l (queue_words (record g { ready = (g.ready ++ ack_bytes t tester) ++ released_bytes tester (filter waits g.held); held = held; unfinished = [] }) (words_of t sid rs))
+      → AreFair old new l (queue_replies (record g { ready = (g.ready ++ ack_bytes t tester) ++ released_bytes tester (filter waits g.held); held = held; unfinished = [] }) t sid rs)
   heard_fair tester t sid waits held l g rs c a can =
       let k0 = keeps_ready l.got g (ack_bytes t tester) (for_ack t tester) (keeps_of tester l g c a) in
       let k1 = keeps_ready l.got (record g { ready = g.ready ++ ack_bytes t tester }) (released_bytes tester (filter waits g.held)) (for_released tester (filter waits g.held) (filter_can waits g.held c.held)) k0 in

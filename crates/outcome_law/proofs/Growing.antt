@@ -2,7 +2,7 @@
 use Rattle.std.proofs.Common.{◌≡◌, ◌⊎◌, inl, inr, ℕ, zero, suc, ◌+◌, true, false, List, [], ◌∷◌, ◌++◌, length, Some, None, refl, sym, ◌∙◌, ap, subst, arith}
 use Rattle.std.specs.Prelude.{Bool, Option, is_some, ◌==◌, ◌&&◌, ◌||◌, not, map, nat_le, nat_lt, MatchBool, if◌then◌else◌}
 use Rattle.std.proofs.lemmas.Bool.{cases_Bool, cases_eq}
-use Rattle.doip_frame.specs.Frame.{Cut, Partial, Wrong, Whole, cut_frame}
+use Rattle.doip_frame.specs.Frame.{Cut, Partial, Wrong, Whole, cut_frame, message_bytes}
 use Rattle.doip_frame.specs.declared.frame.Frame.{Frame}
 use Rattle.doip_frame.specs.declared.frame.Frame.TheVariants.{HeaderNack, Activate, Activated, AliveAsk, AliveSay, Message, Ack, Nack, Other}
 use Rattle.flash_base.specs.ByteMaps.{ByteMap, byte_at, fill, put, bytes_of, has_each}
@@ -11,16 +11,14 @@ use Rattle.sha2.specs.Sha256.{sha256}
 use Rattle.uds_codec.specs.Key.{key_of}
 use Rattle.uds_codec.specs.Request.{Range, range_of, request_of, sid_of}
 use Rattle.uds_codec.specs.declared.request.Request.{Request}
-use Rattle.uds_codec.specs.declared.request.Request.TheVariants.{Session, Reset, ReadId, Seed, Key, Routine, Download, Transfer, Exit}
+use Rattle.uds_codec.specs.declared.request.Request.TheVariants.{Session, Reset, ReadId, Seed, Key, Routine, Download, Upload, Transfer, Pull, Exit, Setting, Messages}
 use Rattle.unit_model.proofs.Steps.{step_frames}
 use Rattle.unit_model.proofs.Units.{hit, miss, with_same, with_other}
-use Rattle.unit_model.specs.Feed.{Word, with_unit, queue_word, queue_words, Handles, HandlesMessage, HandlesAt, Refuses, Activation, Accepts, Denies, Delays, Ignores, activation, Nothing, AfterCut, FeedsAll, Feeds, FeedsHearing, FeedsPart}
+use Rattle.unit_model.specs.Feed.{Word, with_unit, enqueue, queue_words, tester_of, Handles, HandlesMessage, HandlesAt, Refuses, Activation, Accepts, Denies, Delays, Ignores, activation, Nothing, AfterCut, FeedsAll, Feeds, FeedsHearing, FeedsPart}
 use Rattle.unit_model.specs.Poll.{Ticks, Carries, Misses, raises, raised_by}
 use Rattle.unit_model.specs.Step.{UnitStep, Obeys, Holds, Departs, Departure, Refuses as refuses, Odd, Fails, Mutes, Busies, Leaves, raised, raise_code, raise_if}
-use Rattle.unit_model.specs.Unit.{ControlUnit, OpenTransfer, Counts, one_more, obey, obey_in, obedient, read_in, has_level, key_in, is_locked, erase_in, check_in, finish_in, receive_in, exit_in, ident_of, next_counter}
+use Rattle.unit_model.specs.Unit.{ControlUnit, OpenTransfer, Counts, one_more, obey, obey_in, obedient, read_in, has_level, key_in, is_locked, erase_in, check_in, finish_in, receive_in, give_in, exit_in, ident_of, is_repeat, block_number, in_default, in_session}
 use Rattle.unit_model.specs.Vehicle.{HeldAnswer, Gateway, Vehicle, unit_at, redialed}
-use Rattle.unit_model.specs.declared.reply.Due.{Due}
-use Rattle.unit_model.specs.declared.reply.Due.TheVariants.{At, Held}
 use Rattle.unit_model.specs.declared.reply.UnitReply.{UnitReply}
 use Rattle.run_model.proofs.Hearing.{found_address}
 use Rattle.outcome_law.specs.Counting.{SameMake, Kept, KeptIn}
@@ -95,7 +93,11 @@ either u true a b x y = x
 either u false a b x y = y
 
 obey_kept : (u : ControlUnit) (r : Request) → KeptCounts u (obey u r)
-obey_kept u (Session kind) = refl
+obey_kept u (Session kind) = go (kind == 1)
+  where
+    go : (c : Bool) → (if c then in_default u else in_session u kind).counts ≡ u.counts
+    go true = refl
+    go false = refl
 obey_kept u Reset = refl
 obey_kept u (ReadId did) = go (ident_of u.idents did)
   where
@@ -122,16 +124,25 @@ obey_kept u (Routine id option) = either u (u.session == 2) _ _ (either u (id ==
     check None = refl
     check (Some r) = either u (r.size == 0 || not (length r.more == 32)) _ _ refl (either u (not (has_each r.at r.size u.memory)) _ _ refl (either u (same_bytes r.more (sha256 (bytes_of r.at r.size u.memory))) _ _ refl refl))
 obey_kept u (Download width at size) = either u (u.session == 2) _ _ (either u (is_locked u) _ _ refl (either u (not (has_each at size u.memory)) _ _ refl refl)) refl
+obey_kept u (Upload width at size) = either u (u.session == 2) _ _ (either u (is_locked u) _ _ refl (either u (not (has_each at size u.memory)) _ _ refl refl)) refl
 obey_kept u (Transfer counter body) = either u (u.session == 2) _ _ (go u.transfer) refl
   where
     go : (o : Option OpenTransfer) → KeptCounts u (receive_in u o counter body)
     go None = refl
-    go (Some t) = either u (t.taken && next_counter counter == t.counter) _ _ refl (either u (not (counter == t.counter)) _ _ refl (either u (nat_lt u.block (length body + 2)) _ _ refl (either u (nat_lt t.rest (length body)) _ _ refl refl)))
+    go (Some t) = either u t.up _ _ refl (either u (is_repeat t counter) _ _ refl (either u (not (counter == t.counter)) _ _ refl
+        (either u (nat_lt (block_number u) (length body + 2)) _ _ refl (either u (nat_lt t.rest (length body)) _ _ refl refl))))
+obey_kept u (Pull counter) = either u (u.session == 2) _ _ (go u.transfer) refl
+  where
+    go : (o : Option OpenTransfer) → KeptCounts u (give_in u o counter)
+    go None = refl
+    go (Some t) = either u (not t.up) _ _ refl (either u (is_repeat t counter) _ _ refl (either u (t.rest == 0) _ _ refl (either u (not (counter == t.counter)) _ _ refl refl)))
 obey_kept u Exit = either u (u.session == 2) _ _ (go u.transfer) refl
   where
     go : (o : Option OpenTransfer) → KeptCounts u (exit_in u o)
     go None = refl
     go (Some t) = either u (t.rest == 0) _ _ refl refl
+obey_kept u (Setting off) = either u (u.session == 1) _ _ refl refl
+obey_kept u (Messages off) = either u (u.session == 1) _ _ refl refl
 
 pub obedient_counts : (u : ControlUnit) (bytes : List ℕ) → (obedient u bytes).0.counts ≡ u.counts
 obedient_counts u bytes = go (request_of bytes)
@@ -187,7 +198,11 @@ plain : (u w : ControlUnit) → w.idents ≡ u.idents → w.key ≡ u.key → w.
 plain u w idents key check block seed memory = frame u w idents key check block seed (λ a i. is_some (byte_at (memory i) a))
 
 obey_made : (u : ControlUnit) (r : Request) → Made u (obey u r)
-obey_made u (Session kind) = plain u _ refl refl refl refl refl refl
+obey_made u (Session kind) = go (kind == 1)
+  where
+    go : (c : Bool) → SameMake u (if c then in_default u else in_session u kind)
+    go true = plain u _ refl refl refl refl refl refl
+    go false = plain u _ refl refl refl refl refl refl
 obey_made u Reset = plain u _ refl refl refl refl refl refl
 obey_made u (ReadId did) = go (ident_of u.idents did)
   where
@@ -214,16 +229,26 @@ obey_made u (Routine id option) = either_made u (u.session == 2) _ _ (either_mad
     check None = make_same u
     check (Some r) = either_made u (r.size == 0 || not (length r.more == 32)) _ _ (make_same u) (either_made u (not (has_each r.at r.size u.memory)) _ _ (make_same u) (either_made u (same_bytes r.more (sha256 (bytes_of r.at r.size u.memory))) _ _ (plain u _ refl refl refl refl refl refl) (make_same u)))
 obey_made u (Download width at size) = either_made u (u.session == 2) _ _ (either_made u (is_locked u) _ _ (make_same u) (either_made u (not (has_each at size u.memory)) _ _ (make_same u) (plain u _ refl refl refl refl refl refl))) (make_same u)
+obey_made u (Upload width at size) = either_made u (u.session == 2) _ _ (either_made u (is_locked u) _ _ (make_same u) (either_made u (not (has_each at size u.memory)) _ _ (make_same u) (plain u _ refl refl refl refl refl refl))) (make_same u)
 obey_made u (Transfer counter body) = either_made u (u.session == 2) _ _ (go u.transfer) (make_same u)
   where
     go : (o : Option OpenTransfer) → Made u (receive_in u o counter body)
     go None = make_same u
-    go (Some t) = either_made u (t.taken && next_counter counter == t.counter) _ _ (make_same u) (either_made u (not (counter == t.counter)) _ _ (make_same u) (either_made u (nat_lt u.block (length body + 2)) _ _ (make_same u) (either_made u (nat_lt t.rest (length body)) _ _ (make_same u) (frame u _ refl refl refl refl refl (put_domain t.at body u.memory)))))
+    go (Some t) = either_made u t.up _ _ (make_same u) (either_made u (is_repeat t counter) _ _ (make_same u) (either_made u (not (counter == t.counter)) _ _ (make_same u)
+        (either_made u (nat_lt (block_number u) (length body + 2)) _ _ (make_same u) (either_made u (nat_lt t.rest (length body)) _ _ (make_same u) (frame u _ refl refl refl refl refl (put_domain t.at body u.memory))))))
+obey_made u (Pull counter) = either_made u (u.session == 2) _ _ (go u.transfer) (make_same u)
+  where
+    go : (o : Option OpenTransfer) → Made u (give_in u o counter)
+    go None = make_same u
+    go (Some t) = either_made u (not t.up) _ _ (make_same u) (either_made u (is_repeat t counter) _ _ (make_same u) (either_made u (t.rest == 0) _ _ (make_same u)
+        (either_made u (not (counter == t.counter)) _ _ (make_same u) (plain u _ refl refl refl refl refl refl))))
 obey_made u Exit = either_made u (u.session == 2) _ _ (go u.transfer) (make_same u)
   where
     go : (o : Option OpenTransfer) → Made u (exit_in u o)
     go None = make_same u
     go (Some t) = either_made u (t.rest == 0) _ _ (plain u _ refl refl refl refl refl refl) (make_same u)
+obey_made u (Setting off) = either_made u (u.session == 1) _ _ (make_same u) (plain u _ refl refl refl refl refl refl)
+obey_made u (Messages off) = either_made u (u.session == 1) _ _ (make_same u) (plain u _ refl refl refl refl refl refl)
 
 pub obedient_made : (u : ControlUnit) (bytes : List ℕ) → SameMake u (obedient u bytes).0
 obedient_made u bytes = go (request_of bytes)
@@ -373,16 +398,15 @@ record KeepsOwn (old new : Gateway) : Type 0 where
   denied : new.denied ≡ old.denied
   silent : new.silent ≡ old.silent
 
-word_keeps : (g : Gateway) (unit sid : ℕ) (due : Due) (body : List ℕ) → KeepsOwn g (queue_word g unit sid due body)
-word_keeps g unit sid (At due) body = elim (cases_Bool (nat_le due g.tick)) [ inl e ↦ rw e (record { denied = refl; silent = refl }) | inr e ↦ rw e (record { denied = refl; silent = refl }) ]
-word_keeps g unit sid (Held every watch service) body = record { denied = refl; silent = refl }
+word_keeps : (g : Gateway) (due : ℕ) (frame : List ℕ) → KeepsOwn g (enqueue g due frame)
+word_keeps g due frame = elim (cases_Bool (nat_le due g.tick)) [ inl e ↦ rw e (record { denied = refl; silent = refl }) | inr e ↦ rw e (record { denied = refl; silent = refl }) ]
 
 words_keep : (g : Gateway) (ws : List Word) → KeepsOwn g (queue_words g ws)
 words_keep g [] = record { denied = refl; silent = refl }
 words_keep g (w ∷ ws) =
-    let mid = queue_word g w.unit w.sid w.reply.due w.reply.body in
-    let one = word_keeps g w.unit w.sid w.reply.due w.reply.body in
-    let rest = words_keep mid ws in
+    let frame : List ℕ = message_bytes w.unit (tester_of g) w.body in
+    let one = word_keeps g w.due frame in
+    let rest = words_keep (enqueue g w.due frame) ws in
     record { denied = rest.denied ∙ one.denied; silent = rest.silent ∙ one.silent }
 
 hearing_up : (bytes : List ℕ) (old new : Vehicle) → FeedsHearing bytes old new → VehicleGrows old new

@@ -1,5 +1,6 @@
 pub mod Asking
 pub mod Blocking
+pub mod Checking
 pub mod Clock
 pub mod Ending
 pub mod Fair

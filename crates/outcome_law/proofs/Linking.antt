@@ -7,9 +7,9 @@ use Rattle.bay_core.proofs.Joined.{up_open, open_live, waiting_open, fresh_live}
 use Rattle.bay_core.proofs.Ticks.{between, sent_can}
 use Rattle.bay_core.specs.Core.{Core, link_after, heard_link, taken_link, tended_link}
 use Rattle.bay_core.specs.Joint.{IsVehicleJoint}
-use Rattle.bay_core.specs.Legal.{is_allowed, may_tend}
+use Rattle.bay_core.specs.Legal.{is_allowed, fits_link}
 use Rattle.bay_core.specs.Moves.{MovesVehicle, Receives, Tends, FeedsOr, request_frame}
-use Rattle.bay_core.specs.declared.event.Event.TheVariants.{Claimed, Began, Sent, Collected, Tended, Completed, DiskFailed, Ended}
+use Rattle.bay_core.specs.declared.event.Event.TheVariants.{Claimed, Began, Sent, Collected, Tended, Marked, Completed, DiskFailed, Ended}
 use Rattle.bay_core.specs.declared.event.Event.{Event}
 use Rattle.bay_core.specs.declared.event.Heard.TheVariants.{Kept, Quiet, Piece, Lost}
 use Rattle.bay_core.specs.declared.event.Heard.{Heard}
@@ -33,7 +33,7 @@ use Rattle.unit_model.specs.Poll.{ticked}
 use Rattle.unit_model.specs.Step.{raise_code}
 use Rattle.unit_model.specs.Unit.{one_more}
 use Rattle.unit_model.specs.Vehicle.{Gateway, Vehicle}
-use Rattle.outcome_law.proofs.Asking.{came_out, Refused as refused_request, Heard as heard_request}
+use Rattle.bay_core.proofs.Sending.{came_out, Refused as refused_request, Heard as heard_request}
 use Rattle.outcome_law.proofs.Fairness.{fair_on, nacked_fair, heard_fair, asked_fair}
 use Rattle.outcome_law.proofs.Growing.{VehicleGrows, rose_then, up_then, ticks_up}
 use Rattle.outcome_law.proofs.Losing.{phase_on, piece_counted, quiet_counted}
@@ -158,7 +158,7 @@ module _ (rules : LinkRules) (P : List UnitPlan) (found : Entry → Bool) (c : C
       awaits (Delays ticks) parts at = inr (let now : w.gateway.silent ≡ one_more v.gateway.silent = ap (λ (g : Gateway). g.silent) at in let was = is.losses.count in omega (arith, now, was))
       awaits Ignores parts at = inr (let now : w.gateway.silent ≡ one_more v.gateway.silent = ap (λ (g : Gateway). g.silent) at in let was = is.losses.count in omega (arith, now, was))
 
-  tended_counted : (step : Tend) (w : Vehicle) → may_tend c step ≡ true → Tends rules step v w → VehicleGrows v w → Goal (tended_link rules P step c.link) (fault_of (is_fault (Tended step) v w)) w
+  tended_counted : (step : Tend) (w : Vehicle) → fits_link c step ≡ true → Tends rules step v w → VehicleGrows v w → Goal (tended_link rules P step c.link) (fault_of (is_fault (Tended step) v w)) w
   tended_counted (Dialed true) w may did grow = dropped c.link (fresh_link c.link) faults first v w refl grow is
   tended_counted (Dialed false) w may did grow = no_fault (fresh_link c.link) faults first w (record {
     losses = record { silent = is.losses.silent; losses = is.losses.losses; count = rose_then _ _ _ _ is.losses.count grow.silent; awaits = λ x. absurd (false≢true x) };
@@ -197,6 +197,7 @@ module _ (rules : LinkRules) (P : List UnitPlan) (found : Entry → Bool) (c : C
       let f = collected_facts P c u h ok in
       taken (plan_of P u).address h (heard_link rules P h c.link) (faults + fault_of (is_heard_fault h v w)) first w (heard_counted h w (up_open c.link.phase f.up) did (moves_grow rules P c (Collected u h) v w did))
   link_step (Tended step) w ok did = tended_counted step w (and_parts _ _ ok).1 did (moves_grow rules P c (Tended step) v w did)
+  link_step (Marked u s) w ok did = still w did
   link_step (Completed u) w ok did = still w did
   link_step (DiskFailed u entry) w ok did = still w did
   link_step (Ended u why) w ok did = still w did

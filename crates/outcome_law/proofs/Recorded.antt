@@ -11,7 +11,7 @@ use Rattle.flash_plan.specs.declared.unit.LinkRules.{LinkRules}
 use Rattle.flash_plan.specs.declared.unit.UnitPlan.{UnitPlan}
 use Rattle.unit_model.specs.Unit.{ControlUnit}
 use Rattle.unit_model.specs.Vehicle.{Vehicle, unit_at}
-use Rattle.run_model.specs.Matching.{IsMatching}
+use Rattle.run_model.specs.Entries.{marks_of}
 use Rattle.run_model.specs.Troubles.{IsUnitCalm, IsVehicleCalm}
 use Rattle.bay_core.proofs.OneStep.{step_law, core_law}
 use Rattle.bay_core.specs.Core.{Core, core_start, core_after, core_of}
@@ -23,10 +23,11 @@ use Rattle.bay_core.specs.declared.event.Event.{Event}
 use Rattle.bay_core.proofs.Sane.{event_steps}
 use Rattle.outcome_law.proofs.Ending.{rests_step, fault_step, stop_step}
 use Rattle.outcome_law.proofs.Linking.{link_step}
-use Rattle.outcome_law.proofs.Runs.{start as units_start, end_cause, counted_run, calm_not, no_cause}
+use Rattle.outcome_law.proofs.Runs.{start as units_start, counted_run, calm_not, ends_caused, no_cause}
 use Rattle.outcome_law.proofs.Steps.{moves_grow}
 use Rattle.outcome_law.specs.Causes.{IsCaused}
-use Rattle.outcome_law.specs.Law.{IsRun, last_vehicle, IsCalmUnit}
+use Rattle.outcome_law.specs.Counting.{AreUnitsCounted}
+use Rattle.outcome_law.specs.Law.{IsRun, last_vehicle, IsCalmUnit, IsMatchingRun}
 use Rattle.outcome_law.specs.LinkCounting.{is_fault, fault_of, faults_of}
 use Rattle.outcome_law.specs.OutcomeCounting.{Rests, IsStopCounted, StopCounted, AreOutcomesCounted, OutcomeCountingLaw, StartLaw, CountedLaw}
 use Rattle.outcome_law.specs.Outcomes.{IsOutcomeCaused, OutcomeLaw, IsUntroubled, MatchesAt, IsOfRun, RecordedLaw, UntroubledLaw}
@@ -39,7 +40,7 @@ outcome_counting_law rules P found c e v v2 first t0 faults failed failed2 accep
       link = link;
       rests = λ n o lt at. rests_step rules P c accepted e ok n o lt at (is.rests n o lt);
       faulted = λ n f. elim (fault_step rules P c accepted e ok n f) [ inl was ↦ on (is.faulted n was) | inr now ↦ fails now ];
-      stop = stop_step rules e c.link (core_after rules P e c).link c.stop failed failed2 faults (fault_of (is_fault e v v2)) first v v2 (event_steps rules P c accepted joint.sane e ok) (moves_grow rules P c e v v2 moves) on fails is.stop link;
+      stop = stop_step rules e c.link (core_after rules P e c).link c.halt.stop failed failed2 faults (fault_of (is_fault e v v2)) first v v2 (event_steps rules P c accepted joint.sane e ok) (moves_grow rules P c e v v2 moves) on fails is.stop link;
     }
 
 -- ------ along a list
@@ -88,7 +89,7 @@ start rules P found v failed = record {
       | inl e ↦ (let is : Some Complete ≡ Some o = rw e at at in inr (inr (inr (inr (inr (sym (ap (λ (x : Option Outcome). unwrap_or x o) is), e))))))
     ]
 
-ended_run : (rules : LinkRules) (P : List UnitPlan) (found : Entry → Bool) (events : List Event) (s : Vehicle) (states : List Vehicle) → IsRun rules P found events s states
+pub ended_run : (rules : LinkRules) (P : List UnitPlan) (found : Entry → Bool) (events : List Event) (s : Vehicle) (states : List Vehicle) → IsRun rules P found events s states
     → AreOutcomesCounted rules P (core_of rules P (core_start P found) events) (has_failure events) (faults_of events s states) s (last_vehicle s states)
 ended_run rules P found events s states run =
     let none : 0 + faults_of events s states ≡ faults_of events s states = omega arith in
@@ -107,128 +108,135 @@ is_spoken DiskFault = false
 is_spoken NoMemory = false
 is_spoken outcome = true
 
-spoken : (plan : UnitPlan) (begun : Bool) (first now : Option ControlUnit) (o : Outcome) → IsCaused plan begun first now o → is_spoken o ≡ true
-spoken plan begun None None o is = ap is_spoken is
-spoken plan begun None (Some w) o is = absurd is
-spoken plan begun (Some u) None o is = absurd is
-spoken plan begun (Some u) (Some w) (Refused sid nrc) is = refl
-spoken plan begun (Some u) (Some w) (BadAnswer sid) is = refl
-spoken plan begun (Some u) (Some w) (CheckFailed routine segment status) is = refl
-spoken plan begun (Some u) (Some w) (NoAnswer sid) is = refl
-spoken plan begun (Some u) (Some w) (PendingLimit sid) is = refl
-spoken plan begun (Some u) (Some w) (BusyLimit sid) is = refl
-spoken plan begun (Some u) (Some w) (Undelivered code) is = refl
-spoken plan begun (Some u) (Some w) (IdentMismatch did) is = refl
-spoken plan begun (Some u) (Some w) Complete is = absurd is
-spoken plan begun (Some u) (Some w) (LinkLost times) is = absurd is
-spoken plan begun (Some u) (Some w) (LinkRefused code) is = absurd is
-spoken plan begun (Some u) (Some w) (Blocked by) is = absurd is
-spoken plan begun (Some u) (Some w) DiskFault is = absurd is
-spoken plan begun (Some u) (Some w) NoMemory is = absurd is
+spoken : (plan : UnitPlan) (begun : Bool) (found : ℕ → Bool) (first now : Option ControlUnit) (o : Outcome) → IsCaused plan begun found first now o → is_spoken o ≡ true
+spoken plan begun found None None o is = ap is_spoken is
+spoken plan begun found None (Some w) o is = absurd is
+spoken plan begun found (Some u) None o is = absurd is
+spoken plan begun found (Some u) (Some w) (Refused sid nrc) is = refl
+spoken plan begun found (Some u) (Some w) (BadAnswer sid) is = refl
+spoken plan begun found (Some u) (Some w) (CheckFailed routine segment status) is = refl
+spoken plan begun found (Some u) (Some w) (NoAnswer sid) is = refl
+spoken plan begun found (Some u) (Some w) (PendingLimit sid) is = refl
+spoken plan begun found (Some u) (Some w) (BusyLimit sid) is = refl
+spoken plan begun found (Some u) (Some w) (Undelivered code) is = refl
+spoken plan begun found (Some u) (Some w) (IdentMismatch did) is = refl
+spoken plan begun found (Some u) (Some w) Complete is = absurd is
+spoken plan begun found (Some u) (Some w) (LinkLost times) is = absurd is
+spoken plan begun found (Some u) (Some w) (LinkRefused code) is = absurd is
+spoken plan begun found (Some u) (Some w) (Blocked by) is = absurd is
+spoken plan begun found (Some u) (Some w) DiskFault is = absurd is
+spoken plan begun found (Some u) (Some w) NoMemory is = absurd is
 
-by_talk : (rules : LinkRules) (plan : UnitPlan) (c : Core) (n : ℕ) (failed : Bool) (faults : ℕ) (first now : Vehicle) (o : Outcome) → IsCaused plan (c.recorded (entry.Begun n)) (unit_at first.units plan.address) (unit_at now.units plan.address) o → is_spoken o ≡ true
-    → IsOutcomeCaused rules plan c n failed faults first now o
-by_talk rules plan c n failed faults first now (Refused sid nrc) is e = is
-by_talk rules plan c n failed faults first now (BadAnswer sid) is e = is
-by_talk rules plan c n failed faults first now (CheckFailed routine segment status) is e = is
-by_talk rules plan c n failed faults first now (NoAnswer sid) is e = is
-by_talk rules plan c n failed faults first now (PendingLimit sid) is e = is
-by_talk rules plan c n failed faults first now (BusyLimit sid) is e = is
-by_talk rules plan c n failed faults first now (Undelivered code) is e = is
-by_talk rules plan c n failed faults first now (IdentMismatch did) is e = is
-by_talk rules plan c n failed faults first now Complete is e = absurd (false≢true e)
-by_talk rules plan c n failed faults first now (LinkLost times) is e = absurd (false≢true e)
-by_talk rules plan c n failed faults first now (LinkRefused code) is e = absurd (false≢true e)
-by_talk rules plan c n failed faults first now (Blocked by) is e = absurd (false≢true e)
-by_talk rules plan c n failed faults first now DiskFault is e = absurd (false≢true e)
-by_talk rules plan c n failed faults first now NoMemory is e = absurd (false≢true e)
+by_talk : (rules : LinkRules) (plan : UnitPlan) (found : Entry → Bool) (c : Core) (n : ℕ) (failed : Bool) (faults : ℕ) (first now : Vehicle) (o : Outcome) → IsCaused plan (c.recorded (entry.Begun n)) (marks_of found n) (unit_at first.units plan.address) (unit_at now.units plan.address) o → is_spoken o ≡ true
+    → IsOutcomeCaused rules plan found c n failed faults first now o
+by_talk rules plan found c n failed faults first now (Refused sid nrc) is e = is
+by_talk rules plan found c n failed faults first now (BadAnswer sid) is e = is
+by_talk rules plan found c n failed faults first now (CheckFailed routine segment status) is e = is
+by_talk rules plan found c n failed faults first now (NoAnswer sid) is e = is
+by_talk rules plan found c n failed faults first now (PendingLimit sid) is e = is
+by_talk rules plan found c n failed faults first now (BusyLimit sid) is e = is
+by_talk rules plan found c n failed faults first now (Undelivered code) is e = is
+by_talk rules plan found c n failed faults first now (IdentMismatch did) is e = is
+by_talk rules plan found c n failed faults first now Complete is e = absurd (false≢true e)
+by_talk rules plan found c n failed faults first now (LinkLost times) is e = absurd (false≢true e)
+by_talk rules plan found c n failed faults first now (LinkRefused code) is e = absurd (false≢true e)
+by_talk rules plan found c n failed faults first now (Blocked by) is e = absurd (false≢true e)
+by_talk rules plan found c n failed faults first now DiskFault is e = absurd (false≢true e)
+by_talk rules plan found c n failed faults first now NoMemory is e = absurd (false≢true e)
 
-by_stop : (rules : LinkRules) (plan : UnitPlan) (c : Core) (n : ℕ) (failed : Bool) (faults : ℕ) (first now : Vehicle) (o : Outcome) → IsStopCounted rules failed faults first now o → IsOutcomeCaused rules plan c n failed faults first now o
-by_stop rules plan c n failed faults first now DiskFault counted = counted
-by_stop rules plan c n failed faults first now (LinkLost times) counted = counted
-by_stop rules plan c n failed faults first now (LinkRefused code) counted = counted
-by_stop rules plan c n failed faults first now Complete counted = absurd counted
-by_stop rules plan c n failed faults first now (IdentMismatch a) counted = absurd counted
-by_stop rules plan c n failed faults first now (Refused a b) counted = absurd counted
-by_stop rules plan c n failed faults first now (BadAnswer a) counted = absurd counted
-by_stop rules plan c n failed faults first now (CheckFailed a b d) counted = absurd counted
-by_stop rules plan c n failed faults first now (Undelivered a) counted = absurd counted
-by_stop rules plan c n failed faults first now (NoAnswer a) counted = absurd counted
-by_stop rules plan c n failed faults first now (PendingLimit a) counted = absurd counted
-by_stop rules plan c n failed faults first now (BusyLimit a) counted = absurd counted
-by_stop rules plan c n failed faults first now (Blocked a) counted = absurd counted
-by_stop rules plan c n failed faults first now NoMemory counted = absurd counted
+by_stop : (rules : LinkRules) (plan : UnitPlan) (found : Entry → Bool) (c : Core) (n : ℕ) (failed : Bool) (faults : ℕ) (first now : Vehicle) (o : Outcome) → IsStopCounted rules failed faults first now o → IsOutcomeCaused rules plan found c n failed faults first now o
+by_stop rules plan found c n failed faults first now DiskFault counted = counted
+by_stop rules plan found c n failed faults first now (LinkLost times) counted = counted
+by_stop rules plan found c n failed faults first now (LinkRefused code) counted = counted
+by_stop rules plan found c n failed faults first now Complete counted = absurd counted
+by_stop rules plan found c n failed faults first now (IdentMismatch a) counted = absurd counted
+by_stop rules plan found c n failed faults first now (Refused a b) counted = absurd counted
+by_stop rules plan found c n failed faults first now (BadAnswer a) counted = absurd counted
+by_stop rules plan found c n failed faults first now (CheckFailed a b d) counted = absurd counted
+by_stop rules plan found c n failed faults first now (Undelivered a) counted = absurd counted
+by_stop rules plan found c n failed faults first now (NoAnswer a) counted = absurd counted
+by_stop rules plan found c n failed faults first now (PendingLimit a) counted = absurd counted
+by_stop rules plan found c n failed faults first now (BusyLimit a) counted = absurd counted
+by_stop rules plan found c n failed faults first now (Blocked a) counted = absurd counted
+by_stop rules plan found c n failed faults first now NoMemory counted = absurd counted
 
 pub counted_law : CountedLaw
 counted_law rules P found c failed faults first now t0 n o lt units is at = go (is.rests n o lt at)
   where
-    to : (x : Outcome) → o ≡ x → IsOutcomeCaused rules (plan_of P n) c n failed faults first now x → IsOutcomeCaused rules (plan_of P n) c n failed faults first now o
-    to x same cause = subst (λ (y : Outcome). IsOutcomeCaused rules (plan_of P n) c n failed faults first now y) (sym same) cause
+    to : (x : Outcome) → o ≡ x → IsOutcomeCaused rules (plan_of P n) found c n failed faults first now x → IsOutcomeCaused rules (plan_of P n) found c n failed faults first now o
+    to x same cause = subst (λ (y : Outcome). IsOutcomeCaused rules (plan_of P n) found c n failed faults first now y) (sym same) cause
 
-    go : Rests P c n o → IsOutcomeCaused rules (plan_of P n) c n failed faults first now o
+    go : Rests P c n o → IsOutcomeCaused rules (plan_of P n) found c n failed faults first now o
     go (inl place) =
-        let cause = end_cause (plan_of P n) (c.recorded (entry.Begun n)) (unit_at first.units (plan_of P n).address) (unit_at now.units (plan_of P n).address) (c.slots n).talk.place o place (units.units n lt).talk.ended in
-        by_talk rules (plan_of P n) c n failed faults first now o cause (spoken (plan_of P n) (c.recorded (entry.Begun n)) (unit_at first.units (plan_of P n).address) (unit_at now.units (plan_of P n).address) o cause)
+        let cause = ends_caused rules P found c first now t0 units n o lt place in
+        by_talk rules (plan_of P n) found c n failed faults first now o cause (spoken (plan_of P n) (c.recorded (entry.Begun n)) (marks_of found n) (unit_at first.units (plan_of P n).address) (unit_at now.units (plan_of P n).address) o cause)
     go (inr (inl (f, same))) = to DiskFault same (is.faulted n f)
-    go (inr (inr (inl stop))) = by_stop rules (plan_of P n) c n failed faults first now o (subst (λ (x : Option Outcome). StopCounted rules failed faults first now c.link.losses x) stop is.stop)
+    go (inr (inr (inl stop))) = by_stop rules (plan_of P n) found c n failed faults first now o (subst (λ (x : Option Outcome). StopCounted rules failed faults first now c.link.losses x) stop is.stop)
     go (inr (inr (inr (inl same)))) = to NoMemory same tt
     go (inr (inr (inr (inr (inl (by, same, b)))))) = to (Blocked by) same b
     go (inr (inr (inr (inr (inr (same, done)))))) = to Complete same done
 
+pub start_law : StartLaw
+start_law = record { units = units_start; outcomes = start }
+
+-- ------ by what is kept
+module _ (rules : LinkRules) (P : List UnitPlan) (found : Entry → Bool) (c : Core) (failed : Bool) (faults : ℕ) (first now : Vehicle) (t0 n : ℕ) (units : AreUnitsCounted rules P found t0 c first now) where
+  -- where nothing failed
+  module _ (fine : failed ≡ false) (none : faults ≡ 0) (calm : IsVehicleCalm first now) (matching : MatchesAt (found (entry.Begun n)) (plan_of P n) (marks_of found n) (unit_at first.units (plan_of P n).address)) where
+    calm_unit : (plan : UnitPlan) (begun : Bool) (marks : ℕ → Bool) (fo wo : Option ControlUnit) → MatchesAt begun plan marks fo → IsUnitCalm fo wo → IsCalmUnit (IsMatchingRun begun plan marks) fo wo
+    calm_unit plan begun marks None wo m is = absurd m
+    calm_unit plan begun marks (Some u) None m is = absurd is
+    calm_unit plan begun marks (Some u) (Some w) m is = (m, is)
+
+    never : (o : Outcome) → IsCaused (plan_of P n) (c.recorded (entry.Begun n)) (marks_of found n) (unit_at first.units (plan_of P n).address) (unit_at now.units (plan_of P n).address) o → ⊥
+    never o is = no_cause rules P found c first now t0 units n o (calm_unit (plan_of P n) (found (entry.Begun n)) (marks_of found n) _ _ matching (calm.units (plan_of P n).address)) is
+
+    pub kept_untroubled : (o : Outcome) → IsOutcomeCaused rules (plan_of P n) found c n failed faults first now o → IsUntroubled o
+    kept_untroubled Complete is = tt
+    kept_untroubled NoMemory is = tt
+    kept_untroubled (Blocked by) is = tt
+    kept_untroubled DiskFault is = both_ways _ fine is
+    kept_untroubled (LinkLost times) (times_is, (k, losses, count)) = calm_not k first.gateway.silent now.gateway.silent (omega (arith, losses, none)) count calm.silent
+    kept_untroubled (LinkRefused code) rose = calm_not 1 _ _ (omega arith) rose (calm.denied code)
+    kept_untroubled (Refused sid nrc) is = never (Refused sid nrc) is
+    kept_untroubled (BadAnswer sid) is = never (BadAnswer sid) is
+    kept_untroubled (CheckFailed routine segment status) is = never (CheckFailed routine segment status) is
+    kept_untroubled (NoAnswer sid) is = never (NoAnswer sid) is
+    kept_untroubled (PendingLimit sid) is = never (PendingLimit sid) is
+    kept_untroubled (BusyLimit sid) is = never (BusyLimit sid) is
+    kept_untroubled (Undelivered code) is = never (Undelivered code) is
+    kept_untroubled (IdentMismatch did) is = never (IdentMismatch did) is
+
+  -- of a unit that matches and is calm
+  module _ (calm : IsCalmUnit (IsMatchingRun (found (entry.Begun n)) (plan_of P n) (marks_of found n)) (unit_at first.units (plan_of P n).address) (unit_at now.units (plan_of P n).address)) where
+    pub kept_recorded : (o : Outcome) → IsOutcomeCaused rules (plan_of P n) found c n failed faults first now o → IsOfRun o
+    kept_recorded Complete is = tt
+    kept_recorded NoMemory is = tt
+    kept_recorded (Blocked by) is = tt
+    kept_recorded DiskFault is = tt
+    kept_recorded (LinkLost times) is = tt
+    kept_recorded (LinkRefused code) is = tt
+    kept_recorded (Refused sid nrc) is = no_cause rules P found c first now t0 units n (Refused sid nrc) calm is
+    kept_recorded (BadAnswer sid) is = no_cause rules P found c first now t0 units n (BadAnswer sid) calm is
+    kept_recorded (CheckFailed routine segment status) is = no_cause rules P found c first now t0 units n (CheckFailed routine segment status) calm is
+    kept_recorded (NoAnswer sid) is = no_cause rules P found c first now t0 units n (NoAnswer sid) calm is
+    kept_recorded (PendingLimit sid) is = no_cause rules P found c first now t0 units n (PendingLimit sid) calm is
+    kept_recorded (BusyLimit sid) is = no_cause rules P found c first now t0 units n (BusyLimit sid) calm is
+    kept_recorded (Undelivered code) is = no_cause rules P found c first now t0 units n (Undelivered code) calm is
+    kept_recorded (IdentMismatch did) is = no_cause rules P found c first now t0 units n (IdentMismatch did) calm is
+
+-- ------ over a list
 pub outcome_law : OutcomeLaw
 outcome_law rules P found events s states n o run lt at =
     counted_law rules P found (core_of rules P (core_start P found) events) (has_failure events) (faults_of events s states) s (last_vehicle s states) s.gateway.tick n o lt
     (counted_run rules P found events s states run) (ended_run rules P found events s states run) at
 
-pub start_law : StartLaw
-start_law = record { units = units_start; outcomes = start }
-
--- ------ nothing failed
-module _ (rules : LinkRules) (P : List UnitPlan) (found : Entry → Bool) (events : List Event) (s : Vehicle) (states : List Vehicle) (n : ℕ) (run : IsRun rules P found events s states) (failed : has_failure events ≡ false) (faults : faults_of events s states ≡ 0)
-    (calm : IsVehicleCalm s (last_vehicle s states)) (matching : MatchesAt (found (entry.Begun n)) (plan_of P n) (unit_at s.units (plan_of P n).address)) where
-  calm_unit : (plan : UnitPlan) (begun : Bool) (fo wo : Option ControlUnit) → MatchesAt begun plan fo → IsUnitCalm fo wo → IsCalmUnit (IsMatching begun plan) fo wo
-  calm_unit plan begun None wo m is = absurd m
-  calm_unit plan begun (Some u) None m is = absurd is
-  calm_unit plan begun (Some u) (Some w) m is = (m, is)
-
-  never : (o : Outcome) → IsCaused (plan_of P n) ((core_of rules P (core_start P found) events).recorded (entry.Begun n)) (unit_at s.units (plan_of P n).address) (unit_at (last_vehicle s states).units (plan_of P n).address) o → ⊥
-  never o is = no_cause rules P found events s states n o run (calm_unit (plan_of P n) (found (entry.Begun n)) (unit_at s.units (plan_of P n).address) (unit_at (last_vehicle s states).units (plan_of P n).address) matching (calm.units (plan_of P n).address)) is
-
-  untroubled : (o : Outcome) → IsOutcomeCaused rules (plan_of P n) (core_of rules P (core_start P found) events) n (has_failure events) (faults_of events s states) s (last_vehicle s states) o → IsUntroubled o
-  untroubled Complete is = tt
-  untroubled NoMemory is = tt
-  untroubled (Blocked by) is = tt
-  untroubled DiskFault is = both_ways _ failed is
-  untroubled (LinkLost times) (times_is, (k, losses, count)) = calm_not k s.gateway.silent (last_vehicle s states).gateway.silent (omega (arith, losses, faults)) count calm.silent
-  untroubled (LinkRefused code) rose = calm_not 1 _ _ (omega arith) rose (calm.denied code)
-  untroubled (Refused sid nrc) is = never (Refused sid nrc) is
-  untroubled (BadAnswer sid) is = never (BadAnswer sid) is
-  untroubled (CheckFailed routine segment status) is = never (CheckFailed routine segment status) is
-  untroubled (NoAnswer sid) is = never (NoAnswer sid) is
-  untroubled (PendingLimit sid) is = never (PendingLimit sid) is
-  untroubled (BusyLimit sid) is = never (BusyLimit sid) is
-  untroubled (Undelivered code) is = never (Undelivered code) is
-  untroubled (IdentMismatch did) is = never (IdentMismatch did) is
-
 pub untroubled_law : UntroubledLaw
-untroubled_law rules P found events s states n o run lt at failed faults calm matching = untroubled rules P found events s states n run failed faults calm matching o (outcome_law rules P found events s states n o run lt at)
+untroubled_law rules P found events s states n o run lt at failed faults calm matching =
+    kept_untroubled rules P found _ (has_failure events) (faults_of events s states) s (last_vehicle s states) s.gateway.tick n (counted_run rules P found events s states run) failed faults calm matching o
+    (outcome_law rules P found events s states n o run lt at)
 
--- ------ of a unit that matches and is calm
 pub recorded_law : RecordedLaw
-recorded_law rules P found events s states n o run lt at calm = go o (outcome_law rules P found events s states n o run lt at)
-  where
-    go : (o : Outcome) → IsOutcomeCaused rules (plan_of P n) (core_of rules P (core_start P found) events) n (has_failure events) (faults_of events s states) s (last_vehicle s states) o → IsOfRun o
-    go Complete is = tt
-    go NoMemory is = tt
-    go (Blocked by) is = tt
-    go DiskFault is = tt
-    go (LinkLost times) is = tt
-    go (LinkRefused code) is = tt
-    go (Refused sid nrc) is = no_cause rules P found events s states n (Refused sid nrc) run calm is
-    go (BadAnswer sid) is = no_cause rules P found events s states n (BadAnswer sid) run calm is
-    go (CheckFailed routine segment status) is = no_cause rules P found events s states n (CheckFailed routine segment status) run calm is
-    go (NoAnswer sid) is = no_cause rules P found events s states n (NoAnswer sid) run calm is
-    go (PendingLimit sid) is = no_cause rules P found events s states n (PendingLimit sid) run calm is
-    go (BusyLimit sid) is = no_cause rules P found events s states n (BusyLimit sid) run calm is
-    go (Undelivered code) is = no_cause rules P found events s states n (Undelivered code) run calm is
-    go (IdentMismatch did) is = no_cause rules P found events s states n (IdentMismatch did) run calm is
+recorded_law rules P found events s states n o run lt at calm =
+    kept_recorded rules P found _ (has_failure events) (faults_of events s states) s (last_vehicle s states) s.gateway.tick n (counted_run rules P found events s states run) calm o
+    (outcome_law rules P found events s states n o run lt at)

@@ -3,38 +3,41 @@ use Rattle.std.proofs.Common.{◌≡◌, inl, inr, ℕ, zero, suc, ◌+◌, ◌-
 use Rattle.std.specs.Prelude.{Bool, Option, ◌==◌, ◌||◌, nat_le, MatchOption, Contains, slice_index_or, if◌then◌else◌}
 use Rattle.std.proofs.lemmas.Bool.{cases_Bool, false≢true, both_ways, and_parts, eqb-true, leb-true, leb-false}
 use Rattle.flash_base.specs.Lists.{Each}
-use Rattle.flash_plan.specs.Plan.{IsAccepted, plan_of}
+use Rattle.flash_plan.specs.Plan.{IsAccepted, plan_of, count_of}
 use Rattle.flash_plan.specs.declared.outcome.Entry.TheVariants.{Begun}
 use Rattle.flash_plan.specs.declared.outcome.Entry.{Entry}
 use Rattle.flash_plan.specs.declared.outcome.Outcome.{Outcome}
 use Rattle.flash_plan.specs.declared.outcome.Outcome.TheVariants as outcome
 use Rattle.flash_plan.specs.declared.outcome.Outcome.TheVariants.{Refused, BadAnswer, CheckFailed, IdentMismatch, Undelivered, NoAnswer, PendingLimit, BusyLimit}
 use Rattle.flash_plan.specs.declared.unit.LinkRules.{LinkRules}
+use Rattle.flash_plan.specs.declared.unit.Segment.{Segment}
 use Rattle.flash_plan.specs.declared.unit.UnitPlan.{UnitPlan}
 use Rattle.uds_codec.specs.Answer.{Verdict, Later, Again, Refusal, Good, Bad_status, Strange, judge}
 use Rattle.uds_codec.specs.Key.{all_zero, level_of}
 use Rattle.unit_model.specs.Unit.{ControlUnit, Counts, has_key, ident_of, LAST_COUNT, obedient}
 use Rattle.unit_model.specs.Vehicle.{Vehicle, unit_at}
+use Rattle.run_model.specs.Entries.{marks_of}
 use Rattle.run_model.specs.Matching.{IsMatching, HasIdent, HasValue}
 use Rattle.run_model.specs.Places.{is_ended}
-use Rattle.run_model.specs.Script.{Place, AtIdent, AtBegin, AtProgram, AtSeed, AtKey, AtErase, AtDownload, AtBlock, AtExit, AtCheck, AtFinish, AtReset, AtDone, AtEnd, bytes_at, place_next, start_place}
+use Rattle.run_model.specs.Script.{Place, AtIdent, AtBegin, AtProgram, AtSeed, AtKey, AtErase, AtDownload, AtBlock, AtExit, AtCheck, AtMark, AtFinish, AtReset, AtDone, AtEnd, bytes_at, place_next, start_place}
 use Rattle.run_model.specs.States.{HasRoom}
 use Rattle.run_model.specs.Troubles.{IsCalm, AreCalm}
 use Rattle.unit_session.proofs.Keeps.{left_judged}
-use Rattle.unit_session.specs.Left.{requests_left}
+use Rattle.unit_session.specs.Left.{left_for, requests_left}
 use Rattle.bay_core.proofs.OneStep.{step_law, core_law}
 use Rattle.bay_core.specs.Core.{Core, core_start, core_after, core_of, recorded_after}
 use Rattle.bay_core.specs.Joint.{IsVehicleJoint}
 use Rattle.bay_core.specs.Law.{DrivesAll}
 use Rattle.bay_core.specs.Legal.{is_legal}
-use Rattle.bay_core.specs.declared.event.Event.TheVariants.{Claimed, Began, Sent, Collected, Tended, Completed, DiskFailed, Ended}
+use Rattle.bay_core.specs.declared.event.Event.TheVariants.{Claimed, Began, Sent, Collected, Tended, Marked, Completed, DiskFailed, Ended}
 use Rattle.bay_core.specs.declared.event.Event.{Event}
+use Rattle.outcome_law.proofs.Checking.{takes_with, takes_on}
 use Rattle.outcome_law.proofs.Fair.{IsFair, IsFairEnd, fair}
 use Rattle.outcome_law.proofs.Growing.{unit_up_same, make_same}
 use Rattle.outcome_law.proofs.Steps.{start_counted, unit_step}
 use Rattle.outcome_law.specs.Causes.{Unfit, lacks_ident, lacks_level, other_key, stays_locked, lacks_room, other_check, odd_seed, odd_block, OtherIdent, IsCaused, IsCausedBy}
-use Rattle.outcome_law.specs.Counting.{IsEndCaused, AreUnitsCounted}
-use Rattle.outcome_law.specs.Law.{last_vehicle, IsRun, CauseLaw, CountingLaw, IsCalmUnit, AnyUnit, IsUnfitEnd, CalmLaw, MatchingLaw, AnswersWell, ObedientLaw, DoneLaw}
+use Rattle.outcome_law.specs.Counting.{Takes, IsEndCaused, SameChecked, AreUnitsCounted}
+use Rattle.outcome_law.specs.Law.{last_vehicle, IsRun, EndsCaused, CauseLaw, CountingLaw, IsCalmUnit, AnyUnit, IsUnfitEnd, IsMatchingRun, CalmLaw, MatchingLaw, AnswersWell, ObedientLaw, GoesOn, DoneLaw}
 use Rattle.outcome_law.specs.Rising.{RoseBy}
 
 -- ------ records only grow
@@ -48,6 +51,7 @@ recorded_more (Began u) records x is = or_right _ (records x) is
 recorded_more (Sent u place lost) records x is = is
 recorded_more (Collected u h) records x is = is
 recorded_more (Tended step) records x is = is
+recorded_more (Marked u s) records x is = or_right _ (records x) is
 recorded_more (Completed u) records x is = or_right _ (records x) is
 recorded_more (DiskFailed u entry) records x is = is
 recorded_more (Ended u why) records x is = is
@@ -59,11 +63,16 @@ counting_law rules P found c e v v2 first t0 accepted ok did joint counted = rec
 }
 
 -- ------ lists
+checked_start : (plan : UnitPlan) (found : ℕ → Bool) (o : Option ControlUnit) → SameChecked plan found o o
+checked_start plan found None = tt
+checked_start plan found (Some u) = λ all. refl
+
 pub start : (rules : LinkRules) (P : List UnitPlan) (found : Entry → Bool) (v : Vehicle) (t0 : ℕ) → AreUnitsCounted rules P found t0 (core_start P found) v v
 start rules P found v t0 = record {
   units = λ n lt. record {
     kept = unit_up_same (unit_at v.units (plan_of P n).address);
-    talk = start_counted (plan_of P n) (found (Begun n)) _ _ (unit_up_same (unit_at v.units (plan_of P n).address));
+    checked = checked_start (plan_of P n) (marks_of found n) (unit_at v.units (plan_of P n).address);
+    talk = start_counted (plan_of P n) (found (Begun n)) (marks_of found n) (marks_of found n) _ _ (unit_up_same (unit_at v.units (plan_of P n).address));
     awaits = λ live. absurd (false≢true live);
     timed = λ live. absurd (false≢true live);
   };
@@ -87,13 +96,8 @@ counted_run rules P found events s states run =
     (core_law.vehicle rules P found [] s [] run.accepted refl refl) (start rules P found s s.gateway.tick)
 
 -- ------ the causes
-pub end_cause : (plan : UnitPlan) (begun : Bool) (first now : Option ControlUnit) (place : Place) (o : Outcome) → place ≡ AtEnd o → IsEndCaused plan begun first now place → IsCaused plan begun first now o
-end_cause plan begun first now place o at is = subst (λ (p : Place). IsEndCaused plan begun first now p) at is
-
-pub cause_law : CauseLaw
-cause_law rules P found events s states run n o lt at =
-    end_cause (plan_of P n) ((core_of rules P (core_start P found) events).recorded (Begun n)) (unit_at s.units (plan_of P n).address) (unit_at (last_vehicle s states).units (plan_of P n).address) _ o at
-    ((counted_run rules P found events s states run).units n lt).talk.ended
+pub end_cause : (plan : UnitPlan) (begun : Bool) (found : ℕ → Bool) (first now : Option ControlUnit) (place : Place) (o : Outcome) → place ≡ AtEnd o → IsEndCaused plan begun found first now place → IsCaused plan begun found first now o
+end_cause plan begun found first now place o at is = subst (λ (p : Place). IsEndCaused plan begun found first now p) at is
 
 -- ------ without a departure
 pub calm_not : (n old new : ℕ) → 1 ≤ n → RoseBy n old new → IsCalm old new → ⊥
@@ -108,33 +112,31 @@ calm_not n old new some rose calm = elim (cases_Bool (nat_le new old)) [
       ]
 ]
 
-calm_caused : (plan : UnitPlan) (begun : Bool) (u : ControlUnit) (now : Counts) (o : Outcome) → AreCalm u.counts now → IsCausedBy plan begun u now o → IsUnfitEnd plan begun (Some u) o
-calm_caused plan begun u now (Refused sid nrc) calm (inl rose) = absurd (calm_not 1 _ _ (omega arith) rose (calm.refused nrc))
-calm_caused plan begun u now (Refused sid nrc) calm (inr unfit) = inl unfit
-calm_caused plan begun u now (BadAnswer sid) calm (inl rose) = absurd (calm_not 1 _ _ (omega arith) rose calm.odd)
-calm_caused plan begun u now (BadAnswer sid) calm (inr unfit) = inl unfit
-calm_caused plan begun u now (CheckFailed routine segment status) calm rose = absurd (calm_not 1 _ _ (omega arith) rose calm.failed)
-calm_caused plan begun u now (NoAnswer sid) calm (inl rose) = absurd (calm_not 1 _ _ (omega arith) rose calm.muted)
-calm_caused plan begun u now (NoAnswer sid) calm (inr rose) = absurd (calm_not 1 _ _ (omega arith) rose calm.late)
-calm_caused plan begun u now (PendingLimit sid) calm rose = absurd (calm_not 1 _ _ (omega arith) rose calm.stalled)
-calm_caused plan begun u now (BusyLimit sid) calm rose = absurd (calm_not 21 _ _ (omega arith) rose calm.busy)
-calm_caused plan begun u now (Undelivered code) calm rose = absurd (calm_not 1 _ _ (omega arith) rose (calm.nacked code))
-calm_caused plan begun u now (IdentMismatch did) calm other = inr (did, refl, other)
-calm_caused plan begun u now outcome.Complete calm never = absurd never
-calm_caused plan begun u now (outcome.LinkLost times) calm never = absurd never
-calm_caused plan begun u now (outcome.LinkRefused code) calm never = absurd never
-calm_caused plan begun u now (outcome.Blocked by) calm never = absurd never
-calm_caused plan begun u now outcome.DiskFault calm never = absurd never
-calm_caused plan begun u now outcome.NoMemory calm never = absurd never
+calm_caused : (plan : UnitPlan) (begun : Bool) (found : ℕ → Bool) (u : ControlUnit) (now : Counts) (o : Outcome) → AreCalm u.counts now → IsCausedBy plan begun found u now o → IsUnfitEnd plan begun found (Some u) o
+calm_caused plan begun found u now (Refused sid nrc) calm (inl rose) = absurd (calm_not 1 _ _ (omega arith) rose (calm.refused nrc))
+calm_caused plan begun found u now (Refused sid nrc) calm (inr unfit) = inl unfit
+calm_caused plan begun found u now (BadAnswer sid) calm (inl rose) = absurd (calm_not 1 _ _ (omega arith) rose calm.odd)
+calm_caused plan begun found u now (BadAnswer sid) calm (inr unfit) = inl unfit
+calm_caused plan begun found u now (CheckFailed routine segment status) calm (inl rose) = absurd (calm_not 1 _ _ (omega arith) rose calm.failed)
+calm_caused plan begun found u now (CheckFailed routine segment status) calm (inr none) = inr (inr (segment, status, ap (λ (r : ℕ). CheckFailed r segment status) none.0, none.1))
+calm_caused plan begun found u now (NoAnswer sid) calm (inl rose) = absurd (calm_not 1 _ _ (omega arith) rose calm.muted)
+calm_caused plan begun found u now (NoAnswer sid) calm (inr rose) = absurd (calm_not 1 _ _ (omega arith) rose calm.late)
+calm_caused plan begun found u now (PendingLimit sid) calm rose = absurd (calm_not 1 _ _ (omega arith) rose calm.stalled)
+calm_caused plan begun found u now (BusyLimit sid) calm rose = absurd (calm_not 21 _ _ (omega arith) rose calm.busy)
+calm_caused plan begun found u now (Undelivered code) calm rose = absurd (calm_not 1 _ _ (omega arith) rose (calm.nacked code))
+calm_caused plan begun found u now (IdentMismatch did) calm other = inr (inl (did, refl, other))
+calm_caused plan begun found u now outcome.Complete calm never = absurd never
+calm_caused plan begun found u now (outcome.LinkLost times) calm never = absurd never
+calm_caused plan begun found u now (outcome.LinkRefused code) calm never = absurd never
+calm_caused plan begun found u now (outcome.Blocked by) calm never = absurd never
+calm_caused plan begun found u now outcome.DiskFault calm never = absurd never
+calm_caused plan begun found u now outcome.NoMemory calm never = absurd never
 
-pub calm_end : (Is : ControlUnit → Type 0) (plan : UnitPlan) (begun : Bool) (first now : Option ControlUnit) (o : Outcome) → IsCalmUnit Is first now → IsCaused plan begun first now o → IsUnfitEnd plan begun first o
-calm_end Is plan begun None None o calm is = absurd calm
-calm_end Is plan begun None (Some w) o calm is = absurd is
-calm_end Is plan begun (Some u) None o calm is = absurd is
-calm_end Is plan begun (Some u) (Some w) o calm is = calm_caused plan begun u w.counts o calm.1 is
-
-pub calm_law : CalmLaw
-calm_law rules P found events s states n o run lt at calm = calm_end AnyUnit (plan_of P n) _ _ _ o calm (cause_law rules P found events s states run n o lt at)
+pub calm_end : (Is : ControlUnit → Type 0) (plan : UnitPlan) (begun : Bool) (found : ℕ → Bool) (first now : Option ControlUnit) (o : Outcome) → IsCalmUnit Is first now → IsCaused plan begun found first now o → IsUnfitEnd plan begun found first o
+calm_end Is plan begun found None None o calm is = absurd calm
+calm_end Is plan begun found None (Some w) o calm is = absurd is
+calm_end Is plan begun found (Some u) None o calm is = absurd is
+calm_end Is plan begun found (Some u) (Some w) o calm is = calm_caused plan begun found u w.counts o calm.1 is
 
 -- ------ a unit that matches
 each_of : {T : Type 0} (Q : T → Type 0) (xs : List T) (x : T) → Each Q xs → Contains xs x → Q x
@@ -161,11 +163,7 @@ unfit_not plan begun found u o fresh m (lacks_room s has isnt) = isnt (each_of (
 unfit_not plan begun found u o fresh m (other_check isnt) = isnt m.fits.check
 unfit_not plan begun found u o fresh m (odd_seed (inl none)) = let some : 1 ≤ length u.seed = m.fits.seed in omega (arith, none, some)
 unfit_not plan begun found u o fresh m (odd_seed (inr many)) = let few : length u.seed ≤ 32 = m.fits.short_seed in omega (arith, many, few)
-unfit_not plan begun found u o fresh m (odd_block (inl few)) = let some : 3 ≤ u.block = m.fits.block in omega (arith, few, some)
-unfit_not plan begun found u o fresh m (odd_block (inr many)) = both_orders _ _ many m.fits.block_range
-  where
-    both_orders : (a b : ℕ) → a ≤ b → b < a → ⊥
-    both_orders a b x y = omega (arith, x, y)
+unfit_not plan begun found u o fresh m (odd_block few) = let some : 3 ≤ u.block = m.fits.block in omega (arith, few, some)
 
 other_not : (plan : UnitPlan) (begun found : Bool) (u : ControlUnit) (did : ℕ) → (begun ≡ false → found ≡ false) → IsMatching found plan u → OtherIdent plan begun u did → ⊥
 other_not plan begun found u did fresh m other =
@@ -173,11 +171,12 @@ other_not plan begun found u did fresh m other =
     let value : ident_of u.idents other.wanted.did ≡ Some other.value = ap (ident_of u.idents) (sym other.did_is) ∙ other.value_is in
     other.other (subst (λ (x : Option (List ℕ)). MatchOption x ⊥ (λ (v : List ℕ). Contains other.wanted.values v)) value has)
 
-pub matching_end : (plan : UnitPlan) (begun found : Bool) (first now : Option ControlUnit) (o : Outcome) → (begun ≡ false → found ≡ false) → IsCalmUnit (IsMatching found plan) first now → IsUnfitEnd plan begun first o → ⊥
-matching_end plan begun found None now o fresh calm is = is
-matching_end plan begun found (Some u) None o fresh calm is = calm
-matching_end plan begun found (Some u) (Some w) o fresh calm (inl unfit) = unfit_not plan begun found u o fresh calm.0 unfit
-matching_end plan begun found (Some u) (Some w) o fresh calm (inr (did, is, other)) = other_not plan begun found u did fresh calm.0 other
+pub matching_end : (plan : UnitPlan) (begun found : Bool) (marks : ℕ → Bool) (first now : Option ControlUnit) (o : Outcome) → (begun ≡ false → found ≡ false) → IsCalmUnit (IsMatchingRun found plan marks) first now → IsUnfitEnd plan begun marks first o → ⊥
+matching_end plan begun found marks None now o fresh calm is = is
+matching_end plan begun found marks (Some u) None o fresh calm is = calm
+matching_end plan begun found marks (Some u) (Some w) o fresh calm (inl unfit) = unfit_not plan begun found u o fresh calm.0.matching unfit
+matching_end plan begun found marks (Some u) (Some w) o fresh calm (inr (inl (did, is, other))) = other_not plan begun found u did fresh calm.0.matching other
+matching_end plan begun found marks (Some u) (Some w) o fresh calm (inr (inr (segment, status, is, none))) = calm.0.checked none
 
 ended_is : (place : Place) → is_ended place ≡ true → (o : Outcome) × (place ≡ AtEnd o)
 ended_is (AtEnd o) e = (o, refl)
@@ -191,6 +190,7 @@ ended_is (AtDownload c) e = absurd (false≢true e)
 ended_is (AtBlock c b) e = absurd (false≢true e)
 ended_is (AtExit c) e = absurd (false≢true e)
 ended_is (AtCheck c) e = absurd (false≢true e)
+ended_is (AtMark c) e = absurd (false≢true e)
 ended_is AtFinish e = absurd (false≢true e)
 ended_is AtReset e = absurd (false≢true e)
 ended_is AtDone e = absurd (false≢true e)
@@ -208,40 +208,60 @@ none_left plan (AtDownload c) e z = absurd (omega (arith, z))
 none_left plan (AtBlock c b) e z = absurd (omega (arith, z))
 none_left plan (AtExit c) e z = absurd (omega (arith, z))
 none_left plan (AtCheck c) e z = absurd (omega (arith, z))
+none_left plan (AtMark c) e z = absurd (none_for c.left z)
+  where
+    none_for : (ss : List Segment) → left_for ss ≡ 0 → ⊥
+    none_for [] z = omega (arith, z)
+    none_for (s ∷ ss) z = omega (arith, z)
 none_left plan AtFinish e z = absurd (omega (arith, z))
 none_left plan AtReset e z = absurd (omega (arith, z))
 
-pub fresh_found : (rules : LinkRules) (P : List UnitPlan) (found : Entry → Bool) (events : List Event) (s : Vehicle) (states : List Vehicle) (n : ℕ) → IsRun rules P found events s states
-    → (core_of rules P (core_start P found) events).recorded (Begun n) ≡ false → found (Begun n) ≡ false
-fresh_found rules P found events s states n run none = elim (cases_Bool (found (Begun n))) [ inr e ↦ e | inl e ↦ absurd (both_ways _ none ((counted_run rules P found events s states run).more (Begun n) e)) ]
+-- ------ by what is kept
+module _ (rules : LinkRules) (P : List UnitPlan) (found : Entry → Bool) (c : Core) (first now : Vehicle) (t0 : ℕ) (counted : AreUnitsCounted rules P found t0 c first now) where
+  -- what was found recorded is
+  fresh_found : (n : ℕ) → c.recorded (Begun n) ≡ false → found (Begun n) ≡ false
+  fresh_found n none = elim (cases_Bool (found (Begun n))) [ inr e ↦ e | inl e ↦ absurd (both_ways _ none (counted.more (Begun n) e)) ]
 
--- a cause has no place where it matches and is calm
-pub no_cause : (rules : LinkRules) (P : List UnitPlan) (found : Entry → Bool) (events : List Event) (s : Vehicle) (states : List Vehicle) (n : ℕ) (o : Outcome) → IsRun rules P found events s states
-    → IsCalmUnit (IsMatching (found (Begun n)) (plan_of P n)) (unit_at s.units (plan_of P n).address) (unit_at (last_vehicle s states).units (plan_of P n).address)
-    → IsCaused (plan_of P n) ((core_of rules P (core_start P found) events).recorded (Begun n)) (unit_at s.units (plan_of P n).address) (unit_at (last_vehicle s states).units (plan_of P n).address) o → ⊥
-no_cause rules P found events s states n o run calm is =
-    matching_end (plan_of P n) ((core_of rules P (core_start P found) events).recorded (Begun n)) (found (Begun n)) (unit_at s.units (plan_of P n).address) (unit_at (last_vehicle s states).units (plan_of P n).address) o
-    (fresh_found rules P found events s states n run) calm (calm_end (IsMatching (found (Begun n)) (plan_of P n)) (plan_of P n) _ _ _ o calm is)
+  pub ends_caused : EndsCaused P found c first now
+  ends_caused n o lt at = end_cause (plan_of P n) (c.recorded (Begun n)) (marks_of found n) (unit_at first.units (plan_of P n).address) (unit_at now.units (plan_of P n).address) _ o at (counted.units n lt).talk.ended
+
+  -- a cause has no place where it matches and is calm
+  pub no_cause : (n : ℕ) (o : Outcome) → IsCalmUnit (IsMatchingRun (found (Begun n)) (plan_of P n) (marks_of found n)) (unit_at first.units (plan_of P n).address) (unit_at now.units (plan_of P n).address)
+      → IsCaused (plan_of P n) (c.recorded (Begun n)) (marks_of found n) (unit_at first.units (plan_of P n).address) (unit_at now.units (plan_of P n).address) o → ⊥
+  no_cause n o calm is =
+      matching_end (plan_of P n) (c.recorded (Begun n)) (found (Begun n)) (marks_of found n) (unit_at first.units (plan_of P n).address) (unit_at now.units (plan_of P n).address) o
+      (fresh_found n) calm (calm_end (IsMatchingRun (found (Begun n)) (plan_of P n) (marks_of found n)) (plan_of P n) _ (marks_of found n) _ _ o calm is)
+
+  pub kept_done : (n : ℕ) → n < count_of P → IsCalmUnit (IsMatchingRun (found (Begun n)) (plan_of P n) (marks_of found n)) (unit_at first.units (plan_of P n).address) (unit_at now.units (plan_of P n).address)
+      → GoesOn (plan_of P n) (c.recorded (Begun n)) (c.slots n).talk.place (c.slots n).talk.number
+  kept_done n lt calm = record {
+    goes = goes;
+    left = left;
+    done = λ begun enough. none_left (plan_of P n) _ goes (omega (arith, enough, left));
+  }
+    where
+      goes : is_ended (c.slots n).talk.place ≡ false
+      goes = elim (cases_Bool (is_ended (c.slots n).talk.place)) [
+        | inr e ↦ e
+        | inl e ↦ let end = ended_is _ e in absurd (no_cause n end.0 calm (ends_caused n end.0 lt end.1))
+      ]
+
+      left : (c.slots n).talk.number + requests_left (plan_of P n) (c.slots n).talk.place ≤ requests_left (plan_of P n) (start_place (plan_of P n) (c.recorded (Begun n)))
+      left = (counted.units n lt).talk.left goes
+
+-- ------ over a list
+pub cause_law : CauseLaw
+cause_law rules P found events s states run = ends_caused rules P found _ s (last_vehicle s states) s.gateway.tick (counted_run rules P found events s states run)
+
+pub calm_law : CalmLaw
+calm_law rules P found events s states n o run lt at calm = calm_end AnyUnit (plan_of P n) _ (marks_of found n) _ _ o calm (cause_law rules P found events s states run n o lt at)
 
 pub matching_law : MatchingLaw
-matching_law rules P found events s states n o run lt calm at = no_cause rules P found events s states n o run calm (cause_law rules P found events s states run n o lt at)
+matching_law rules P found events s states n o run lt calm at =
+    no_cause rules P found (core_of rules P (core_start P found) events) s (last_vehicle s states) s.gateway.tick (counted_run rules P found events s states run) n o calm (cause_law rules P found events s states run n o lt at)
 
 pub done_law : DoneLaw
-done_law rules P found events s states n run lt calm = record {
-  goes = goes;
-  left = left;
-  done = λ begun enough. none_left (plan_of P n) _ goes (omega (arith, enough, left));
-}
-  where
-    goes : is_ended ((core_of rules P (core_start P found) events).slots n).talk.place ≡ false
-    goes = elim (cases_Bool (is_ended ((core_of rules P (core_start P found) events).slots n).talk.place)) [
-      | inr e ↦ e
-      | inl e ↦ let end = ended_is _ e in absurd (matching_law rules P found events s states n end.0 run lt calm end.1)
-    ]
-
-    left : ((core_of rules P (core_start P found) events).slots n).talk.number + requests_left (plan_of P n) ((core_of rules P (core_start P found) events).slots n).talk.place
-        ≤ requests_left (plan_of P n) (start_place (plan_of P n) ((core_of rules P (core_start P found) events).recorded (Begun n)))
-    left = ((counted_run rules P found events s states run).units n lt).talk.left goes
+done_law rules P found events s states n run lt calm = kept_done rules P found _ s (last_vehicle s states) s.gateway.tick (counted_run rules P found events s states run) n lt calm
 
 -- ------ the obedient answers of a unit that matches
 not_end : (plan : UnitPlan) (begun : Bool) (u : ControlUnit) (place : Place) → IsMatching begun plan u → IsFairEnd plan begun u place → is_ended place ≡ false
@@ -266,14 +286,26 @@ not_end plan begun u place m fair_end = elim (cases_Bool (is_ended place)) [
     other_end outcome.DiskFault never = never
     other_end outcome.NoMemory never = never
 
+-- as if no segment had been found marked: so a whole check that finds nothing is left out
+abbrev none_found : ℕ → Bool
+none_found k = false
+
 pub obedient_law : ObedientLaw
-obedient_law plan begun place u ok is asked ident needs state takes m =
-    go (judge (bytes_at plan place) (obedient u (bytes_at plan place)).1) refl (fair plan ok begun u u (make_same u) place is asked ident needs state takes)
+obedient_law plan begun found place first u ok is asked ident needs state takes some m =
+    go (judge (bytes_at plan place) (obedient u (bytes_at plan place)).1) refl (λ skipped. fair plan ok begun none_found skipped u u (make_same u) place is asked ident needs state takes_own)
   where
-    go : (v : Verdict) → judge (bytes_at plan place) (obedient u (bytes_at plan place)).1 ≡ v → IsFair plan begun u place (obedient u (bytes_at plan place)).0 v → AnswersWell plan place u
-    go Later e f = absurd f
-    go Again e f = absurd f
-    go (Refusal nrc) e f = absurd (unfit_not plan begun begun u _ (λ x. x) m f)
-    go (Good rest) e f = record { rest = rest; good = e; on = not_end plan begun u (place_next plan place rest) m f.0; fewer = left_judged plan place (Good rest) (record { place_is = is; asked = asked }) needs tt }
-    go (Bad_status status) e f = absurd f
-    go Strange e f = absurd (unfit_not plan begun begun u _ (λ x. x) m f)
+    takes_own : Takes plan none_found u place u
+    takes_own = takes_with plan none_found u place u (λ e none. absurd (some (subst (λ (p : Place). Takes plan found first p u) e takes none))) (takes_on plan found first place u takes)
+
+    go : (v : Verdict) → judge (bytes_at plan place) (obedient u (bytes_at plan place)).1 ≡ v → ((skipped : ℕ → Bool) → IsFair plan begun none_found skipped u place (obedient u (bytes_at plan place)).0 v) → AnswersWell plan place u
+    go Later e f = absurd (f none_found)
+    go Again e f = absurd (f none_found)
+    go (Refusal nrc) e f = absurd (unfit_not plan begun begun u _ (λ x. x) m (f none_found))
+    go (Good rest) e f = record {
+      rest = rest;
+      good = e;
+      on = λ skipped. not_end plan begun u (place_next plan skipped place rest) m (f skipped).0;
+      fewer = λ skipped. left_judged plan skipped place (Good rest) (record { place_is = is; asked = asked }) needs tt;
+    }
+    go (Bad_status status) e f = absurd (false≢true ((f none_found).1.marked 0 ok.some))
+    go Strange e f = absurd (unfit_not plan begun begun u _ (λ x. x) m (f none_found))

@@ -3,7 +3,7 @@ use Rattle.std.proofs.Common.{◌≡◌, ◌⊎◌, inl, inr, ℕ, zero, suc, �
 use Rattle.std.specs.Prelude.{Bool, Option, ◌==◌, ◌||◌, is_some}
 use Rattle.std.proofs.lemmas.Bool.{cases_Bool, false≢true, leb-false}
 use Rattle.std.proofs.lemmas.List.{append-nil}
-use Rattle.bay_core.proofs.Ticking.{bodies, held_bodies}
+use Rattle.bay_core.proofs.Ticking.{bodies, held_bodies, turned, on_one}
 use Rattle.bay_core.specs.Joint.{HoldsAtMost, IsLoneHeld, held_of}
 use Rattle.doip_frame.proofs.Streams.{split}
 use Rattle.doip_frame.specs.Frame.{Stream, stream_of}
@@ -22,7 +22,7 @@ use Rattle.unit_model.specs.Step.{Departure, Refuses, Odd, Fails, Mutes, Busies,
 use Rattle.unit_model.specs.Unit.{ControlUnit, Counts}
 use Rattle.unit_model.specs.Vehicle.{HeldAnswer, Gateway, Vehicle}
 use Rattle.flash_plan.specs.declared.outcome.Outcome.TheVariants.{NoAnswer}
-use Rattle.outcome_law.proofs.Clock.{turned, on_one, none_dues}
+use Rattle.outcome_law.proofs.Clock.{none_dues}
 use Rattle.outcome_law.proofs.Growing.{rose_then}
 use Rattle.outcome_law.specs.Causes.{IsCaused}
 use Rattle.outcome_law.specs.Counting.{KeptIn, IsCounted, IsHeardCounted, IsMissedCounted, IsAwaitCounted, dues, come, IsHeldTimed, IsOnTime, IsTimed}
@@ -83,7 +83,7 @@ late_head : (x y : Bool) → (x || y) ≡ false → x ≡ false
 late_head true y e = absurd (false≢true (sym e))
 late_head false y e = refl
 
-module _ (tester : ℕ) (plan : UnitPlan) (t0 : ℕ) (t : Talk) (l : Link) (first v : Vehicle) (c : IsConnected tester l v.gateway) (none : v.gateway.ready ≡ []) (no_more : is_some (first_word plan.address l.inbox) ≡ false)
+module _ (tester : ℕ) (plan : UnitPlan) (found : ℕ → Bool) (t0 : ℕ) (t : Talk) (l : Link) (first v : Vehicle) (c : IsConnected tester l v.gateway) (none : v.gateway.ready ≡ []) (no_more : is_some (first_word plan.address l.inbox) ≡ false)
     (ticks : v.gateway.tick ≡ t0 + l.ticks) (over : t.since + 1000 ≤ l.ticks + 1) (most : HoldsAtMost tester plan.address (sid_of (bytes_at plan t.place)) v.gateway) where
   abbrev a : ℕ
   a = plan.address
@@ -116,7 +116,7 @@ module _ (tester : ℕ) (plan : UnitPlan) (t0 : ℕ) (t : Talk) (l : Link) (firs
 
   -- it said nothing, and holds nothing
   mute : (f u : ControlUnit) → held_of plan.address v.gateway.held ≡ [] → on_way tester plan.address l.inbox l.rest v.gateway ≡ bodies (held_of plan.address v.gateway.held)
-      → IsHeardCounted plan t f (held_of plan.address v.gateway.held) (on_way tester plan.address l.inbox l.rest v.gateway) u → Rose f.counts.muted u.counts.muted
+      → IsHeardCounted plan found t f (held_of plan.address v.gateway.held) (on_way tester plan.address l.inbox l.rest v.gateway) u → Rose f.counts.muted u.counts.muted
   mute f u empty is h = go h.step
     where
       said : h.said ≡ None
@@ -146,8 +146,8 @@ module _ (tester : ℕ) (plan : UnitPlan) (t0 : ℕ) (t : Talk) (l : Link) (firs
       turned_times tick h = elim (cases_Bool (is_turn tick h)) [ inl e ↦ rw e (refl, refl) | inr e ↦ rw e (refl, refl) ]
 
   pub silence : (fo vo wo : Option ControlUnit) (begun : Bool) (sid : ℕ) → KeptIn vo wo
-      → IsAwaitCounted plan t (held_of plan.address v.gateway.held) (on_way tester plan.address l.inbox l.rest v.gateway) fo vo
-      → IsTimed tester plan.address (t0 + t.since) l.inbox l.rest v.gateway fo vo → IsTimed tester plan.address (t0 + t.since) l.inbox l.rest (ticked v).gateway fo wo → IsCaused plan begun fo wo (NoAnswer sid)
+      → IsAwaitCounted plan found t (held_of plan.address v.gateway.held) (on_way tester plan.address l.inbox l.rest v.gateway) fo vo
+      → IsTimed tester plan.address (t0 + t.since) l.inbox l.rest v.gateway fo vo → IsTimed tester plan.address (t0 + t.since) l.inbox l.rest (ticked v).gateway fo wo → IsCaused plan begun found fo wo (NoAnswer sid)
   silence None None wo begun sid kept awaits timed after = absurd (no_reply 3 (way_held timed) awaits)
   silence None (Some u) wo begun sid kept awaits timed after = absurd awaits
   silence (Some f) None wo begun sid kept awaits timed after = absurd awaits
@@ -158,7 +158,7 @@ module _ (tester : ℕ) (plan : UnitPlan) (t0 : ℕ) (t : Talk) (l : Link) (firs
       later : words_later tester plan.address v.gateway.later ≡ []
       later = none_dues tester plan.address v.gateway.later (none_later (t0 + t.since) refl on)
 
-      go : HoldsAtMost tester plan.address (sid_of (bytes_at plan t.place)) v.gateway → IsMissedCounted f (on_way tester plan.address l.inbox l.rest v.gateway) u ⊎ IsHeardCounted plan t f (held_of plan.address v.gateway.held) (on_way tester plan.address l.inbox l.rest v.gateway) u
+      go : HoldsAtMost tester plan.address (sid_of (bytes_at plan t.place)) v.gateway → IsMissedCounted f (on_way tester plan.address l.inbox l.rest v.gateway) u ⊎ IsHeardCounted plan found t f (held_of plan.address v.gateway.held) (on_way tester plan.address l.inbox l.rest v.gateway) u
           → Rose f.counts.muted w.counts.muted ⊎ Rose f.counts.late w.counts.late
       go x (inl m) = absurd (no_reply m.code (way_held later) m.on_way)
       go (inl empty) (inr h) = inl (rose_then 1 _ _ _ (mute f u empty (way_held later) h) kept.counts.muted)

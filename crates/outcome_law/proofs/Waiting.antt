@@ -1,6 +1,6 @@
 -- A unit whose answer is awaited, where what is on the way from it stays.
 use Rattle.std.proofs.Common.{◌≡◌, ◌⊎◌, inl, inr, ℕ, ◌+◌, ◌<◌, ◌≤◌, true, List, [], ◌∷◌, ◌++◌, Some, None, refl, sym, ◌∙◌, ap, subst, arith}
-use Rattle.std.specs.Prelude.{Option, is_some}
+use Rattle.std.specs.Prelude.{Bool, Option, is_some}
 use Rattle.std.proofs.lemmas.Bool.{both_ways}
 use Rattle.std.proofs.lemmas.List.{append-nil}
 use Rattle.bay_core.proofs.Piecing.{live_stays_open}
@@ -38,9 +38,9 @@ counted_on (Fails body) busies a b c grow rose = rose_then 1 _ _ _ rose grow.fai
 counted_on Mutes busies a b c grow rose = rose_then 1 _ _ _ rose grow.muted
 counted_on Busies busies a b c grow rose = rose_then (busies + 1) _ _ _ rose grow.busy
 
-pub heard_on : (plan : UnitPlan) (t : Talk) (first : ControlUnit) (held held2 : List HeldAnswer) (way way2 : List Spoken) (u w : ControlUnit) → SameState u w → Kept u w → way2 ≡ way → ((one : HeldAnswer) → held2 ≡ one ∷ [] → held ≡ one ∷ [])
-    → IsHeardCounted plan t first held way u → IsHeardCounted plan t first held2 way2 w
-heard_on plan t first held held2 way way2 u w same kept is back h = record {
+pub heard_on : (plan : UnitPlan) (found : ℕ → Bool) (t : Talk) (first : ControlUnit) (held held2 : List HeldAnswer) (way way2 : List Spoken) (u w : ControlUnit) → SameState u w → Kept u w → way2 ≡ way → ((one : HeldAnswer) → held2 ≡ one ∷ [] → held ≡ one ∷ [])
+    → IsHeardCounted plan found t first held way u → IsHeardCounted plan found t first held2 way2 w
+heard_on plan found t first held held2 way way2 u w same kept is back h = record {
   before = h.before;
   said = h.said;
   pending = h.pending;
@@ -56,15 +56,15 @@ heard_on plan t first held held2 way way2 u w same kept is back h = record {
   holding = λ one e. let x = h.holding one (back one e) in (x.0, elim x.1 [ inl le ↦ inl le | inr rose ↦ inr (rose_then 1 _ _ _ rose kept.counts.stalled) ]);
 }
 
-pub awaits_on : (plan : UnitPlan) (t : Talk) (held held2 : List HeldAnswer) (way way2 : List Spoken) (first now now2 : Option ControlUnit) → SameIn now now2 → KeptIn now now2 → way2 ≡ way → ((one : HeldAnswer) → held2 ≡ one ∷ [] → held ≡ one ∷ [])
-    → IsAwaitCounted plan t held way first now → IsAwaitCounted plan t held2 way2 first now2
-awaits_on plan t held held2 way way2 None None None same kept is back a = is ∙ a
-awaits_on plan t held held2 way way2 None None (Some w) same kept is back a = absurd same
-awaits_on plan t held held2 way way2 None (Some u) now2 same kept is back a = absurd a
-awaits_on plan t held held2 way way2 (Some f) None now2 same kept is back a = absurd a
-awaits_on plan t held held2 way way2 (Some f) (Some u) None same kept is back a = absurd same
-awaits_on plan t held held2 way way2 (Some f) (Some u) (Some w) same kept is back (inl m) = inl (record { code = m.code; on_way = is ∙ m.on_way; count = rose_then 1 _ _ _ m.count (kept.counts.nacked m.code) })
-awaits_on plan t held held2 way way2 (Some f) (Some u) (Some w) same kept is back (inr h) = inr (heard_on plan t f held held2 way way2 u w same kept is back h)
+pub awaits_on : (plan : UnitPlan) (found : ℕ → Bool) (t : Talk) (held held2 : List HeldAnswer) (way way2 : List Spoken) (first now now2 : Option ControlUnit) → SameIn now now2 → KeptIn now now2 → way2 ≡ way → ((one : HeldAnswer) → held2 ≡ one ∷ [] → held ≡ one ∷ [])
+    → IsAwaitCounted plan found t held way first now → IsAwaitCounted plan found t held2 way2 first now2
+awaits_on plan found t held held2 way way2 None None None same kept is back a = is ∙ a
+awaits_on plan found t held held2 way way2 None None (Some w) same kept is back a = absurd same
+awaits_on plan found t held held2 way way2 None (Some u) now2 same kept is back a = absurd a
+awaits_on plan found t held held2 way way2 (Some f) None now2 same kept is back a = absurd a
+awaits_on plan found t held held2 way way2 (Some f) (Some u) None same kept is back a = absurd same
+awaits_on plan found t held held2 way way2 (Some f) (Some u) (Some w) same kept is back (inl m) = inl (record { code = m.code; on_way = is ∙ m.on_way; count = rose_then 1 _ _ _ m.count (kept.counts.nacked m.code) })
+awaits_on plan found t held held2 way way2 (Some f) (Some u) (Some w) same kept is back (inr h) = inr (heard_on plan found t f held held2 way way2 u w same kept is back h)
 
 -- what has come late stays counted; else the times go on, or it is counted now
 pub timed_on : (tester a sent sent2 : ℕ) (inbox inbox2 : List (ℕ × Spoken)) (rest rest2 : List ℕ) (g g2 : Gateway) (first now now2 : Option ControlUnit) → KeptIn now now2 → (words_later tester a g.later ≡ [] → words_later tester a g2.later ≡ [])
@@ -96,14 +96,14 @@ still_on tester a sent inbox inbox2 rest rest2 g g2 s t = record {
 }
 
 -- one unit's part of what is counted, while its answer is awaited
-pub record IsAwaited (tester : ℕ) (plan : UnitPlan) (t0 : ℕ) (t : Talk) (l : Link) (first now : Vehicle) : Type 0 where
-  pub awaits : IsAwaitCounted plan t (held_of plan.address now.gateway.held) (on_way tester plan.address l.inbox l.rest now.gateway) (unit_at first.units plan.address) (unit_at now.units plan.address)
+pub record IsAwaited (tester : ℕ) (plan : UnitPlan) (found : ℕ → Bool) (t0 : ℕ) (t : Talk) (l : Link) (first now : Vehicle) : Type 0 where
+  pub awaits : IsAwaitCounted plan found t (held_of plan.address now.gateway.held) (on_way tester plan.address l.inbox l.rest now.gateway) (unit_at first.units plan.address) (unit_at now.units plan.address)
   pub timed : IsTimed tester plan.address (t0 + t.since) l.inbox l.rest now.gateway (unit_at first.units plan.address) (unit_at now.units plan.address)
 
-pub still_awaited : (tester : ℕ) (plan : UnitPlan) (t0 : ℕ) (t : Talk) (l l2 : Link) (first v w : Vehicle) → IsStillOn tester plan.address l.inbox l2.inbox l.rest l2.rest v.gateway w.gateway
-    → SameIn (unit_at v.units plan.address) (unit_at w.units plan.address) → KeptIn (unit_at v.units plan.address) (unit_at w.units plan.address) → IsAwaited tester plan t0 t l first v → IsAwaited tester plan t0 t l2 first w
-still_awaited tester plan t0 t l l2 first v w s same kept is = record {
-  awaits = awaits_on plan t _ _ _ _ _ _ _ same kept s.way s.holds is.awaits;
+pub still_awaited : (tester : ℕ) (plan : UnitPlan) (found : ℕ → Bool) (t0 : ℕ) (t : Talk) (l l2 : Link) (first v w : Vehicle) → IsStillOn tester plan.address l.inbox l2.inbox l.rest l2.rest v.gateway w.gateway
+    → SameIn (unit_at v.units plan.address) (unit_at w.units plan.address) → KeptIn (unit_at v.units plan.address) (unit_at w.units plan.address) → IsAwaited tester plan found t0 t l first v → IsAwaited tester plan found t0 t l2 first w
+still_awaited tester plan found t0 t l l2 first v w s same kept is = record {
+  awaits = awaits_on plan found t _ _ _ _ _ _ _ same kept s.way s.holds is.awaits;
   timed = timed_on tester plan.address (t0 + t.since) (t0 + t.since) l.inbox l2.inbox l.rest l2.rest v.gateway w.gateway _ _ _ kept (λ e. s.later ∙ e)
       (λ f u x a b c on. inr (still_on tester plan.address (t0 + t.since) l.inbox l2.inbox l.rest l2.rest v.gateway w.gateway s on)) is.timed;
 }
