@@ -11,13 +11,13 @@ use Rattle.flash_plan.specs.declared.unit.Segment.{Segment}
 use Rattle.flash_plan.specs.declared.unit.UnitPlan.{UnitPlan}
 use Rattle.flash_plan.specs.declared.unit.Wanted.{Wanted}
 use Rattle.run_model.specs.Places.{is_ended}
-use Rattle.run_model.specs.Script.{Cursor, Blocks, Place, AtIdent, AtBegin, AtProgram, AtSeed, AtKey, AtErase, AtDownload, AtBlock, AtExit, AtCheck, AtFinish, AtReset, AtDone, AtEnd, bytes_at, place_next, idents_from, segments_from, after_program, more_blocks, after_block, is_empty, has_value, routine_at}
+use Rattle.run_model.specs.Script.{Cursor, Blocks, Place, AtIdent, AtBegin, AtProgram, AtSeed, AtKey, AtErase, AtDownload, AtBlock, AtExit, AtCheck, AtMark, AtFinish, AtReset, AtDone, AtEnd, bytes_at, place_next, idents_from, segments_from, after_program, more_blocks, after_block, is_empty, has_value, routine_at}
 use Rattle.run_model.specs.Talk.{Talk, talk_judged, sid_at}
 use Rattle.uds_codec.specs.Answer.{Verdict, Later, Again, Refusal, Good, Bad_status, Strange, judge, negative, negative_of, after_one, seed_form, status_form, routine_form, id_form, block_form, form_of, form_in}
 use Rattle.uds_codec.specs.Key.{all_zero}
-use Rattle.uds_codec.specs.Request.{request_of, sid_of}
+use Rattle.uds_codec.specs.Request.{request_of, sid_of, setting_code, messages_code}
 use Rattle.uds_codec.specs.declared.request.Request.{Request}
-use Rattle.uds_codec.specs.declared.request.Request.TheVariants.{Session, Reset, ReadId, Seed, Key, Routine, Download, Transfer, Exit}
+use Rattle.uds_codec.specs.declared.request.Request.TheVariants.{Session, Reset, ReadId, Seed, Key, Routine, Download, Upload, Transfer, Pull, Exit, Setting, Messages}
 use Rattle.unit_session.specs.Ends.{AnswerEnds, IsOther, EndsAreCaused}
 
 -- ------ what an answer may be judged as
@@ -64,8 +64,12 @@ form_is (Seed level) rest = form_after rest level seed_form (λ xs. form_if (nat
 form_is (Key level key) rest = form_after rest (level + 1) Good (λ xs. tt)
 form_is (Routine id option) rest = form_routine id rest
 form_is (Download width at size) rest = form_block rest
+form_is (Upload width at size) rest = form_block rest
 form_is (Transfer counter body) rest = form_after rest counter Good (λ xs. tt)
+form_is (Pull counter) rest = form_after rest counter Good (λ xs. tt)
 form_is Exit rest = tt
+form_is (Setting off) rest = form_after rest (setting_code off) Good (λ xs. tt)
+form_is (Messages off) rest = form_after rest (messages_code off) Good (λ xs. tt)
 
 form_some : (o : Option Request) (rest : List ℕ) → IsForm (form_in o rest)
 form_some None rest = tt
@@ -103,23 +107,23 @@ idents_open : (ws : List Wanted) → is_ended (idents_from ws) ≡ false
 idents_open [] = refl
 idents_open (w ∷ ws) = refl
 
-segments_open : (done ss : List Segment) → is_ended (segments_from done ss) ≡ false
-segments_open done [] = refl
-segments_open done (s ∷ ss) = refl
+segments_open : (marks : ℕ → Bool) (done ss : List Segment) → is_ended (segments_from marks done ss) ≡ false
+segments_open marks done [] = refl
+segments_open marks done (s ∷ ss) = elim (cases_Bool (marks (length done))) [ inl e ↦ rw e (segments_open marks (done ++ (s ∷ [])) ss) | inr e ↦ rw e refl ]
 
-opened_open : (u : UnitPlan) (rule : KeyRule) → is_ended (after_program u rule) ≡ false
-opened_open u Free = segments_open [] u.segments
-opened_open u (Xor level mask) = refl
-opened_open u (Digest level size secret) = refl
+opened_open : (u : UnitPlan) (marks : ℕ → Bool) (rule : KeyRule) → is_ended (after_program u marks rule) ≡ false
+opened_open u marks Free = segments_open marks [] u.segments
+opened_open u marks (Xor level mask) = refl
+opened_open u marks (Digest level size secret) = refl
 
 blocks_open : (c : Cursor) (b : Blocks) → is_ended (more_blocks c b) ≡ false
 blocks_open c b = elim (cases_Bool (is_empty b.rest)) [ inl e ↦ rw e refl | inr e ↦ rw e refl ]
 
-seed_open : (u : UnitPlan) (level : ℕ) (rest : List ℕ) → is_ended (place_next u (AtSeed level) rest) ≡ false
-seed_open u level rest = elim (cases_Bool (all_zero rest)) [ inl e ↦ rw e (segments_open [] u.segments) | inr e ↦ rw e refl ]
+seed_open : (u : UnitPlan) (marks : ℕ → Bool) (level : ℕ) (rest : List ℕ) → is_ended (place_next u marks (AtSeed level) rest) ≡ false
+seed_open u marks level rest = elim (cases_Bool (all_zero rest)) [ inl e ↦ rw e (segments_open marks [] u.segments) | inr e ↦ rw e refl ]
 
-module _ (u : UnitPlan) (body rest : List ℕ) (o : Outcome) where
-  good_ends : (p : Place) (t : Talk) → t.place ≡ p → judge (bytes_at u t.place) body ≡ Good rest → is_ended p ≡ false → place_next u p rest ≡ AtEnd o → AnswerEnds u t body o
+module _ (u : UnitPlan) (marks : ℕ → Bool) (body rest : List ℕ) (o : Outcome) where
+  good_ends : (p : Place) (t : Talk) → t.place ≡ p → judge (bytes_at u t.place) body ≡ Good rest → is_ended p ≡ false → place_next u marks p rest ≡ AtEnd o → AnswerEnds u t body o
   good_ends (AtIdent w ws) t at good open_place is = elim (cases_Bool (has_value w.values rest)) [
     | inl e ↦ ended_not (idents_from ws) o (idents_open ws) (rw e at is)
     | inr e ↦
@@ -127,15 +131,16 @@ module _ (u : UnitPlan) (body rest : List ℕ) (o : Outcome) where
         subst (AnswerEnds u t body) other (record { wanted = w; more = ws; value = rest; place = at; did_is = refl; good = good; other = e }))
   ]
   good_ends AtBegin t at good open_place is = ended_not AtBegin o refl is
-  good_ends AtProgram t at good open_place is = ended_not (after_program u u.key) o (opened_open u u.key) is
-  good_ends (AtSeed level) t at good open_place is = ended_not (place_next u (AtSeed level) rest) o (seed_open u level rest) is
-  good_ends (AtKey level seed) t at good open_place is = ended_not (segments_from [] u.segments) o (segments_open [] u.segments) is
+  good_ends AtProgram t at good open_place is = ended_not (after_program u marks u.key) o (opened_open u marks u.key) is
+  good_ends (AtSeed level) t at good open_place is = ended_not (place_next u marks (AtSeed level) rest) o (seed_open u marks level rest) is
+  good_ends (AtKey level seed) t at good open_place is = ended_not (segments_from marks [] u.segments) o (segments_open marks [] u.segments) is
   good_ends (AtErase c) t at good open_place is = ended_not (AtDownload c) o refl is
   good_ends (AtDownload c) t at good open_place is =
-      ended_not (place_next u (AtDownload c) rest) o (blocks_open c (record { sent = []; rest = c.now.body; counter = 1; limit = min (number_of rest) 65535 })) is
+      ended_not (place_next u marks (AtDownload c) rest) o (blocks_open c (record { sent = []; rest = c.now.body; counter = 1; limit = min (number_of rest) 65535 })) is
   good_ends (AtBlock c b) t at good open_place is = ended_not (more_blocks c (after_block b)) o (blocks_open c (after_block b)) is
   good_ends (AtExit c) t at good open_place is = ended_not (AtCheck c) o refl is
-  good_ends (AtCheck c) t at good open_place is = ended_not (segments_from (c.done ++ (c.now ∷ [])) c.left) o (segments_open (c.done ++ (c.now ∷ [])) c.left) is
+  good_ends (AtCheck c) t at good open_place is = ended_not (AtMark c) o refl is
+  good_ends (AtMark c) t at good open_place is = ended_not (AtMark c) o refl is
   good_ends AtFinish t at good open_place is = ended_not AtReset o refl is
   good_ends AtReset t at good open_place is = ended_not AtDone o refl is
   good_ends AtDone t at good open_place is = ended_not AtDone o refl is
@@ -169,7 +174,7 @@ module _ (u : UnitPlan) (tick : ℕ) (body : List ℕ) (t : Talk) (o : Outcome) 
   form_ends Later form v e = absurd form
   form_ends Again form v e = absurd form
   form_ends (Refusal nrc) form v e = absurd form
-  form_ends (Good rest) form v e = good_ends u body rest o t.place t refl v open_place e
+  form_ends (Good rest) form v e = good_ends u t.marks body rest o t.place t refl v open_place e
   form_ends (Bad_status status) form v e =
       let other : CheckFailed (routine_at u t.place).0 (routine_at u t.place).1 status ≡ o = ap end_of e in
       subst (AnswerEnds u t body) other (v, refl, refl)

@@ -7,7 +7,7 @@ use Rattle.flash_base.specs.Numbers.{number_of}
 use Rattle.flash_base.specs.Lists.{Each}
 use Rattle.flash_base.specs.declared.unit.KeyRule.{KeyRule}
 use Rattle.flash_base.specs.declared.unit.KeyRule.TheVariants.{Free, Xor, Digest}
-use Rattle.flash_plan.specs.Plan.{IsAcceptedUnit, IsWanted, size_of}
+use Rattle.flash_plan.specs.Plan.{IsAcceptedUnit, IsWanted, size_of, segment_of, no_segment}
 use Rattle.flash_plan.specs.declared.outcome.Outcome.{Outcome}
 use Rattle.flash_plan.specs.declared.outcome.Outcome.TheVariants.{Refused, BadAnswer, CheckFailed}
 use Rattle.flash_plan.specs.declared.unit.Segment.{Segment}
@@ -16,7 +16,7 @@ use Rattle.flash_plan.specs.declared.unit.Wanted.{Wanted}
 use Rattle.run_model.proofs.Along.{IsGoodPlace, says}
 use Rattle.run_model.specs.Places.{needs_request}
 use Rattle.run_model.specs.Script as script
-use Rattle.run_model.specs.Script.{Cursor, Blocks, Place, AtIdent, AtBegin, AtProgram, AtSeed, AtKey, AtErase, AtDownload, AtBlock, AtExit, AtCheck, AtFinish, AtReset, AtDone, AtEnd, request_at, bytes_at, place_judged, place_next, routine_at, idents_from, segments_from, after_program, start_place, more_blocks, after_block, is_empty, has_value, ask_at}
+use Rattle.run_model.specs.Script.{Cursor, Blocks, Place, AtIdent, AtBegin, AtProgram, AtSeed, AtKey, AtErase, AtDownload, AtBlock, AtExit, AtCheck, AtMark, AtFinish, AtReset, AtDone, AtEnd, request_at, bytes_at, place_judged, place_next, place_marked, routine_at, idents_from, segments_from, after_program, start_place, more_blocks, after_block, is_empty, has_value, ask_at}
 use Rattle.run_model.specs.Talk.{Talk, talk_hears, talk_judged}
 use Rattle.run_model.specs.Ways.{Reply}
 use Rattle.uds_codec.specs.Answer.{Verdict, Later, Again, Refusal, Good, Bad_status, Strange, judge, form_in}
@@ -25,11 +25,11 @@ use Rattle.uds_codec.specs.Request.{sid_of}
 use Rattle.unit_session.specs.Judging.{judged, verdict_of, IsFront}
 use Rattle.unit_session.specs.Left.{left_for, requests_left}
 use Rattle.unit_session.specs.Onward.{IsFinalForm, sid_at}
-use Rattle.unit_session.specs.Session.{place_at, IsStage, segment_of, no_segment, asked, settled, IsFewer}
+use Rattle.unit_session.specs.Session.{place_at, IsStage, asked, settled, IsFewer}
 use Rattle.unit_session.specs.declared.judging.Front.{Front}
 use Rattle.unit_session.specs.declared.session.Ask.TheVariants as ask
 use Rattle.unit_session.specs.declared.stage.Stage.{Stage}
-use Rattle.unit_session.specs.declared.stage.Stage.TheVariants.{Ident, Program, Seed, Key, Erase, Download, Block, Exit, Check, Finish, Reset, Done, Ended}
+use Rattle.unit_session.specs.declared.stage.Stage.TheVariants.{Ident, Program, Seed, Key, Erase, Download, Block, Exit, Check, Mark, Finish, Reset, Done, Ended}
 use Rattle.unit_session.proofs.Forms.{judged_by}
 
 -- ------ each stage is a place of the script
@@ -67,6 +67,7 @@ stage_good u (Block n sent counter limit) ok is = record {
 }
 stage_good u (Exit n) ok is = record { place_is = cursor_is u n is; asked = tt }
 stage_good u (Check n) ok is = record { place_is = cursor_is u n is; asked = tt }
+stage_good u (Mark n next) ok is = record { place_is = cursor_is u n is; asked = tt }
 stage_good u Finish ok is = record { place_is = tt; asked = tt }
 stage_good u Reset ok is = record { place_is = tt; asked = tt }
 stage_good u Done ok is = record { place_is = tt; asked = tt }
@@ -87,6 +88,7 @@ sid_is u (Download n) needs = refl
 sid_is u (Block n sent counter limit) needs = refl
 sid_is u (Exit n) needs = refl
 sid_is u (Check n) needs = refl
+sid_is u (Mark n next) needs = absurd (false≢true needs)
 sid_is u Finish needs = refl
 sid_is u Reset needs = refl
 sid_is u Done needs = absurd (false≢true needs)
@@ -101,7 +103,7 @@ heard_front u stage reply said sid ok is needs at front =
     ∙ ap (λ (k : ℕ). judged k (form_in (request_at u (place_at u stage))) reply) (sid_is u stage needs ∙ sym at)
     ∙ front (form_in (request_at u (place_at u stage)))
 
-settled_judged : (u : UnitPlan) (tick : ℕ) (t : Talk) (v : Verdict) → IsFinalForm v → talk_judged u tick v t ≡ settled (place_judged u t.place v) t
+settled_judged : (u : UnitPlan) (tick : ℕ) (t : Talk) (v : Verdict) → IsFinalForm v → talk_judged u tick v t ≡ settled (place_judged u t.marks t.place v) t
 settled_judged u tick t Later final = absurd final
 settled_judged u tick t Again final = absurd final
 settled_judged u tick t (Refusal nrc) final = refl
@@ -110,14 +112,21 @@ settled_judged u tick t (Bad_status status) final = refl
 settled_judged u tick t Strange final = refl
 
 -- a final answer
-pub heard_final : (u : UnitPlan) (tick : ℕ) (t : Talk) (reply : List ℕ) (v : Verdict) (place : Place) → judge (bytes_at u t.place) reply ≡ v → IsFinalForm v → place ≡ place_judged u t.place v → talk_hears u tick (Reply reply) t ≡ settled place t
+pub heard_final : (u : UnitPlan) (tick : ℕ) (t : Talk) (reply : List ℕ) (v : Verdict) (place : Place) → judge (bytes_at u t.place) reply ≡ v → IsFinalForm v → place ≡ place_judged u t.marks t.place v → talk_hears u tick (Reply reply) t ≡ settled place t
 heard_final u tick t reply v place is final to =
     ap (λ (w : Verdict). talk_judged u tick w t) is ∙ settled_judged u tick t v final ∙ ap (λ (p : Place). settled p t) (sym to)
 
 -- ------ fewer requests are left behind each
-left_segments : (u : UnitPlan) (done ss : List Segment) → requests_left u (segments_from done ss) ≡ left_for ss
-left_segments u done [] = refl
-left_segments u done (s ∷ ss) = refl
+left_segments : (u : UnitPlan) (marks : ℕ → Bool) (done ss : List Segment) → requests_left u (segments_from marks done ss) ≤ left_for ss
+left_segments u marks done [] = omega arith
+left_segments u marks done (s ∷ ss) = let again = left_segments u marks (done ++ (s ∷ [])) ss in elim (cases_Bool (marks (length done))) [
+  | inl e ↦ rw e (omega (arith, again))
+  | inr e ↦ rw e (omega arith)
+]
+
+-- nor are there more behind a mark
+pub left_marked : (u : UnitPlan) (marks : ℕ → Bool) (c : Cursor) → requests_left u (place_marked marks (AtMark c)) ≤ requests_left u (AtMark c)
+left_marked u marks c = left_segments u marks (c.done ++ (c.now ∷ [])) c.left
 
 left_idents : (u : UnitPlan) (ws : List Wanted) → requests_left u (idents_from ws) ≤ length ws + 3 + left_for u.segments
 left_idents u [] = omega arith
@@ -126,26 +135,27 @@ left_idents u (w ∷ ws) = omega arith
 left_blocks : (u : UnitPlan) (c : Cursor) (b : Blocks) → requests_left u (more_blocks c b) ≤ length b.rest + 2 + left_for c.left
 left_blocks u c b = elim (cases_Bool (is_empty b.rest)) [ inl e ↦ rw e (omega arith) | inr e ↦ rw e (omega arith) ]
 
-left_opened : (u : UnitPlan) (rule : KeyRule) → requests_left u (after_program u rule) ≤ 2 + left_for u.segments
-left_opened u Free = omega (arith, left_segments u [] u.segments)
-left_opened u (Xor level mask) = omega arith
-left_opened u (Digest level size secret) = omega arith
+left_opened : (u : UnitPlan) (marks : ℕ → Bool) (rule : KeyRule) → requests_left u (after_program u marks rule) ≤ 2 + left_for u.segments
+left_opened u marks Free = omega (arith, left_segments u marks [] u.segments)
+left_opened u marks (Xor level mask) = omega arith
+left_opened u marks (Digest level size secret) = omega arith
 
-left_next : (u : UnitPlan) (place : Place) (rest : List ℕ) → IsGoodPlace u place → needs_request place ≡ true → IsFewer u (place_next u place rest) place
-left_next u (AtIdent w ws) rest good needs = elim (cases_Bool (has_value w.values rest)) [ inl e ↦ rw e (omega (arith, left_idents u ws)) | inr e ↦ rw e (omega arith) ]
-left_next u AtBegin rest good needs = absurd (false≢true needs)
-left_next u AtProgram rest good needs = omega (arith, left_opened u u.key)
-left_next u (AtSeed level) rest good needs = elim (cases_Bool (all_zero rest)) [ inl e ↦ rw e (omega (arith, left_segments u [] u.segments)) | inr e ↦ rw e (omega arith) ]
-left_next u (AtKey level seed) rest good needs = omega (arith, left_segments u [] u.segments)
-left_next u (AtErase c) rest good needs = omega arith
-left_next u (AtDownload c) rest good needs = omega (arith, left_blocks u c (record { sent = []; rest = c.now.body; counter = 1; limit = min (number_of rest) 65535 }))
-left_next u (AtBlock c b) rest good needs = omega (arith, left_blocks u c (after_block b), length-drop (b.limit - 2) b.rest, good.place_is.1.some, good.place_is.1.limit)
-left_next u (AtExit c) rest good needs = omega arith
-left_next u (AtCheck c) rest good needs = omega (arith, left_segments u (c.done ++ (c.now ∷ [])) c.left)
-left_next u AtFinish rest good needs = omega arith
-left_next u AtReset rest good needs = omega arith
-left_next u AtDone rest good needs = absurd (false≢true needs)
-left_next u (AtEnd outcome) rest good needs = absurd (false≢true needs)
+left_next : (u : UnitPlan) (marks : ℕ → Bool) (place : Place) (rest : List ℕ) → IsGoodPlace u place → needs_request place ≡ true → IsFewer u (place_next u marks place rest) place
+left_next u marks (AtIdent w ws) rest good needs = elim (cases_Bool (has_value w.values rest)) [ inl e ↦ rw e (omega (arith, left_idents u ws)) | inr e ↦ rw e (omega arith) ]
+left_next u marks AtBegin rest good needs = absurd (false≢true needs)
+left_next u marks AtProgram rest good needs = omega (arith, left_opened u marks u.key)
+left_next u marks (AtSeed level) rest good needs = elim (cases_Bool (all_zero rest)) [ inl e ↦ rw e (omega (arith, left_segments u marks [] u.segments)) | inr e ↦ rw e (omega arith) ]
+left_next u marks (AtKey level seed) rest good needs = omega (arith, left_segments u marks [] u.segments)
+left_next u marks (AtErase c) rest good needs = omega arith
+left_next u marks (AtDownload c) rest good needs = omega (arith, left_blocks u c (record { sent = []; rest = c.now.body; counter = 1; limit = min (number_of rest) 65535 }))
+left_next u marks (AtBlock c b) rest good needs = omega (arith, left_blocks u c (after_block b), length-drop (b.limit - 2) b.rest, good.place_is.1.some, good.place_is.1.limit)
+left_next u marks (AtExit c) rest good needs = omega arith
+left_next u marks (AtCheck c) rest good needs = omega arith
+left_next u marks (AtMark c) rest good needs = absurd (false≢true needs)
+left_next u marks AtFinish rest good needs = omega arith
+left_next u marks AtReset rest good needs = omega arith
+left_next u marks AtDone rest good needs = absurd (false≢true needs)
+left_next u marks (AtEnd outcome) rest good needs = absurd (false≢true needs)
 
 left_some : (u : UnitPlan) (place : Place) → needs_request place ≡ true → 1 ≤ requests_left u place
 left_some u (AtIdent w ws) needs = omega arith
@@ -158,6 +168,7 @@ left_some u (AtDownload c) needs = omega arith
 left_some u (AtBlock c b) needs = omega arith
 left_some u (AtExit c) needs = omega arith
 left_some u (AtCheck c) needs = omega arith
+left_some u (AtMark c) needs = absurd (false≢true needs)
 left_some u AtFinish needs = omega arith
 left_some u AtReset needs = omega arith
 left_some u AtDone needs = absurd (false≢true needs)
@@ -166,13 +177,13 @@ left_some u (AtEnd outcome) needs = absurd (false≢true needs)
 pub left_ended : (u : UnitPlan) (place : Place) (outcome : Outcome) → needs_request place ≡ true → IsFewer u (AtEnd outcome) place
 left_ended u place outcome needs = omega (arith, left_some u place needs)
 
-pub left_judged : (u : UnitPlan) (place : Place) (v : Verdict) → IsGoodPlace u place → needs_request place ≡ true → IsFinalForm v → IsFewer u (place_judged u place v) place
-left_judged u place Later good needs final = absurd final
-left_judged u place Again good needs final = absurd final
-left_judged u place (Refusal nrc) good needs final = left_ended u place (Refused (sid_of (bytes_at u place)) nrc) needs
-left_judged u place (Good rest) good needs final = left_next u place rest good needs
-left_judged u place (Bad_status status) good needs final = left_ended u place (CheckFailed (routine_at u place).0 (routine_at u place).1 status) needs
-left_judged u place Strange good needs final = left_ended u place (BadAnswer (sid_of (bytes_at u place))) needs
+pub left_judged : (u : UnitPlan) (marks : ℕ → Bool) (place : Place) (v : Verdict) → IsGoodPlace u place → needs_request place ≡ true → IsFinalForm v → IsFewer u (place_judged u marks place v) place
+left_judged u marks place Later good needs final = absurd final
+left_judged u marks place Again good needs final = absurd final
+left_judged u marks place (Refusal nrc) good needs final = left_ended u place (Refused (sid_of (bytes_at u place)) nrc) needs
+left_judged u marks place (Good rest) good needs final = left_next u marks place rest good needs
+left_judged u marks place (Bad_status status) good needs final = left_ended u place (CheckFailed (routine_at u place).0 (routine_at u place).1 status) needs
+left_judged u marks place Strange good needs final = left_ended u place (BadAnswer (sid_of (bytes_at u place))) needs
 
 left_size : (ss : List Segment) → left_for ss ≤ size_of ss + 4 * length ss + 2
 left_size [] = omega arith
@@ -189,6 +200,7 @@ start_of u begun ok = omega (arith, start_few u begun ok)
 pub waits : (b : Bool) (a : script.Ask) → asked b a ≡ ask.Wait → b ≡ true
 waits true a is = refl
 waits false script.Begin is = cc
+waits false (script.Mark n) is = cc
 waits false (script.Send bytes) is = cc
 waits false script.Done is = cc
 waits false (script.Over outcome) is = cc
@@ -205,6 +217,7 @@ sends u false (AtDownload c) is = refl
 sends u false (AtBlock c b) is = refl
 sends u false (AtExit c) is = refl
 sends u false (AtCheck c) is = refl
+sends u false (AtMark c) is = cc
 sends u false AtFinish is = refl
 sends u false AtReset is = refl
 sends u false AtDone is = cc

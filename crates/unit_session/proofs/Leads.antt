@@ -1,25 +1,27 @@
 -- What each answer leads to, by the numbers of a session.
-use Rattle.std.proofs.Common.{◌≡◌, inl, inr, ℕ, zero, suc, ◌+◌, ◌-◌, ◌<◌, ◌≤◌, true, false, List, [], ◌∷◌, ◌++◌, length, take, drop, Some, None, refl, sym, ◌∙◌, ap, subst, arith, slice_get, length-take, add-one, take-suc, drop-cons}
+use Rattle.std.proofs.Common.{◌≡◌, inl, inr, ℕ, zero, suc, ◌+◌, ◌-◌, ◌<◌, ◌≤◌, true, false, List, [], ◌∷◌, ◌++◌, length, take, drop, Some, None, refl, sym, ◌∙◌, ap, subst, arith, slice_get, length-take, length-append, add-one, take-suc, drop-cons}
 use Rattle.std.specs.Prelude.{Bool, Option, ◌==◌, ◌&&◌, nat_le, nat_lt, if◌then◌else◌, slice_index_or}
 use Rattle.std.proofs.lemmas.Bool.{cases_Bool, cases_lt, lt-ltb, le-ltb, false≢true}
 use Rattle.std.proofs.lemmas.List.{drop_all}
 use Rattle.flash_base.specs.Numbers.{big_endian}
-use Rattle.flash_plan.specs.Plan.{IsAcceptedUnit, size_of}
+use Rattle.flash_base.specs.declared.unit.KeyRule.{KeyRule}
+use Rattle.flash_base.specs.declared.unit.KeyRule.TheVariants.{Free, Xor, Digest}
+use Rattle.flash_plan.specs.Plan.{IsAcceptedUnit, size_of, no_segment, segment_of}
 use Rattle.flash_plan.specs.declared.outcome.Outcome.TheVariants.{IdentMismatch, BadAnswer, CheckFailed}
 use Rattle.flash_plan.specs.declared.unit.Segment.{Segment}
 use Rattle.flash_plan.specs.declared.unit.UnitPlan.{UnitPlan}
 use Rattle.flash_plan.specs.declared.unit.Wanted.{Wanted}
-use Rattle.run_model.specs.Script.{Blocks, Place, AtIdent, AtErase, AtEnd, request_at, bytes_at, place_judged, place_next, routine_at, idents_from, segments_from, more_blocks, is_empty, has_value}
+use Rattle.run_model.specs.Script.{Blocks, Place, AtIdent, AtErase, AtEnd, request_at, bytes_at, place_judged, place_next, routine_at, idents_from, segments_from, after_program, more_blocks, is_empty, has_value}
 use Rattle.uds_codec.specs.Answer.{Verdict, Good, Bad_status, Strange, form_in, routine_form, seed_form}
 use Rattle.uds_codec.specs.Key.{level_of, all_zero}
 use Rattle.uds_codec.specs.Request.{sid_of}
 use Rattle.unit_model.specs.Unit.{next_counter}
 use Rattle.unit_session.specs.Judging.{starts_with, names_id, status_in}
-use Rattle.unit_session.specs.Onward.{IsFinalForm, LeadsTo, routine_next, blocks_from, segment_next}
-use Rattle.unit_session.specs.Session.{place_at, IsStage, IsBlockStage, segment_of, cursor_at, no_segment, seed_bytes, level_or_none}
+use Rattle.unit_session.specs.Onward.{IsFinalForm, LeadsTo, routine_next, blocks_from, erase_next}
+use Rattle.unit_session.specs.Session.{place_at, IsStage, IsBlockStage, KnowsNext, cursor_at, seed_bytes, level_or_none, first_open, open_from}
 use Rattle.unit_session.specs.declared.stage.KeptSeed.{KeptSeed}
 use Rattle.unit_session.specs.declared.stage.Stage.{Stage}
-use Rattle.unit_session.specs.declared.stage.Stage.TheVariants.{Ident, Seed, Key, Erase, Download, Block, Check, Finish, Reset, Ended}
+use Rattle.unit_session.specs.declared.stage.Stage.TheVariants.{Ident, Program, Seed, Key, Erase, Download, Block, Check, Mark, Finish, Reset, Ended}
 use Rattle.unit_session.proofs.Forms.{after_true, named_true, named_false, status_verdict, routine_by}
 
 drop_from : {T : Type 0} (xs : List T) (n : ℕ) (x : T) → slice_get xs n ≡ Some x → drop n xs ≡ x ∷ drop (suc n) xs
@@ -59,12 +61,82 @@ pub not_none : (n : ℕ) (b : Bool) → b ≡ (n == 0) → b ≡ false → 1 ≤
 not_none zero b is none = absurd (false≢true (sym none ∙ is))
 not_none (suc n) b is none = omega arith
 
--- ------ the segments behind a number
-erase_from : (u : UnitPlan) (n : ℕ) → n < length u.segments → segments_from (take n u.segments) (drop n u.segments) ≡ AtErase (cursor_at u n)
-erase_from u n lt =
-    let e : drop n u.segments ≡ segment_of u n ∷ drop (suc n) u.segments = drop-cons u.segments n no_segment lt in
-    ap (segments_from (take n u.segments)) (e ∙ ap (λ (k : ℕ). segment_of u n ∷ drop k u.segments) (sym (add-one n)))
+-- ------ the first segment that is not marked
+module _ (u : UnitPlan) (marks : ℕ → Bool) where
+  drop_here : (n : ℕ) → n < length u.segments → drop n u.segments ≡ segment_of u n ∷ drop (n + 1) u.segments
+  drop_here n lt = drop-cons u.segments n no_segment lt ∙ ap (λ (k : ℕ). segment_of u n ∷ drop k u.segments) (sym (add-one n))
 
+  take_here : (n : ℕ) → n < length u.segments → take n u.segments ++ (segment_of u n ∷ []) ≡ take (n + 1) u.segments
+  take_here n lt = sym (ap (λ (k : ℕ). take k u.segments) (add-one n) ∙ take-suc u.segments n no_segment lt)
+
+  pub done_count : (n : ℕ) → n ≤ length u.segments → length (take n u.segments) ≡ n
+  done_count n le = let e = length-take n u.segments in omega (arith, e, le)
+
+  abbrev Leaves : ℕ → Option ℕ → Type 0
+  Leaves n next = segments_from marks (take n u.segments) (drop n u.segments) ≡ place_at u (erase_next next)
+
+  leaves_here : (n : ℕ) → n < length u.segments → marks n ≡ false → Leaves n (Some n)
+  leaves_here n lt out =
+      let at : marks (length (take n u.segments)) ≡ false = ap marks (done_count n (omega (arith, lt))) ∙ out in
+      ap (segments_from marks (take n u.segments)) (drop_here n lt) ∙ (rw at refl)
+
+  leaves_later : (n : ℕ) (next : Option ℕ) → n < length u.segments → marks n ≡ true → Leaves (n + 1) next → Leaves n next
+  leaves_later n next lt out later =
+      let at : marks (length (take n u.segments)) ≡ true = ap marks (done_count n (omega (arith, lt))) ∙ out in
+      ap (segments_from marks (take n u.segments)) (drop_here n lt)
+      ∙ (rw at refl)
+      ∙ ap (λ (xs : List Segment). segments_from marks xs (drop (n + 1) u.segments)) (take_here n lt)
+      ∙ later
+
+  -- so many segments are left from a number on
+  leaves_first : (n left : ℕ) → n + left ≡ length u.segments → Leaves n (first_open marks n left)
+  leaves_first n zero all = ap (segments_from marks (take n u.segments)) (drop_all n u.segments (omega (arith, all)))
+  leaves_first n (suc left) all =
+      let lt : n < length u.segments = omega (arith, all) in
+      let again = leaves_first (n + 1) left (omega (arith, all)) in
+      elim (cases_Bool (marks n)) [
+        | inl e ↦ rw e (leaves_later n (first_open marks (n + 1) left) lt e again)
+        | inr e ↦ rw e (leaves_here n lt e)
+      ]
+
+  first_stage : (n left : ℕ) → n + left ≡ length u.segments → IsStage u (erase_next (first_open marks n left))
+  first_stage n zero all = tt
+  first_stage n (suc left) all = let again = first_stage (n + 1) left (omega (arith, all)) in elim (cases_Bool (marks n)) [
+    | inl e ↦ rw e again
+    | inr e ↦ (let lt : n < length u.segments = omega (arith, all) in rw e lt)
+  ]
+
+  pub leaves_open : (n : ℕ) → n ≤ length u.segments → Leaves n (open_from u marks n)
+  leaves_open n le = leaves_first n (length u.segments - n) (omega (arith, le))
+
+  pub open_stage : (n : ℕ) → n ≤ length u.segments → IsStage u (erase_next (open_from u marks n))
+  open_stage n le = first_stage n (length u.segments - n) (omega (arith, le))
+
+  -- as a search goes on
+  left_more : (n : ℕ) → n < length u.segments → length u.segments - n ≡ suc (length u.segments - (n + 1))
+  left_more n lt = omega (arith, lt)
+
+  pub open_here : (n : ℕ) → n < length u.segments → marks n ≡ false → open_from u marks n ≡ Some n
+  open_here n lt out = ap (first_open marks n) (left_more n lt) ∙ (rw out refl)
+
+  pub open_later : (n : ℕ) → n < length u.segments → marks n ≡ true → open_from u marks n ≡ open_from u marks (n + 1)
+  open_later n lt out = ap (first_open marks n) (left_more n lt) ∙ (rw out refl)
+
+  pub open_none : (n : ℕ) → length u.segments ≤ n → open_from u marks n ≡ None
+  open_none n le = let none : length u.segments - n ≡ 0 = omega (arith, le) in ap (first_open marks n) none
+
+-- whatever stands before the number makes no difference
+first_same : (marks other : ℕ → Bool) (n left : ℕ) → ((k : ℕ) → n ≤ k → marks k ≡ other k) → first_open marks n left ≡ first_open other n left
+first_same marks other n zero same = refl
+first_same marks other n (suc left) same =
+    let here : marks n ≡ other n = same n (omega arith) in
+    let again = first_same marks other (n + 1) left (λ k le. same k (omega (arith, le))) in
+    rw (here, again) refl
+
+pub open_same : (u : UnitPlan) (marks other : ℕ → Bool) (n : ℕ) → ((k : ℕ) → n ≤ k → marks k ≡ other k) → open_from u marks n ≡ open_from u other n
+open_same u marks other n same = first_same marks other n (length u.segments - n) same
+
+-- ------ sizes
 size_within : (ss : List Segment) (n : ℕ) → length (slice_index_or ss n no_segment).body ≤ size_of ss
 size_within [] n = omega arith
 size_within (s ∷ ss) zero = omega arith
@@ -73,65 +145,70 @@ size_within (s ∷ ss) (suc n) = omega (arith, size_within ss n)
 pub body_small : (u : UnitPlan) (n : ℕ) → IsAcceptedUnit u → length (segment_of u n).body ≤ 16777216
 body_small u n ok = omega (arith, size_within u.segments n, ok.bytes)
 
-module _ (u : UnitPlan) where
-  led : (stage : Stage) (rest : List ℕ) (next : Stage) (place : Place) (v : Verdict) → IsFinalForm v → place_at u stage ≡ place → form_in (request_at u place) rest ≡ v → place_at u next ≡ place_judged u place v → IsStage u next → LeadsTo u stage rest next
-  led stage rest next place v final at form to is = record {
-    place = to ∙ ap (place_judged u place) (sym form) ∙ (λ i. place_judged u (sym at i) (form_in (request_at u (sym at i)) rest));
+module _ (u : UnitPlan) (marks : ℕ → Bool) where
+  led : (stage : Stage) (rest : List ℕ) (next : Stage) (place : Place) (v : Verdict) → IsFinalForm v → place_at u stage ≡ place → form_in (request_at u place) rest ≡ v
+      → place_at u next ≡ place_judged u marks place v → IsStage u next → KnowsNext u marks next → LeadsTo u marks stage rest next
+  led stage rest next place v final at form to is known = record {
+    place = to ∙ ap (place_judged u marks place) (sym form) ∙ (λ i. place_judged u marks (sym at i) (form_in (request_at u (sym at i)) rest));
     final = subst IsFinalForm (sym form ∙ (λ i. form_in (request_at u (sym at i)) rest)) final;
     fits = is;
+    known = known;
   }
 
-  pub next_segment : (n : ℕ) → n < length u.segments → segments_from (take n u.segments ++ (segment_of u n ∷ [])) (drop (n + 1) u.segments) ≡ place_at u (segment_next u n)
-  next_segment n lt = elim (cases_lt (n + 1) (length u.segments)) [
-    | inl more ↦ let f : nat_lt (n + 1) (length u.segments) ≡ true = lt-ltb _ _ more in rw f (ap (λ (xs : List Segment). segments_from xs (drop (n + 1) u.segments)) done ∙ erase_from u (n + 1) more)
-    | inr none ↦
-        let f : nat_lt (n + 1) (length u.segments) ≡ false = le-ltb _ _ none in
-        rw f (ap (segments_from (take n u.segments ++ (segment_of u n ∷ []))) (drop_all (n + 1) u.segments none))
-  ]
-    where
-      done : take n u.segments ++ (segment_of u n ∷ []) ≡ take (n + 1) u.segments
-      done = sym (ap (λ (k : ℕ). take k u.segments) (add-one n) ∙ take-suc u.segments n no_segment lt)
+  erase_knows : (next : Option ℕ) → KnowsNext u marks (erase_next next)
+  erase_knows None = tt
+  erase_knows (Some n) = tt
 
-  segment_stage : (n : ℕ) → IsStage u (segment_next u n)
-  segment_stage n = elim (cases_lt (n + 1) (length u.segments)) [
-    | inl more ↦ let f : nat_lt (n + 1) (length u.segments) ≡ true = lt-ltb _ _ more in rw f more
-    | inr none ↦ let f : nat_lt (n + 1) (length u.segments) ≡ false = le-ltb _ _ none in rw f tt
-  ]
+  -- ------ the unit is open
+  -- a positive answer behind which the first segment follows that is not marked
+  open_leads : (stage : Stage) (rest more : List ℕ) → form_in (request_at u (place_at u stage)) rest ≡ Good more → place_next u marks (place_at u stage) more ≡ segments_from marks [] u.segments
+      → LeadsTo u marks stage rest (erase_next (open_from u marks 0))
+  open_leads stage rest more form to =
+      led stage rest (erase_next (open_from u marks 0)) (place_at u stage) (Good more) tt refl form (sym (to ∙ leaves_open u marks 0 (omega arith))) (open_stage u marks 0 (omega arith)) (erase_knows (open_from u marks 0))
+
+  pub program_opens : (rest : List ℕ) → u.key ≡ Free → starts_with 2 rest ≡ true → LeadsTo u marks Program rest (erase_next (open_from u marks 0))
+  program_opens rest free is = open_leads Program rest (drop 1 rest) (after_true 2 rest Good is) (ap (after_program u marks) free)
+
+  pub key_opens : (seed : KeptSeed) (rest : List ℕ) (level : ℕ) → level ≡ level_or_none (level_of u.key) → starts_with (level + 1) rest ≡ true → LeadsTo u marks (Key seed) rest (erase_next (open_from u marks 0))
+  key_opens seed rest level at is = open_leads (Key seed) rest (drop 1 rest) (after_true _ rest Good (ap (λ (k : ℕ). starts_with (k + 1) rest) (sym at) ∙ is)) refl
 
   -- ------ routines
   routine_leads : (stage : Stage) (place : Place) (rest : List ℕ) (id n : ℕ) (next : Stage) → place_at u stage ≡ place → ((xs : List ℕ) → form_in (request_at u place) xs ≡ routine_form id xs) → sid_of (bytes_at u place) ≡ 49 → routine_at u place ≡ (id, n)
-      → ((more : List ℕ) → place_next u place more ≡ place_at u next) → IsStage u next → (o : Option ℕ) → status_in id rest ≡ o → LeadsTo u stage rest (routine_next o id n next)
-  routine_leads stage place rest id n next at form sid routine to is None said =
-      led stage rest _ place Strange tt at (form rest ∙ routine_by id rest ∙ ap (λ (o : Option ℕ). status_verdict o (drop 4 rest)) said) (ap (λ (k : ℕ). AtEnd (BadAnswer k)) (sym sid)) tt
-  routine_leads stage place rest id n next at form sid routine to is (Some status) said = elim (cases_Bool (status == 0)) [
+      → ((more : List ℕ) → place_next u marks place more ≡ place_at u next) → IsStage u next → KnowsNext u marks next → (o : Option ℕ) → status_in id rest ≡ o → LeadsTo u marks stage rest (routine_next o id n next)
+  routine_leads stage place rest id n next at form sid routine to is known None said =
+      led stage rest _ place Strange tt at (form rest ∙ routine_by id rest ∙ ap (λ (o : Option ℕ). status_verdict o (drop 4 rest)) said) (ap (λ (k : ℕ). AtEnd (BadAnswer k)) (sym sid)) tt tt
+  routine_leads stage place rest id n next at form sid routine to is known (Some status) said = elim (cases_Bool (status == 0)) [
     | inl e ↦
         let v : form_in (request_at u place) rest ≡ Good (drop 4 rest) = form rest ∙ routine_by id rest ∙ ap (λ (o : Option ℕ). status_verdict o (drop 4 rest)) said ∙ ap (λ (b : Bool). if b then Good (drop 4 rest) else Bad_status status) e in
-        rw e (led stage rest next place (Good (drop 4 rest)) tt at v (sym (to (drop 4 rest))) is)
+        rw e (led stage rest next place (Good (drop 4 rest)) tt at v (sym (to (drop 4 rest))) is known)
     | inr e ↦
         let v : form_in (request_at u place) rest ≡ Bad_status status = form rest ∙ routine_by id rest ∙ ap (λ (o : Option ℕ). status_verdict o (drop 4 rest)) said ∙ ap (λ (b : Bool). if b then Good (drop 4 rest) else Bad_status status) e in
-        rw e (led stage rest (Ended (CheckFailed id n status)) place (Bad_status status) tt at v (ap (λ (x : ℕ × ℕ). AtEnd (CheckFailed x.0 x.1 status)) (sym routine)) tt)
+        rw e (led stage rest (Ended (CheckFailed id n status)) place (Bad_status status) tt at v (ap (λ (x : ℕ × ℕ). AtEnd (CheckFailed x.0 x.1 status)) (sym routine)) tt tt)
   ]
 
-  done_count : (n : ℕ) → n < length u.segments → length (take n u.segments) ≡ n
-  done_count n lt = let e = length-take n u.segments in omega (arith, e, lt)
+  pub erase_leads : (n : ℕ) (rest : List ℕ) → n < length u.segments → LeadsTo u marks (Erase n) rest (routine_next (status_in 65280 rest) 65280 n (Download n))
+  erase_leads n rest lt = routine_leads (Erase n) _ rest 65280 n (Download n) refl (λ xs. refl) refl (λ i. (65280, done_count u marks n (omega (arith, lt)) i)) (λ more. refl) lt tt _ refl
 
-  pub erase_leads : (n : ℕ) (rest : List ℕ) → n < length u.segments → LeadsTo u (Erase n) rest (routine_next (status_in 65280 rest) 65280 n (Download n))
-  erase_leads n rest lt = routine_leads (Erase n) _ rest 65280 n (Download n) refl (λ xs. refl) refl (λ i. (65280, done_count n lt i)) (λ more. refl) lt _ refl
+  pub check_leads : (n : ℕ) (rest : List ℕ) → n < length u.segments → LeadsTo u marks (Check n) rest (routine_next (status_in u.check rest) u.check n (Mark n (open_from u marks (n + 1))))
+  check_leads n rest lt =
+      routine_leads (Check n) _ rest u.check n (Mark n (open_from u marks (n + 1))) refl (λ xs. refl) refl (λ i. (u.check, done_count u marks n (omega (arith, lt)) i)) (λ more. refl) lt refl _ refl
 
-  pub check_leads : (n : ℕ) (rest : List ℕ) → n < length u.segments → LeadsTo u (Check n) rest (routine_next (status_in u.check rest) u.check n (segment_next u n))
-  check_leads n rest lt = routine_leads (Check n) _ rest u.check n (segment_next u n) refl (λ xs. refl) refl (λ i. (u.check, done_count n lt i)) (λ more. next_segment n lt) (segment_stage n) _ refl
-
-  pub finish_leads : (rest : List ℕ) → LeadsTo u Finish rest (routine_next (status_in 65281 rest) 65281 (length u.segments) Reset)
-  finish_leads rest = routine_leads Finish _ rest 65281 (length u.segments) Reset refl (λ xs. refl) refl refl (λ more. refl) tt _ refl
+  pub finish_leads : (rest : List ℕ) → LeadsTo u marks Finish rest (routine_next (status_in 65281 rest) 65281 (length u.segments) Reset)
+  finish_leads rest = routine_leads Finish _ rest 65281 (length u.segments) Reset refl (λ xs. refl) refl refl (λ more. refl) tt tt _ refl
 
   -- ------ session, seed and key
   seed_form_at : (rest : List ℕ) (level : ℕ) → level ≡ level_or_none (level_of u.key) → starts_with level rest ≡ true → form_in (request_at u (place_at u Seed)) rest ≡ seed_form (drop 1 rest)
   seed_form_at rest level at is = after_true _ rest seed_form (ap (λ (k : ℕ). starts_with k rest) (sym at) ∙ is)
 
+  pub seed_opens : (rest seed : List ℕ) (level : ℕ) → level ≡ level_or_none (level_of u.key) → starts_with level rest ≡ true → seed ≡ drop 1 rest → (nat_le 1 (length seed) && nat_le (length seed) 32) ≡ true → all_zero seed ≡ true
+      → LeadsTo u marks Seed rest (erase_next (open_from u marks 0))
+  seed_opens rest seed level at is eq good z =
+      open_leads Seed rest seed (seed_form_at rest level at is ∙ ap seed_form (sym eq) ∙ ap (λ (b : Bool). if b then Good seed else Strange) good) (rw z refl)
+
   pub seed_kept : (rest seed : List ℕ) (kept : KeptSeed) (level : ℕ) → level ≡ level_or_none (level_of u.key) → starts_with level rest ≡ true → seed ≡ drop 1 rest → (nat_le 1 (length seed) && nat_le (length seed) 32) ≡ true → all_zero seed ≡ false → seed_bytes kept ≡ seed
-      → IsStage u (Key kept) → LeadsTo u Seed rest (Key kept)
+      → IsStage u (Key kept) → LeadsTo u marks Seed rest (Key kept)
   seed_kept rest seed kept level at is eq good z bytes stage =
-      led Seed rest (Key kept) _ (Good seed) tt refl (seed_form_at rest level at is ∙ ap seed_form (sym eq) ∙ ap (λ (b : Bool). if b then Good seed else Strange) good) (rw (z, bytes) refl) stage
+      led Seed rest (Key kept) _ (Good seed) tt refl (seed_form_at rest level at is ∙ ap seed_form (sym eq) ∙ ap (λ (b : Bool). if b then Good seed else Strange) good) (rw (z, bytes) refl) stage tt
 
   -- ------ identifiers
   pub ident_bytes : (n : ℕ) (w : Wanted) → slice_get u.idents n ≡ Some w → bytes_at u (place_at u (Ident n)) ≡ 34 ∷ big_endian 2 w.did
@@ -140,14 +217,14 @@ module _ (u : UnitPlan) where
   ident_place : (n : ℕ) (w : Wanted) → slice_get u.idents n ≡ Some w → place_at u (Ident n) ≡ AtIdent w (drop (n + 1) u.idents)
   ident_place n w is = ap idents_from (drop_at u.idents n w is)
 
-  pub ident_bad : (n : ℕ) (w : Wanted) (rest : List ℕ) → slice_get u.idents n ≡ Some w → names_id w.did rest ≡ false → LeadsTo u (Ident n) rest (Ended (BadAnswer 34))
-  ident_bad n w rest is bad = led (Ident n) rest _ _ Strange tt (ident_place n w is) (named_false w.did rest bad) refl tt
+  pub ident_bad : (n : ℕ) (w : Wanted) (rest : List ℕ) → slice_get u.idents n ≡ Some w → names_id w.did rest ≡ false → LeadsTo u marks (Ident n) rest (Ended (BadAnswer 34))
+  ident_bad n w rest is bad = led (Ident n) rest _ _ Strange tt (ident_place n w is) (named_false w.did rest bad) refl tt tt
 
-  pub ident_expected : (n : ℕ) (w : Wanted) (rest : List ℕ) → slice_get u.idents n ≡ Some w → names_id w.did rest ≡ true → has_value w.values (drop 2 rest) ≡ true → n + 1 ≤ length u.idents → LeadsTo u (Ident n) rest (Ident (n + 1))
-  ident_expected n w rest is good has le = led (Ident n) rest _ _ (Good (drop 2 rest)) tt (ident_place n w is) (named_true w.did rest good) (rw has refl) le
+  pub ident_expected : (n : ℕ) (w : Wanted) (rest : List ℕ) → slice_get u.idents n ≡ Some w → names_id w.did rest ≡ true → has_value w.values (drop 2 rest) ≡ true → n + 1 ≤ length u.idents → LeadsTo u marks (Ident n) rest (Ident (n + 1))
+  ident_expected n w rest is good has le = led (Ident n) rest _ _ (Good (drop 2 rest)) tt (ident_place n w is) (named_true w.did rest good) (rw has refl) le tt
 
-  pub ident_other : (n : ℕ) (w : Wanted) (rest : List ℕ) → slice_get u.idents n ≡ Some w → names_id w.did rest ≡ true → has_value w.values (drop 2 rest) ≡ false → LeadsTo u (Ident n) rest (Ended (IdentMismatch w.did))
-  ident_other n w rest is good has = led (Ident n) rest _ _ (Good (drop 2 rest)) tt (ident_place n w is) (named_true w.did rest good) (rw has refl) tt
+  pub ident_other : (n : ℕ) (w : Wanted) (rest : List ℕ) → slice_get u.idents n ≡ Some w → names_id w.did rest ≡ true → has_value w.values (drop 2 rest) ≡ false → LeadsTo u marks (Ident n) rest (Ended (IdentMismatch w.did))
+  ident_other n w rest is good has = led (Ident n) rest _ _ (Good (drop 2 rest)) tt (ident_place n w is) (named_true w.did rest good) (rw has refl) tt tt
 
   -- ------ blocks
   abbrev blocks_at : ℕ → ℕ → ℕ → ℕ → Blocks
@@ -165,10 +242,14 @@ module _ (u : UnitPlan) where
     | inr ge ↦ let f : nat_lt k (length (segment_of u n).body) ≡ false = le-ltb _ _ ge in rw f lt
   ]
 
+  blocks_know : (n k counter limit : ℕ) → KnowsNext u marks (blocks_from (length (segment_of u n).body) n k counter limit)
+  blocks_know n k counter limit = elim (cases_Bool (nat_lt k (length (segment_of u n).body))) [ inl e ↦ rw e tt | inr e ↦ rw e tt ]
+
   pub block_leads : (n sent counter limit : ℕ) (rest : List ℕ) → IsBlockStage u n sent limit → starts_with counter rest ≡ true
-      → LeadsTo u (Block n sent counter limit) rest (blocks_from (length (segment_of u n).body) n (sent + (limit - 2)) (next_counter counter) limit)
+      → LeadsTo u marks (Block n sent counter limit) rest (blocks_from (length (segment_of u n).body) n (sent + (limit - 2)) (next_counter counter) limit)
   block_leads n sent counter limit rest is good =
       led (Block n sent counter limit) rest _ _ (Good (drop 1 rest)) tt refl (after_true counter rest Good good)
       (sym ((λ i. more_blocks (cursor_at u n) (record { sent = take_more sent (limit - 2) (segment_of u n).body i; rest = drop_more sent (limit - 2) (segment_of u n).body i; counter = next_counter counter; limit = limit }))
       ∙ from_there n (sent + (limit - 2)) (next_counter counter) limit))
       (blocks_stage n (sent + (limit - 2)) (next_counter counter) limit is.segment is.low is.high)
+      (blocks_know n (sent + (limit - 2)) (next_counter counter) limit)

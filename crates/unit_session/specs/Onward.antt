@@ -1,10 +1,10 @@
 -- What each answer leads to, by the numbers of a session.
-use Rattle.std.specs.Prelude.{◌≡◌, ℕ, zero, suc, ◌+◌, ◌==◌, Bool, List, Option, Some, None, nat_lt, if◌then◌else◌}
+use Rattle.std.specs.Prelude.{◌≡◌, ℕ, ◌==◌, Bool, List, Option, Some, None, nat_lt, if◌then◌else◌}
 use Rattle.flash_plan.specs.declared.outcome.Outcome.TheVariants.{BadAnswer, CheckFailed}
 use Rattle.flash_plan.specs.declared.unit.UnitPlan.{UnitPlan}
 use Rattle.run_model.specs.Script.{place_judged, request_at}
 use Rattle.uds_codec.specs.Answer.{Verdict, Later, Again, Refusal, Good, Bad_status, Strange, form_in}
-use Rattle.unit_session.specs.Session.{place_at, IsStage}
+use Rattle.unit_session.specs.Session.{place_at, IsStage, KnowsNext}
 use Rattle.unit_session.specs.declared.stage.Stage.{Stage}
 use Rattle.unit_session.specs.declared.stage.Stage.TheVariants.{Ident, Program, Seed, Key, Erase, Download, Block, Exit, Check, Mark, Finish, Reset, Done, Ended}
 
@@ -19,7 +19,7 @@ sid_at (Download n) = 52
 sid_at (Block n sent counter limit) = 54
 sid_at (Exit n) = 55
 sid_at (Check n) = 49
-sid_at (Mark n) = 0
+sid_at (Mark n next) = 0
 sid_at Finish = 49
 sid_at Reset = 17
 sid_at Done = 0
@@ -39,6 +39,7 @@ pub record LeadsTo (u : UnitPlan) (marks : ℕ → Bool) (stage : Stage) (rest :
   pub place : place_at u next ≡ place_judged u marks (place_at u stage) (form_in (request_at u (place_at u stage)) rest)
   pub final : IsFinalForm (form_in (request_at u (place_at u stage)) rest)
   pub fits : IsStage u next
+  pub known : KnowsNext u marks next
 
 abbrev pub routine_next : Option ℕ → ℕ → ℕ → Stage → Stage
 routine_next None id segment next = Ended (BadAnswer 49)
@@ -48,7 +49,7 @@ routine_next (Some status) id segment next = if status == 0 then next else Ended
 abbrev pub blocks_from : ℕ → ℕ → ℕ → ℕ → ℕ → Stage
 blocks_from size segment sent counter limit = if nat_lt sent size then Block segment sent counter limit else Exit segment
 
--- the first of so many segments from number n on that is not marked; where there is none, the whole is checked
-abbrev pub segment_next : (ℕ → Bool) → ℕ → ℕ → Stage
-segment_next marks n zero = Finish
-segment_next marks n (suc left) = if marks n then segment_next marks (n + 1) left else Erase n
+-- the segment that is erased next; where there is none, the whole is checked
+abbrev pub erase_next : Option ℕ → Stage
+erase_next None = Finish
+erase_next (Some n) = Erase n

@@ -1,5 +1,5 @@
 -- A session's numbers as a conversation of its unit.
-use Rattle.std.specs.Prelude.{◌≡◌, ℕ, ◌+◌, ◌/◌, ◌%◌, ◌^◌, ◌==◌, ◌<◌, ◌≤◌, Bool, true, false, List, length, take, drop, slice_index, Option, Some, None}
+use Rattle.std.specs.Prelude.{◌≡◌, ℕ, zero, suc, ◌+◌, ◌-◌, ◌/◌, ◌%◌, ◌^◌, ◌==◌, ◌<◌, ◌≤◌, Bool, true, false, List, length, take, drop, slice_index, Option, Some, None, if◌then◌else◌}
 use Rattle.flash_plan.specs.declared.unit.UnitPlan.{UnitPlan}
 use Rattle.flash_plan.specs.Plan.{no_plan, segment_of}
 use Rattle.run_model.specs.Places.{needs_request}
@@ -37,7 +37,7 @@ place_at u (Download n) = AtDownload (cursor_at u n)
 place_at u (Block n sent counter limit) = AtBlock (cursor_at u n) (record { sent = take sent (segment_of u n).body; rest = drop sent (segment_of u n).body; counter = counter; limit = limit })
 place_at u (Exit n) = AtExit (cursor_at u n)
 place_at u (Check n) = AtCheck (cursor_at u n)
-place_at u (Mark n) = AtMark (cursor_at u n)
+place_at u (Mark n next) = AtMark (cursor_at u n)
 place_at u Finish = AtFinish
 place_at u Reset = AtReset
 place_at u Done = AtDone
@@ -67,11 +67,27 @@ IsStage u (Download n) = n < length u.segments
 IsStage u (Block n sent counter limit) = IsBlockStage u n sent limit
 IsStage u (Exit n) = n < length u.segments
 IsStage u (Check n) = n < length u.segments
-IsStage u (Mark n) = n < length u.segments
+IsStage u (Mark n next) = n < length u.segments
 IsStage u Finish = Unit {0}
 IsStage u Reset = Unit {0}
 IsStage u Done = Unit {0}
 IsStage u (Ended outcome) = Unit {0}
+
+-- ------ which segment is next
+-- the first of so many segments from number n on that is not marked
+abbrev pub first_open : (ℕ → Bool) → ℕ → ℕ → Option ℕ
+first_open marks n zero = None
+first_open marks n (suc left) = if marks n then first_open marks (n + 1) left else Some n
+
+-- the first segment of the unit from number n on that is not marked
+abbrev pub open_from : UnitPlan → (ℕ → Bool) → ℕ → Option ℕ
+open_from u marks n = first_open marks n (length u.segments - n)
+
+-- A segment that stands to be marked carries the number of the one behind it: the session is not given its unit when the mark is
+-- recorded.
+abbrev pub KnowsNext : UnitPlan → (ℕ → Bool) → Stage → Type 0
+KnowsNext u marks (Mark n next) = next ≡ open_from u marks (n + 1)
+KnowsNext u marks stage = Unit {0}
 
 -- the set that marks are
 abbrev pub has_mark : Marks → ℕ → Bool
@@ -101,6 +117,7 @@ is_begun s = s.begun
 -- be counted.
 pub record IsOf (u : UnitPlan) (s : UnitSession) : Type 0 where
   pub stage : IsStage u s.stage
+  pub known : KnowsNext u (has_mark s.marks) s.stage
   pub awaits : s.awaiting ≡ true → needs_request (place_at u s.stage) ≡ true
   pub pendings : s.pendings ≤ 200
   pub busies : s.busies ≤ 20

@@ -5,6 +5,7 @@
 mod judging;
 mod keys;
 mod laws;
+mod marks;
 mod onward;
 mod requests;
 mod session;
@@ -13,4 +14,5 @@ mod stage;
 mod tests;
 
 pub use laws::{done_means_the_whole_script, each_end_has_its_cause};
+pub use marks::Marks;
 pub use session::{Ask, UnitSession};

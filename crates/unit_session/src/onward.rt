@@ -1,15 +1,16 @@
-ghost use Rattle.std.specs.Prelude.{◌≡◌, ◌<◌, ◌≤◌, true, [], ◌∷◌, length};
+ghost use Rattle.std.specs.Prelude.{◌≡◌, ◌<◌, ◌≤◌, ℕ, Bool, true, length};
 ghost use Rattle.flash_base.specs.Lists.{same_bytes};
-ghost use Rattle.flash_plan.specs.Plan.{IsAcceptedUnit};
+ghost use Rattle.flash_plan.specs.Plan.{IsAcceptedUnit, segment_of};
 ghost use Rattle.run_model.specs.Places.{needs_request};
 ghost use Rattle.run_model.specs.Script.{has_value};
 ghost use Rattle.unit_session.specs.Judging.{status_in};
 ghost use Rattle.unit_model.specs.Unit.{next_counter};
-ghost use Rattle.unit_session.specs.Session.{place_at, IsStage, segment_of};
-ghost use Rattle.unit_session.specs.Onward.{LeadsTo, sid_at, routine_next, blocks_from, segment_next};
+ghost use Rattle.unit_session.specs.Session.{place_at, IsStage, has_mark, open_from};
+ghost use Rattle.unit_session.specs.Onward.{LeadsTo, sid_at, routine_next, blocks_from, erase_next};
 
 use crate::judging::{limit, names, starts, status};
 use crate::keys::{is_zero, kept, level};
+use crate::marks::Marks;
 use crate::stage::{KeptSeed, Stage};
 use flash_base::{Bytes, Items, KeyRule};
 use flash_plan::{Outcome, UnitPlan};
@@ -28,7 +29,7 @@ pub fn sid(stage: Stage) -> u8
         Stage::Block { .. } => 0x36,
         Stage::Exit { .. } => 0x37,
         Stage::Reset => 0x11,
-        Stage::Done | Stage::Ended { .. } => 0,
+        Stage::Mark { .. } | Stage::Done | Stage::Ended { .. } => 0,
     }
 }
 
@@ -61,7 +62,7 @@ fn is_expected(values: &Items<Bytes>, value: &[u8]) -> bool
 fn ident(unit: &UnitPlan, number: u16, rest: &[u8]) -> Stage
     requires accepted { IsAcceptedUnit unit.now }
     requires within { number < length unit.now.idents }
-    ensures { LeadsTo unit.now (Stage.Ident number) rest.now result }
+    ensures { (marks : ℕ → Bool) → LeadsTo unit.now marks (Stage.Ident number) rest.now result }
 {
     let wanted = unit.idents.at(number as usize);
     if !names(rest, wanted.did) {
@@ -76,24 +77,56 @@ fn ident(unit: &UnitPlan, number: u16, rest: &[u8]) -> Stage
     }
 }
 
-fn program(unit: &UnitPlan, rest: &[u8]) -> Stage
+/// The first segment from this number on that is not marked.
+fn first_open(unit: &UnitPlan, marks: Marks, from: u16) -> Option<u16>
+    requires few { length unit.now.segments ≤ 256 }
+    requires from { from ≤ length unit.now.segments }
+    ensures { result ≡ open_from unit.now (has_mark marks) from }
+{
+    for n in from..unit.segments.len() as u16 {
+        if !marks.has(n) {
+            return Some(n);
+        }
+    }
+    None
+}
+
+/// The segment that is erased next; where there is none, the whole is checked.
+pub fn erase(next: Option<u16>) -> Stage
+    ensures { result ≡ erase_next next }
+{
+    match next {
+        Some(segment) => Stage::Erase { segment },
+        None => Stage::Finish,
+    }
+}
+
+/// What comes once the unit is open: the first segment that is not marked.
+fn opened(unit: &UnitPlan, marks: Marks) -> Stage
     requires { IsAcceptedUnit unit.now }
-    ensures { LeadsTo unit.now Stage.Program rest.now result }
+    ensures { result ≡ erase_next (open_from unit.now (has_mark marks) 0) }
+{
+    erase(first_open(unit, marks, 0))
+}
+
+fn program(unit: &UnitPlan, marks: Marks, rest: &[u8]) -> Stage
+    requires { IsAcceptedUnit unit.now }
+    ensures { LeadsTo unit.now (has_mark marks) Stage.Program rest.now result }
 {
     if !starts(rest, 2) {
         return bad(0x10);
     }
     match unit.key {
-        KeyRule::Free => Stage::Erase { segment: 0 },
+        KeyRule::Free => opened(unit, marks),
         KeyRule::Xor { .. } => Stage::Seed,
         KeyRule::Digest { .. } => Stage::Seed,
     }
 }
 
-fn seed(unit: &UnitPlan, rest: &[u8]) -> Stage
+fn seed(unit: &UnitPlan, marks: Marks, rest: &[u8]) -> Stage
     requires accepted { IsAcceptedUnit unit.now }
     requires stage { IsStage unit.now Stage.Seed }
-    ensures { LeadsTo unit.now Stage.Seed rest.now result }
+    ensures { LeadsTo unit.now (has_mark marks) Stage.Seed rest.now result }
 {
     if !starts(rest, level(&unit.key)) {
         return bad(0x27);
@@ -103,19 +136,19 @@ fn seed(unit: &UnitPlan, rest: &[u8]) -> Stage
         return bad(0x27);
     }
     if is_zero(seed) {
-        Stage::Erase { segment: 0 }
+        opened(unit, marks)
     } else {
         Stage::Key { seed: kept(seed) }
     }
 }
 
-fn key(unit: &UnitPlan, seed: KeptSeed, rest: &[u8]) -> Stage
+fn key(unit: &UnitPlan, marks: Marks, seed: KeptSeed, rest: &[u8]) -> Stage
     requires accepted { IsAcceptedUnit unit.now }
     requires stage { IsStage unit.now (Stage.Key seed) }
-    ensures { LeadsTo unit.now (Stage.Key seed) rest.now result }
+    ensures { LeadsTo unit.now (has_mark marks) (Stage.Key seed) rest.now result }
 {
     if starts(rest, level(&unit.key) + 1) {
-        Stage::Erase { segment: 0 }
+        opened(unit, marks)
     } else {
         bad(0x27)
     }
@@ -138,9 +171,9 @@ fn routine(rest: &[u8], routine: u16, segment: u16, next: Stage) -> Stage
     }
 }
 
-fn erase(unit: &UnitPlan, segment: u16, rest: &[u8]) -> Stage
+fn erased(unit: &UnitPlan, segment: u16, rest: &[u8]) -> Stage
     requires { segment < length unit.now.segments }
-    ensures { LeadsTo unit.now (Stage.Erase segment) rest.now result }
+    ensures { (marks : ℕ → Bool) → LeadsTo unit.now marks (Stage.Erase segment) rest.now result }
 {
     routine(rest, 0xFF00, segment, Stage::Download { segment })
 }
@@ -165,7 +198,7 @@ fn blocks(unit: &UnitPlan, segment: u16, sent: usize, counter: u8, limit: u16) -
 fn download(unit: &UnitPlan, segment: u16, rest: &[u8]) -> Stage
     requires accepted { IsAcceptedUnit unit.now }
     requires within { segment < length unit.now.segments }
-    ensures { LeadsTo unit.now (Stage.Download segment) rest.now result }
+    ensures { (marks : ℕ → Bool) → LeadsTo unit.now marks (Stage.Download segment) rest.now result }
 {
     match limit(rest) {
         Some(limit) => blocks(unit, segment, 0, 1, limit),
@@ -183,7 +216,7 @@ fn counted(counter: u8) -> u8
 fn block(unit: &UnitPlan, segment: u16, sent: usize, counter: u8, limit: u16, rest: &[u8]) -> Stage
     requires accepted { IsAcceptedUnit unit.now }
     requires stage { IsStage unit.now (Stage.Block segment sent counter limit) }
-    ensures { LeadsTo unit.now (Stage.Block segment sent counter limit) rest.now result }
+    ensures { (marks : ℕ → Bool) → LeadsTo unit.now marks (Stage.Block segment sent counter limit) rest.now result }
 {
     if starts(rest, counter) {
         let more = usize::from(limit) - 2;
@@ -193,38 +226,24 @@ fn block(unit: &UnitPlan, segment: u16, sent: usize, counter: u8, limit: u16, re
     }
 }
 
-/// Behind the check of a segment: the next one, or the check of all.
-fn behind(unit: &UnitPlan, segment: u16) -> Stage
-    requires few { length unit.now.segments ≤ 256 }
-    ensures { result ≡ segment_next unit.now segment }
-{
-    if usize::from(segment) + 1 < unit.segments.len() {
-        Stage::Erase {
-            segment: segment + 1,
-        }
-    } else {
-        Stage::Finish
-    }
-}
-
-fn check(unit: &UnitPlan, segment: u16, rest: &[u8]) -> Stage
+fn check(unit: &UnitPlan, marks: Marks, segment: u16, rest: &[u8]) -> Stage
     requires accepted { IsAcceptedUnit unit.now }
     requires within { segment < length unit.now.segments }
-    ensures { LeadsTo unit.now (Stage.Check segment) rest.now result }
+    ensures { LeadsTo unit.now (has_mark marks) (Stage.Check segment) rest.now result }
 {
-    let next = behind(unit, segment);
-    routine(rest, unit.check, segment, next)
+    let next = first_open(unit, marks, segment + 1);
+    routine(rest, unit.check, segment, Stage::Mark { segment, next })
 }
 
 fn finish(unit: &UnitPlan, rest: &[u8]) -> Stage
     requires accepted { IsAcceptedUnit unit.now }
-    ensures { LeadsTo unit.now Stage.Finish rest.now result }
+    ensures { (marks : ℕ → Bool) → LeadsTo unit.now marks Stage.Finish rest.now result }
 {
     routine(rest, 0xFF01, unit.segments.len() as u16, Stage::Reset)
 }
 
 fn reset(unit: &UnitPlan, rest: &[u8]) -> Stage
-    ensures { LeadsTo unit.now Stage.Reset rest.now result }
+    ensures { (marks : ℕ → Bool) → LeadsTo unit.now marks Stage.Reset rest.now result }
 {
     if starts(rest, 1) {
         Stage::Done
@@ -234,18 +253,18 @@ fn reset(unit: &UnitPlan, rest: &[u8]) -> Stage
 }
 
 /// The stage behind an answer with the first byte of a positive one; `rest` is what stands behind that byte.
-pub fn onward(unit: &UnitPlan, stage: Stage, rest: &[u8]) -> Stage
+pub fn onward(unit: &UnitPlan, marks: Marks, stage: Stage, rest: &[u8]) -> Stage
     requires accepted { IsAcceptedUnit unit.now }
     requires stage { IsStage unit.now stage }
     requires needs { needs_request (place_at unit.now stage) ≡ true }
-    ensures { LeadsTo unit.now stage rest.now result }
+    ensures { LeadsTo unit.now (has_mark marks) stage rest.now result }
 {
     match stage {
         Stage::Ident { number } => ident(unit, number, rest),
-        Stage::Program => program(unit, rest),
-        Stage::Seed => seed(unit, rest),
-        Stage::Key { seed } => key(unit, seed, rest),
-        Stage::Erase { segment } => erase(unit, segment, rest),
+        Stage::Program => program(unit, marks, rest),
+        Stage::Seed => seed(unit, marks, rest),
+        Stage::Key { seed } => key(unit, marks, seed, rest),
+        Stage::Erase { segment } => erased(unit, segment, rest),
         Stage::Download { segment } => download(unit, segment, rest),
         Stage::Block {
             segment,
@@ -254,9 +273,9 @@ pub fn onward(unit: &UnitPlan, stage: Stage, rest: &[u8]) -> Stage
             limit,
         } => block(unit, segment, sent, counter, limit, rest),
         Stage::Exit { segment } => Stage::Check { segment },
-        Stage::Check { segment } => check(unit, segment, rest),
+        Stage::Check { segment } => check(unit, marks, segment, rest),
         Stage::Finish => finish(unit, rest),
         Stage::Reset => reset(unit, rest),
-        Stage::Done | Stage::Ended { .. } => stage,
+        Stage::Mark { .. } | Stage::Done | Stage::Ended { .. } => stage,
     }
 }

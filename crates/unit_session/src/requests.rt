@@ -1,10 +1,10 @@
 ghost use Rattle.std.specs.Prelude.{◌≡◌, ◌≤◌, ◌<◌, ◌-◌, ◌++◌, [], ◌∷◌, true, length, take, drop, IfOk, OnOk};
-ghost use Rattle.flash_base.specs.Numbers.{big_endian, pow256};
-ghost use Rattle.flash_plan.specs.Plan.{IsAcceptedUnit};
+ghost use Rattle.flash_base.specs.Numbers.{big_endian};
+ghost use Rattle.flash_plan.specs.Plan.{IsAcceptedUnit, segment_of};
 ghost use Rattle.run_model.specs.Places.{needs_request};
 ghost use Rattle.run_model.specs.Script.{bytes_at, range_record};
 ghost use Rattle.sha2.specs.Sha256.{sha256};
-ghost use Rattle.unit_session.specs.Session.{place_at, segment_of, IsStage};
+ghost use Rattle.unit_session.specs.Session.{place_at, IsStage};
 
 use crate::keys::{key, level};
 use crate::stage::Stage;
@@ -12,7 +12,6 @@ use flash_base::{Bytes, NoMemory};
 use flash_plan::{Segment, UnitPlan};
 use sha2::{Digest, Sha256};
 use std::alloc::Global;
-use uds_codec::put_number;
 
 /// Bytes that begin with the head and go on with the body.
 fn joined(alloc: Global, head: &[u8], body: &[u8]) -> Result<Bytes, NoMemory>
@@ -25,20 +24,13 @@ fn joined(alloc: Global, head: &[u8], body: &[u8]) -> Result<Bytes, NoMemory>
     Ok(Bytes::from_vec(bytes))
 }
 
-/// Puts a number of so many bytes at the end.
+/// Puts the last bytes of a number at the end, the greatest first.
 fn push_number(bytes: &mut Vec<u8>, width: u8, value: u64) -> Result<(), NoMemory>
-    requires some { 1 ≤ width }
-    requires few { width ≤ 4 }
-    requires fits { value < pow256 width }
+    requires { width ≤ 8 }
     ensures { OnOk result (bytes.new.items ≡ bytes.old.items ++ big_endian width value) }
 {
-    match width {
-        1 => bytes.extend_from_slice(&put_number::<1>(value))?,
-        2 => bytes.extend_from_slice(&put_number::<2>(value))?,
-        3 => bytes.extend_from_slice(&put_number::<3>(value))?,
-        4 => bytes.extend_from_slice(&put_number::<4>(value))?,
-        _ => unreachable!(),
-    }
+    let number = value.to_be_bytes();
+    bytes.extend_from_slice(&number[8 - usize::from(width)..])?;
     Ok(())
 }
 
@@ -80,7 +72,7 @@ fn ident(alloc: Global, unit: &UnitPlan, number: u16) -> Result<Bytes, NoMemory>
     requires needs { needs_request (place_at unit.now (Stage.Ident number)) ≡ true }
     ensures { IfOk result (λ b. b ≡ bytes_at unit.now (place_at unit.now (Stage.Ident number))) }
 {
-    let [high, low] = put_number::<2>(u64::from(unit.idents.at(number as usize).did));
+    let [high, low] = unit.idents.at(number as usize).did.to_be_bytes();
     joined(alloc, &[0x22, high, low], &[])
 }
 
@@ -105,7 +97,7 @@ fn check(alloc: Global, unit: &UnitPlan, number: u16) -> Result<Bytes, NoMemory>
     requires within { number < length unit.now.segments }
     ensures { IfOk result (λ b. b ≡ ((49 ∷ 1 ∷ big_endian 2 unit.now.check) ++ range_record unit.now (segment_of unit.now number)) ++ sha256 (segment_of unit.now number).body) }
 {
-    let [high, low] = put_number::<2>(u64::from(unit.check));
+    let [high, low] = unit.check.to_be_bytes();
     let digest = Sha256::digest(segment(unit, number).body.as_slice());
     let mut bytes = ranged(alloc, &[0x31, 1, high, low], unit, number)?;
     bytes.extend_from_slice(&digest)?;
@@ -142,6 +134,6 @@ pub fn request(alloc: Global, unit: &UnitPlan, stage: Stage) -> Result<Bytes, No
         Stage::Check { segment } => check(alloc, unit, segment),
         Stage::Finish => joined(alloc, &[0x31, 0x01, 0xFF, 0x01], &[]),
         Stage::Reset => joined(alloc, &[0x11, 0x01], &[]),
-        Stage::Done | Stage::Ended { .. } => Ok(Bytes::new(alloc)),
+        Stage::Mark { .. } | Stage::Done | Stage::Ended { .. } => Ok(Bytes::new(alloc)),
     }
 }

@@ -1,5 +1,6 @@
 use crate::judging::{Front, front_of};
-use crate::onward::{onward, sid};
+use crate::marks::Marks;
+use crate::onward::{erase, onward, sid};
 use crate::requests::request;
 use crate::stage::Stage;
 use flash_base::{Bytes, NoMemory};
@@ -52,14 +53,15 @@ impl UnitSession {
     ghost use Rattle.flash_plan.specs.declared.unit.UnitPlan.{UnitPlan};
     ghost use Rattle.run_model.specs.Places.{needs_request};
     ghost use Rattle.run_model.specs.Script.{bytes_at};
-    ghost use Rattle.run_model.specs.Talk.{talk_start, talk_sent, talk_hears, talk_quiet, talk_judged, end_talk, sid_at};
+    ghost use Rattle.run_model.specs.Talk.{talk_start, talk_lost, talk_marked, talk_sent, talk_hears, talk_quiet, talk_judged, end_talk, sid_at};
     ghost use Rattle.run_model.specs.Ways.{Reply, Unheard};
     ghost use Rattle.uds_codec.specs.Answer.{Later, Again};
-    ghost use Rattle.unit_session.specs.Session.{talk_of, talk_of_any, is_begun, ask_of, place_at, settled, IsStage, IsOf, IsFewer};
+    ghost use Rattle.unit_session.specs.Session.{talk_of, talk_of_any, has_mark, is_begun, ask_of, place_at, settled, IsStage, KnowsNext, IsOf, IsFewer};
 
-    /// The conversation at its first request; `begun` says whether it is recorded that the unit is begun.
-    pub fn new(begun: bool) -> UnitSession
-        ensures talk { (u : UnitPlan) → talk_of u result ≡ talk_start u begun }
+    /// The conversation at its first request; `begun` says whether it is recorded that the unit is
+    /// begun, `marks` which of its segments are recorded marked: these are left out.
+    pub fn new(begun: bool, marks: Marks) -> UnitSession
+        ensures talk { (u : UnitPlan) → talk_of u result ≡ talk_start u begun (has_mark marks) }
         ensures begun { is_begun result ≡ begun }
         ensures of { (u : UnitPlan) → IsAcceptedUnit u → IsOf u result }
     {
@@ -70,6 +72,7 @@ impl UnitSession {
                 Stage::Ident { number: 0 }
             },
             begun,
+            marks,
             awaiting: false,
             number: 0,
             since: 0,
@@ -80,6 +83,7 @@ impl UnitSession {
 
     /// What is next.
     pub fn next(&self, unit: &UnitPlan) -> Ask
+        requires { IsOf unit.now self.now }
         ensures { result ≡ ask_of unit.now (talk_of unit.now self.now) }
     {
         if self.awaiting {
@@ -93,6 +97,7 @@ impl UnitSession {
                     Ask::Begin
                 }
             }
+            Stage::Mark { segment, .. } => Ask::Mark { segment },
             Stage::Done => Ask::Done,
             Stage::Ended { outcome } => Ask::Ended(outcome),
             Stage::Program
@@ -182,7 +187,7 @@ impl UnitSession {
         requires { (talk_of_any self.old).number < 4294967295 }
         ensures talk { (u : UnitPlan) → talk_of u self.new ≡ settled (place_at u stage) (talk_of u self.old) }
         ensures begun { is_begun self.new ≡ is_begun self.old }
-        ensures of { (u : UnitPlan) → IsStage u stage → IsFewer u (place_at u stage) (talk_of u self.old).place → IsOf u self.old → IsOf u self.new }
+        ensures of { (u : UnitPlan) → IsStage u stage → KnowsNext u (talk_of u self.old).marks stage → IsFewer u (place_at u stage) (talk_of u self.old).place → IsOf u self.old → IsOf u self.new }
     {
         self.stage = stage;
         self.number += 1;
@@ -209,7 +214,7 @@ impl UnitSession {
                 outcome: Outcome::Refused { sid, nrc },
             }),
             Front::Positive => {
-                let stage = onward(unit, self.stage, &reply[1..]);
+                let stage = onward(unit, self.marks, self.stage, &reply[1..]);
                 self.settle(stage);
             }
             Front::Strange => self.settle(Stage::Ended {
@@ -240,21 +245,48 @@ impl UnitSession {
         }
     }
 
-    /// The link was lost: the attempt starts again.
+    /// The link was lost: the attempt starts again with the marks that are recorded by then, unless
+    /// each answer came already and a mark or the end of the unit is to be recorded, or the
+    /// conversation is over. At Begin it is not called.
     pub fn lost(&mut self)
-        ensures talk { (u : UnitPlan) → talk_of u self.new ≡ talk_start u (is_begun self.old) }
+        ensures talk { (u : UnitPlan) → IsOf u self.old → (ask_of u (talk_of u self.old) ≡ Ask.Begin → ⊥) → talk_of u self.new ≡ talk_lost u (is_begun self.old) (talk_of u self.old) }
         ensures begun { is_begun self.new ≡ is_begun self.old }
-        ensures of { (u : UnitPlan) → IsAcceptedUnit u → IsOf u self.new }
+        ensures of { (u : UnitPlan) → IsAcceptedUnit u → IsOf u self.old → IsOf u self.new }
     {
-        *self = UnitSession::new(self.begun);
+        match self.stage {
+            Stage::Mark { .. } | Stage::Done | Stage::Ended { .. } => {}
+            Stage::Ident { .. }
+            | Stage::Program
+            | Stage::Seed
+            | Stage::Key { .. }
+            | Stage::Erase { .. }
+            | Stage::Download { .. }
+            | Stage::Block { .. }
+            | Stage::Exit { .. }
+            | Stage::Check { .. }
+            | Stage::Finish
+            | Stage::Reset => *self = UnitSession::new(self.begun, self.marks),
+        }
     }
 
     /// It was recorded that the unit is begun.
     pub fn begun(&mut self)
-        ensures talk { (u : UnitPlan) → talk_of u self.new ≡ talk_start u true }
+        ensures talk { (u : UnitPlan) → talk_of u self.new ≡ talk_start u true (talk_of u self.old).marks }
         ensures begun { is_begun self.new ≡ true }
         ensures of { (u : UnitPlan) → IsAcceptedUnit u → IsOf u self.new }
     {
-        *self = UnitSession::new(true);
+        *self = UnitSession::new(true, self.marks);
+    }
+
+    /// It was recorded that the segment is marked that stands to be: the next one that is not follows.
+    pub fn marked(&mut self)
+        ensures talk { (u : UnitPlan) (segment : ℕ) → IsAcceptedUnit u → IsOf u self.old → ask_of u (talk_of u self.old) ≡ Ask.Mark segment → talk_of u self.new ≡ talk_marked segment (talk_of u self.old) }
+        ensures begun { is_begun self.new ≡ is_begun self.old }
+        ensures of { (u : UnitPlan) → IsAcceptedUnit u → IsOf u self.old → IsOf u self.new }
+    {
+        if let Stage::Mark { segment, next } = self.stage {
+            self.marks = self.marks.with(segment);
+            self.stage = erase(next);
+        }
     }
 }

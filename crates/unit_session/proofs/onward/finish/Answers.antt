@@ -7,6 +7,6 @@ use Rattle.unit_session.proofs.Leads.{finish_leads}
 use Rattle.unit_session.proofs.onward.finish.Goals as goal
 
 pub returns : goal.returns
-returns c = subst (λ (s : Stage). LeadsTo c.args.unit.now Finish c.args.rest.now s)
+returns c = λ marks. subst (λ (s : Stage). LeadsTo c.args.unit.now marks Finish c.args.rest.now s)
     (sym (c.routine.ensures ∙ ap (λ (k : ℕ). routine_next (status_in 65281 c.args.rest.now) 65281 k Reset) c.len.ensures))
-    (finish_leads c.args.unit.now c.args.rest.now)
+    (finish_leads c.args.unit.now marks c.args.rest.now)

@@ -3,7 +3,7 @@ use Rattle.unit_session.specs.declared.stage.Stage.{Stage}
 use Rattle.unit_session.specs.declared.stage.Stage.TheVariants.{Erase}
 use Rattle.unit_session.specs.Onward.{LeadsTo}
 use Rattle.unit_session.proofs.Leads.{erase_leads}
-use Rattle.unit_session.proofs.onward.erase.Goals as goal
+use Rattle.unit_session.proofs.onward.erased.Goals as goal
 
 pub returns : goal.returns
-returns c = subst (λ (s : Stage). LeadsTo c.args.unit.now (Erase c.args.segment) c.args.rest.now s) (sym c.routine.ensures) (erase_leads c.args.unit.now c.args.segment c.args.rest.now c.requires)
+returns c = λ marks. subst (λ (s : Stage). LeadsTo c.args.unit.now marks (Erase c.args.segment) c.args.rest.now s) (sym c.routine.ensures) (erase_leads c.args.unit.now marks c.args.segment c.args.rest.now c.requires)
