@@ -57,6 +57,11 @@ pub record IsFirstFree (posts : List Post) (n : ℕ) : Type 0 where
   pub free : is_free_at posts n ≡ true
   pub lowest : each_below n (λ w. not (is_free_at posts w)) ≡ true
 
+-- the lowest free unit, if there is one
+abbrev pub IsNextFree : List Post → Option ℕ → Type 0
+IsNextFree posts None = each_below (length posts) (λ w. not (is_free_at posts w)) ≡ true
+IsNextFree posts (Some n) = IsFirstFree posts n
+
 -- the lowest free unit was taken up
 pub record IsTaken (old : List Post) (n : ℕ) (new : List Post) : Type 0 where
   pub first : IsFirstFree old n

@@ -1,6 +1,6 @@
 ghost use Rattle.std.specs.Prelude.{◌≡◌, ◌<◌, ◌≢◌, true, not, None, length, IfOk, MatchOption};
 ghost use Rattle.flash_base.specs.Numbers.{each_below};
-ghost use Rattle.barrier_board.specs.Board.{is_free_at, post_of, at_unit, give, HasClaimed, IsFirstFree, IsStart, NamesWithin, has_entry, new_post};
+ghost use Rattle.barrier_board.specs.Board.{is_free_at, post_of, at_unit, give, take_up, HasClaimed, IsFirstFree, IsNextFree, IsStart, NamesWithin, has_entry, new_post};
 
 use crate::post::{Post, free};
 use flash_base::{Items, NoMemory};
@@ -83,15 +83,33 @@ impl Board {
         Ok(Board { posts })
     }
 
-    /// Takes up the lowest unit without outcome that was not taken up and all of whose units before it are
-    /// recorded complete.
+    /// The lowest unit without outcome that was not taken up and all of whose units before it are recorded
+    /// complete: the one that may be taken up.
+    pub fn next_free(&self) -> Option<u16>
+        ensures { IsNextFree self.now result }
+    {
+        match first_free(&self.posts) {
+            Some(i) => Some(i as u16),
+            None => None,
+        }
+    }
+
+    /// Takes up the unit that may be taken up.
+    pub fn take_up(&mut self, unit: u16)
+        requires { IsFirstFree self.old unit }
+        ensures { self.new ≡ at_unit unit take_up self.old }
+    {
+        self.posts[unit as usize].claimed = true;
+    }
+
+    /// Takes up the unit that may be taken up, if there is one.
     pub fn claim(&mut self) -> Claimed
         ensures { HasClaimed self.old result self.new }
     {
-        match first_free(&self.posts) {
-            Some(i) => {
-                self.posts[i].claimed = true;
-                Claimed::Unit(i as u16)
+        match self.next_free() {
+            Some(unit) => {
+                self.take_up(unit);
+                Claimed::Unit(unit)
             }
             None => Claimed::Nothing,
         }

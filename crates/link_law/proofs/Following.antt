@@ -15,7 +15,7 @@ use Rattle.bay_core.specs.declared.event.Heard.TheVariants.{Kept, Quiet, Piece, 
 use Rattle.bay_core.specs.declared.event.Tend.{Tend}
 use Rattle.bay_core.specs.declared.event.Tend.TheVariants.{Dialed, Asked, Said, Polled}
 use Rattle.bay_core.specs.declared.event.Event.{Event}
-use Rattle.bay_core.specs.declared.event.Event.TheVariants.{Claimed, Began, Sent, Collected, Tended, Completed, DiskFailed, Ended}
+use Rattle.bay_core.specs.declared.event.Event.TheVariants.{Claimed, Began, Sent, Collected, Tended, Marked, Completed, DiskFailed, Ended}
 use Rattle.link_law.specs.Happened.{one}
 use Rattle.link_law.specs.Kinds.{is_ask, is_say, is_quiet, is_quiet_wait, is_failed_call}
 use Rattle.link_law.specs.Follows.{since_dial, is_loss, takes, LinkFollows}
@@ -233,6 +233,7 @@ module _ (rules : LinkRules) (P : List UnitPlan) (es : List Event) (c : Core) (s
   each_event (Sent u place lost) ok = sent rules P es c.link s u place lost (up_is c.link.phase (sent_facts P c u place lost ok).up)
   each_event (Collected u heard) ok = collects u heard (collected_facts P c u heard ok)
   each_event (Tended tend) ok = tended tend (and_parts _ _ ok).1
+  each_event (Marked u n) ok = idle rules P es c.link s (Marked u n) (record { silent = record { no_dial = refl; none = refl; bytes = refl }; works = refl; no_wait = refl; no_quiet = refl; no_ask = refl; no_say = refl; no_loss = refl; no_take = λ a. refl })
   each_event (Completed u) ok = idle rules P es c.link s (Completed u) (record { silent = record { no_dial = refl; none = refl; bytes = refl }; works = refl; no_wait = refl; no_quiet = refl; no_ask = refl; no_say = refl; no_loss = refl; no_take = λ a. refl })
   each_event (DiskFailed u entry) ok = idle rules P es c.link s (DiskFailed u entry) (record { silent = record { no_dial = refl; none = refl; bytes = refl }; works = refl; no_wait = refl; no_quiet = refl; no_ask = refl; no_say = refl; no_loss = refl; no_take = λ a. refl })
   each_event (Ended u why) ok = idle rules P es c.link s (Ended u why) (record { silent = record { no_dial = refl; none = refl; bytes = refl }; works = refl; no_wait = refl; no_quiet = refl; no_ask = refl; no_say = refl; no_loss = refl; no_take = λ a. refl })

@@ -39,13 +39,13 @@ module _ (rules : LinkRules) (P : List UnitPlan) where
   stop_more es x l None is = ap (λ (o : Option Outcome). if is_disk_failure x then Some DiskFault else o) (link_stops (es ++ (x ∷ [])) l is)
   stop_more es x l (Some outcome) is = refl
 
-  along : (es events : List Event) (c : Core) → is_legal rules P c events ≡ true → Stands rules P es c.link → c.stop ≡ first_cause rules [] es → (core_of rules P c events).stop ≡ first_cause rules [] (es ++ events)
+  along : (es events : List Event) (c : Core) → is_legal rules P c events ≡ true → Stands rules P es c.link → c.halt.stop ≡ first_cause rules [] es → (core_of rules P c events).halt.stop ≡ first_cause rules [] (es ++ events)
   along es [] c legal s stop = stop ∙ ap (first_cause rules []) (sym (append-nil es))
   along es (e ∷ events) c legal s stop =
       let both = and_parts _ _ legal in
       let next : Stands rules P (es ++ (e ∷ [])) (core_after rules P e c).link = each_event rules P es c s e both.0 in
       along (es ++ (e ∷ [])) events (core_after rules P e c) both.1 next
-      (stop_more es e (core_after rules P e c).link c.stop next.link ∙ ap (λ (o : Option Outcome). or_later o (cause_at rules es e)) stop ∙ sym (cause_more rules [] es e))
+      (stop_more es e (core_after rules P e c).link c.halt.stop next.link ∙ ap (λ (o : Option Outcome). or_later o (cause_at rules es e)) stop ∙ sym (cause_more rules [] es e))
       ∙ ap (first_cause rules []) (append_assoc es (e ∷ []) events)
 
 pub stop_follows : StopFollows

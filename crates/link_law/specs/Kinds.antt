@@ -5,7 +5,7 @@ use Rattle.bay_core.specs.declared.event.Heard.TheVariants.{Kept, Quiet, Piece, 
 use Rattle.bay_core.specs.declared.event.Tend.{Tend}
 use Rattle.bay_core.specs.declared.event.Tend.TheVariants.{Dialed, Asked, Said, Polled}
 use Rattle.bay_core.specs.declared.event.Event.{Event}
-use Rattle.bay_core.specs.declared.event.Event.TheVariants.{Claimed, Began, Sent, Collected, Tended, Completed, DiskFailed, Ended}
+use Rattle.bay_core.specs.declared.event.Event.TheVariants.{Claimed, Began, Sent, Collected, Tended, Marked, Completed, DiskFailed, Ended}
 
 -- ------ the bytes that it received
 abbrev pub heard_bytes : Heard → List ℕ
@@ -26,6 +26,7 @@ event_bytes (Began u) = []
 event_bytes (Sent u place lost) = []
 event_bytes (Collected u heard) = heard_bytes heard
 event_bytes (Tended step) = tended_bytes step
+event_bytes (Marked u s) = []
 event_bytes (Completed u) = []
 event_bytes (DiskFailed u entry) = []
 event_bytes (Ended u why) = []

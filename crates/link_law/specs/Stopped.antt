@@ -32,4 +32,4 @@ first_cause rules before (e ∷ es) = or_later (cause_at rules before e) (first_
 -- a legal list of events is stopped by the first of its events that has a cause
 abbrev pub StopFollows : Type 0
 StopFollows = (rules : LinkRules) (P : List UnitPlan) (found : Entry → Bool) (events : List Event)
-    → is_legal rules P (core_start P found) events ≡ true → (core_of rules P (core_start P found) events).stop ≡ first_cause rules [] events
+    → is_legal rules P (core_start P found) events ≡ true → (core_of rules P (core_start P found) events).halt.stop ≡ first_cause rules [] events

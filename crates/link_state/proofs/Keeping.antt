@@ -1,6 +1,6 @@
 -- Each unit's inbox and the one inbox of the definition, with a message more and with one less.
-use Rattle.std.proofs.Common.{◌≡◌, ◌≢◌, inl, inr, ℕ, ◌<◌, List, [], ◌∷◌, ◌++◌, length, drop, refl, sym, ◌∙◌, ap}
-use Rattle.std.specs.Prelude.{Option, ◌==◌, slice_index}
+use Rattle.std.proofs.Common.{◌≡◌, ◌≢◌, inl, inr, ℕ, ◌<◌, List, [], ◌∷◌, ◌++◌, length, drop, Some, None, refl, sym, ◌∙◌, ap}
+use Rattle.std.specs.Prelude.{Option, ◌==◌, is_some, slice_index}
 use Rattle.std.proofs.lemmas.Bool.{cases_Bool, false≢true, eq-eqb, eqb-true}
 use Rattle.run_model.specs.Link.{first_word, without_first}
 use Rattle.run_model.specs.Ways.{Spoken, words_from}
@@ -11,6 +11,10 @@ use Rattle.link_state.proofs.Inboxes.{spoken_more, more_there, more_else, head_o
 
 abbrev pub Fits : List ℕ → List (List Message) → List (ℕ × Spoken) → Type 0
 Fits units boxes inbox = (n : ℕ) → n < length units → spoken_all (queue_at boxes n) ≡ words_from (slice_index units n) inbox
+
+pub spoken_some : (o : Option Message) → is_some (option_spoken o) ≡ is_some o
+spoken_some None = refl
+spoken_some (Some m) = refl
 
 module _ (units : List ℕ) (old new : List (List Message)) (n source : ℕ) (inbox : List (ℕ × Spoken)) (distinct : AreDistinct units) (place : IsPlace units source n) (fits : Fits units old inbox) (others : (k : ℕ) → k ≢ n → queue_at new k ≡ queue_at old k) where
   other_address : (k : ℕ) → k < length units → k ≢ n → source ≢ slice_index units k

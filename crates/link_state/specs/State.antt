@@ -1,11 +1,12 @@
 -- What the state of a link shows of the link's definition.
-use Rattle.std.specs.Prelude.{◌≡◌, ◌⊎◌, ℕ, ◌+◌, ◌<◌, ◌==◌, ◌&&◌, Bool, true, false, if◌then◌else◌, List, length, slice_index, Option, Some, None}
+use Rattle.std.specs.Prelude.{◌≡◌, ◌⊎◌, ℕ, ◌+◌, ◌<◌, ◌==◌, ◌&&◌, Bool, true, false, if◌then◌else◌, List, [], length, slice_index, Option, Some, None}
 use Rattle.run_model.specs.Link as link
 use Rattle.run_model.specs.Link.{Link, is_live, is_open, is_waiting, drop_link}
 use Rattle.run_model.specs.Ways.{Spoken, words_from}
 use Rattle.link_state.specs.Inboxes.{spoken_of, spoken_all, queue_at}
 use Rattle.link_state.specs.declared.inbox.Message.{Message}
 use Rattle.link_state.specs.declared.state.LinkState.{LinkState}
+use Rattle.link_state.specs.declared.state.Standing.{Standing}
 use Rattle.link_state.specs.declared.state.Phase.{Phase}
 use Rattle.link_state.specs.declared.state.Phase.TheVariants.{Down, Dialed, Asked, Up, Refused}
 
@@ -89,6 +90,31 @@ pub record ShowsBody (s : LinkState) (l : Link) : Type 0 where
 pub record Shows (s : LinkState) (l : Link) : Type 0 where
   pub body : ShowsBody s l
   pub rest : is_live l.phase ≡ true → s.deframer ≡ Some l.rest
+
+-- ------ a receive for which there was no memory
+-- nothing that came is kept, and the rest stays
+abbrev pub emptied_link : Link → Link
+emptied_link l = record l { rest = []; inbox = [] }
+
+-- phase and counts of a state
+pub record IsStandingOf (s : LinkState) (before : Standing) : Type 0 where
+  pub phase : before.phase ≡ s.phase
+  pub ticks : before.ticks ≡ s.ticks
+  pub asked : before.asked ≡ s.asked
+  pub losses : before.losses ≡ s.losses
+  pub owes : before.owes ≡ s.owes
+
+-- phase and counts are those again, no message and no byte is kept
+pub record HasGoneBack (before : Standing) (old new : LinkState) : Type 0 where
+  pub phase : new.phase ≡ before.phase
+  pub ticks : new.ticks ≡ before.ticks
+  pub asked : new.asked ≡ before.asked
+  pub losses : new.losses ≡ before.losses
+  pub owes : new.owes ≡ before.owes
+  pub tester : new.tester ≡ old.tester
+  pub units : new.units.items ≡ old.units.items
+  pub deframer : new.deframer ≡ Some []
+  pub inbox : (n : ℕ) → queue_at new.inboxes.items n ≡ []
 
 abbrev pub option_spoken : Option Message → Option Spoken
 option_spoken None = None

@@ -1,4 +1,4 @@
-ghost use Rattle.std.specs.Prelude.{◌≡◌, ◌≢◌, ◌<◌, ℕ, [], ◌∷◌, ◌++◌, length, drop, OnOk, OnErr, IfOk};
+ghost use Rattle.std.specs.Prelude.{◌≡◌, ◌≢◌, ◌<◌, ℕ, [], ◌∷◌, ◌++◌, length, drop, is_some, OnOk, OnErr, IfOk};
 ghost use Rattle.link_state.specs.Inboxes.{queue_at, first_of, IsPlaceOf};
 
 use flash_base::{Bytes, NoMemory};
@@ -55,6 +55,12 @@ impl Inbox {
         self.messages.pop_front()
     }
 
+    fn has_any(&self) -> bool
+        ensures { result ≡ is_some (first_of self.now) }
+    {
+        !self.messages.is_empty()
+    }
+
     fn clear(&mut self)
         ensures { self.new ≡ [] }
     {
@@ -95,6 +101,14 @@ pub fn take_first(inboxes: &mut Vec<Inbox>, n: usize) -> Option<Message>
 {
     let inbox = &mut inboxes[n];
     inbox.take()
+}
+
+/// Whether an inbox has a message.
+pub fn has_any(inboxes: &Vec<Inbox>, n: usize) -> bool
+    requires { n < length inboxes.now.items }
+    ensures { result ≡ is_some (first_of (queue_at inboxes.now.items n)) }
+{
+    inboxes[n].has_any()
 }
 
 /// Empties each inbox.

@@ -1,6 +1,6 @@
 ghost use Rattle.std.specs.Prelude.{◌≡◌, length};
 
-use crate::inbox::{Inbox, Message, clear, empty, place_of, put, take_first};
+use crate::inbox::{Inbox, Message, clear, empty, has_any, place_of, put, take_first};
 use doip_frame::{Deframer, Frame, Frames};
 use flash_base::{Bytes, NoMemory};
 use std::alloc::Global;
@@ -36,15 +36,25 @@ pub struct LinkState {
     ghost sized: { length inboxes.items ≡ length units.items },
 }
 
+/// Phase and counts of a link.
+#[derive(Clone, Copy, Debug, PartialEq, Eq)]
+struct Standing {
+    phase: Phase,
+    ticks: u64,
+    asked: u64,
+    losses: u32,
+    owes: bool,
+}
+
 /// The ticks after which an activation counts as unanswered.
 const PATIENCE: u64 = 1000;
 
 impl LinkState {
-    ghost use Rattle.std.specs.Prelude.{◌≡◌, ◌+◌, ◌<◌, ◌^◌, ◌==◌, ◌&&◌, true, false, IfOk, OnOk};
-    ghost use Rattle.run_model.specs.Link.{Link, link_start, dialed_link, asked_link, said_link, polled_quiet, drop_link, hear_piece, see, see_all, keep_word, is_known, is_live, is_open, take_word, first_word, see_frame, unanswered};
+    ghost use Rattle.std.specs.Prelude.{◌≡◌, ◌+◌, ◌<◌, ◌^◌, ◌==◌, ◌&&◌, true, false, is_some, IfOk, OnOk, OnErr};
+    ghost use Rattle.run_model.specs.Link.{Link, Down, link_start, dialed_link, asked_link, said_link, polled_quiet, drop_link, hear_piece, see, see_all, keep_word, is_known, is_live, is_open, take_word, first_word, see_frame, unanswered};
     ghost use Rattle.run_model.specs.Ways.{Reply, Unheard};
     ghost use Rattle.link_state.specs.Inboxes.{spoken_of};
-    ghost use Rattle.link_state.specs.State.{Shows, ShowsBody, IsOf, SameLabels, AreDistinct, phase_of, tester_of, units_of, loss_count, tick_count, option_spoken, is_open_now, see_answer, see_bad, SameDeframer, SameRest, SameButLoss, IsDropped};
+    ghost use Rattle.link_state.specs.State.{Shows, ShowsBody, IsOf, SameLabels, AreDistinct, phase_of, tester_of, units_of, loss_count, tick_count, option_spoken, is_open_now, see_answer, see_bad, SameDeframer, SameRest, SameButLoss, IsDropped, IsStandingOf, HasGoneBack, emptied_link};
 
     /// The link of a tester to these units: no connection yet.
     pub fn new(alloc: Global, tester: u16, units: &[u16]) -> Result<LinkState, NoMemory>
@@ -295,8 +305,8 @@ impl LinkState {
         }
     }
 
-    /// A receive brought these bytes.
-    pub fn piece(&mut self, bytes: &[u8]) -> Result<(), NoMemory>
+    /// Looks at the frames that these bytes complete.
+    fn look_at(&mut self, bytes: &[u8]) -> Result<(), NoMemory>
         requires losses { loss_count self.old < 2 ^ 31 }
         ensures shows { OnOk result ((l : Link) → is_open l.phase ≡ true → Shows self.old l → Shows self.new (hear_piece (tester_of self.old) (units_of self.old) bytes.now l)) }
         ensures of { SameLabels self.old self.new }
@@ -305,6 +315,68 @@ impl LinkState {
         self.see_frames(&fed.frames)?;
         self.stop(fed.bad.is_some());
         Ok(())
+    }
+
+    /// Phase and counts.
+    fn standing(&self) -> Standing
+        ensures { IsStandingOf self.now result }
+    {
+        Standing {
+            phase: self.phase,
+            ticks: self.ticks,
+            asked: self.asked,
+            losses: self.losses,
+            owes: self.owes,
+        }
+    }
+
+    /// Phase and counts are those again, and nothing that came is kept.
+    fn go_back(&mut self, before: Standing)
+        ensures { HasGoneBack before self.old self.new }
+    {
+        self.phase = before.phase;
+        self.ticks = before.ticks;
+        self.asked = before.asked;
+        self.losses = before.losses;
+        self.owes = before.owes;
+        self.deframer = Deframer::new(self.alloc);
+        clear(&mut self.inboxes);
+    }
+
+    /// A receive brought these bytes. Where there is no memory for them, phase, ticks, losses and whether an alive
+    /// check is to be answered stay, and no message and no byte is kept: the run may look at this link no more.
+    pub fn piece(&mut self, bytes: &[u8]) -> Result<(), NoMemory>
+        requires losses { loss_count self.old < 2 ^ 31 }
+        ensures shows { OnOk result ((l : Link) → is_open l.phase ≡ true → Shows self.old l → Shows self.new (hear_piece (tester_of self.old) (units_of self.old) bytes.now l)) }
+        ensures wants { OnErr result ((l : Link) → Shows self.old l → Shows self.new (emptied_link l)) }
+        ensures of { SameLabels self.old self.new }
+    {
+        let before = self.standing();
+        match self.look_at(bytes) {
+            Ok(()) => Ok(()),
+            Err(fault) => {
+                self.go_back(before);
+                Err(fault)
+            }
+        }
+    }
+
+    /// The link is used no more, and this is no loss.
+    pub fn shut(&mut self)
+        ensures shows { (l : Link) → Shows self.old l → Shows self.new (record l { phase = Down }) }
+        ensures of { SameLabels self.old self.new }
+    {
+        self.phase = Phase::Down;
+    }
+
+    /// Whether there is a message of a unit.
+    pub fn has_message(&self, unit: u16) -> bool
+        ensures { (l : Link) → Shows self.now l → is_known (units_of self.now) unit ≡ true → result ≡ is_some (first_word unit l.inbox) }
+    {
+        match place_of(&self.units, unit) {
+            Some(n) => has_any(&self.inboxes, n),
+            None => false,
+        }
     }
 
     /// Takes the oldest message of a unit.

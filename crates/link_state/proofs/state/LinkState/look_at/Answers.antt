@@ -3,7 +3,7 @@ use Rattle.std.specs.Prelude.{Bool}
 use Rattle.run_model.specs.Link.{Link, see_all}
 use Rattle.link_state.specs.State.{ShowsBody, see_bad, tester_of, units_of}
 use Rattle.link_state.proofs.Pieces.{piece_shows, with_piece}
-use Rattle.link_state.proofs.state.LinkState.piece.Goals as goal
+use Rattle.link_state.proofs.state.LinkState.look_at.Goals as goal
 
 pub returns-clause-shows : goal.returns-clause-shows
 returns-clause-shows c = λ l opened s.
