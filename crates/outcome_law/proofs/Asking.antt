@@ -5,31 +5,26 @@ use Rattle.outcome_law.proofs.Clock.{dues_none}
 use Rattle.std.proofs.Math.Nat.{zero-mod}
 use Rattle.std.proofs.Common.{◌≡◌, ◌⊎◌, inl, inr, ℕ, ◌+◌, ◌-◌, ◌%◌, ◌<◌, ◌≤◌, true, false, List, [], ◌∷◌, ◌++◌, length, Some, None, refl, sym, ◌∙◌, ap, subst, arith, append_assoc}
 use Rattle.std.specs.Prelude.{Bool, Option, ◌==◌, ◌&&◌, ◌||◌, not, nat_le, nat_lt, filter, if◌then◌else◌, unwrap_or}
-use Rattle.std.proofs.lemmas.Bool.{cases_Bool, cases_eq, false≢true, eq-eqb, ne_eqb, and_parts, leb-true, leb-false, ltb-false}
+use Rattle.std.proofs.lemmas.Bool.{cases_Bool, false≢true, eq-eqb, ne_eqb, and_parts, leb-true, leb-false, ltb-false}
 use Rattle.std.proofs.lemmas.List.{append-nil}
-use Rattle.bay_core.proofs.Queueing.{said_other, queue_more, released_bytes, release_is, filter_can, released_whole, released_words, held_filter, words_front, nack_words, ack_words, Alike, alike_way, alike_ready, alike_words, timely_held}
+use Rattle.bay_core.proofs.Queueing.{said_other, held_filter, nack_words, alike_way, alike_words, timely_held}
 use Rattle.bay_core.proofs.Sending.{IsNacked, Refused, Heard, let_out, let_ready, let_whole, let_none, let_lone, answered_alike, active_is, no_X, no_held, no_later, refused_way, let_nothing, let_no_held, held_last, tick_kept}
-use Rattle.bay_core.proofs.Ticking.{left_nil, right_nil, bodies, held_bodies, way_holds_none, up_tester, up_active}
+use Rattle.bay_core.proofs.Ticking.{left_nil, right_nil, bodies, held_bodies}
 use Rattle.bay_core.specs.Joint.{HoldsAtMost, held_of}
 use Rattle.flash_base.specs.Lists.{Each}
-use Rattle.doip_frame.specs.Frame.{stream_of, message_bytes, ack_bytes, nack_bytes}
-use Rattle.doip_frame.specs.declared.frame.Frame.TheVariants.{Message}
+use Rattle.doip_frame.specs.Frame.{stream_of, message_bytes, nack_bytes}
 use Rattle.flash_plan.specs.declared.unit.UnitPlan.{UnitPlan}
-use Rattle.run_model.proofs.Hearing.{found_address}
 use Rattle.run_model.proofs.Replies.{Timely, said_words, replies_way, timely_of, said_of, queue_reply, queue_replies}
-use Rattle.run_model.proofs.Whole.{whole_append, ack_whole, nack_whole, message_frames}
+use Rattle.run_model.proofs.Whole.{nack_whole, message_frames}
 use Rattle.run_model.specs.Connected.{IsConnected}
 use Rattle.run_model.specs.Link.{Link, is_up}
 use Rattle.run_model.specs.Script.{bytes_at}
 use Rattle.run_model.specs.States.{StateAt, StateIn, SameButCounts}
 use Rattle.run_model.specs.Talk.{Talk, talk_sent}
-use Rattle.run_model.specs.Ways.{Spoken, Reply, Unheard, IsWhole, words_from, words_in, words_later, words_held, on_way, is_empty_words, pending_words, final_word}
+use Rattle.run_model.specs.Ways.{Spoken, Reply, Unheard, words_from, words_in, words_later, on_way, is_empty_words, pending_words, final_word}
 use Rattle.uds_codec.specs.Request.{sid_of}
-use Rattle.unit_model.proofs.Feeding.{Handled}
-use Rattle.unit_model.proofs.Steps.{step_frames}
-use Rattle.unit_model.proofs.Units.{SameState, SameIn, SameUnits, same_self, with_same, with_other}
 use Rattle.unit_model.specs.Feed.{tester_of, waits_for}
-use Rattle.unit_model.specs.Step.{CanSend, UnitStep, Obeys, Holds, Departs, Departure, Refuses as declines, Odd, Fails, Mutes, Busies, pendings, last_replies, last_tick, said_by, ascends, is_late, is_stalled, raise_if, raise_code, raised}
+use Rattle.unit_model.specs.Step.{CanSend, Obeys, Holds, Departs, Departure, Refuses as declines, Odd, Fails, Mutes, Busies, pendings, last_replies, last_tick, said_by, ascends, is_late, is_stalled, raise_if, raise_code, raised}
 use Rattle.unit_model.specs.Unit.{ControlUnit, Counts, obedient, one_more, heard_one}
 use Rattle.unit_model.specs.Vehicle.{HeldAnswer, Gateway, Vehicle, unit_at}
 use Rattle.unit_model.specs.declared.reply.Due.TheVariants.{At, Held}

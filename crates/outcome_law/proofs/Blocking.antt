@@ -17,11 +17,11 @@ use Rattle.unit_model.specs.Vehicle.{Vehicle}
 use Rattle.run_model.specs.Troubles.{IsVehicleCalm}
 use Rattle.bay_core.specs.Core.{Core, core_start, core_of}
 use Rattle.bay_core.specs.Stops.{has_failure}
-use Rattle.bay_core.specs.declared.event.Event.{Event}
 use Rattle.outcome_law.proofs.Recorded.{counted_law, ended_run, kept_untroubled}
 use Rattle.outcome_law.proofs.Runs.{counted_run}
 use Rattle.outcome_law.specs.Counting.{AreUnitsCounted}
-use Rattle.outcome_law.specs.Law.{IsRun, last_vehicle}
+use Rattle.outcome_law.specs.Keeping.{KeptCompleteLaw}
+use Rattle.outcome_law.specs.Law.{last_vehicle}
 use Rattle.outcome_law.specs.LinkCounting.{faults_of}
 use Rattle.outcome_law.specs.OutcomeCounting.{AreOutcomesCounted}
 use Rattle.outcome_law.specs.Outcomes.{IsBlockedBy, IsOutcomeCaused, IsUntroubled, AllMatch, LacksMemory, CompleteLaw}
@@ -119,6 +119,10 @@ module _ (rules : LinkRules) (P : List UnitPlan) (found : Entry → Bool) (c : C
 
   pub kept_complete : (n : ℕ) (o : Outcome) → n < count_of P → (c.slots n).outcome ≡ Some o → (o ≡ Complete) ⊎ LacksMemory P c
   kept_complete n o lt at = along (count_of P) [] n o lt none_yet tt tt (omega arith) at (untroubled_of n o lt at) (cause_of n o lt at)
+
+pub kept_complete_law : KeptCompleteLaw
+kept_complete_law rules P found c failed faults first now t0 n o accepted units outcomes fine lt at matching =
+    kept_complete rules P found c failed faults first now t0 accepted units outcomes fine.disk fine.link fine.vehicle matching n o lt at
 
 pub complete_law : CompleteLaw
 complete_law rules P found events s states n o run lt at failed faults calm matching =

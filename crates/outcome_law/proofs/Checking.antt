@@ -1,7 +1,7 @@
 -- Ranges that a unit has checked: where every segment was found marked, no request of its script changes them; and the whole
 -- check finds nothing only where nothing was checked from the start.
 use Rattle.std.proofs.Common.{◌≡◌, ◌⊎◌, inl, inr, ℕ, ◌<◌, true, false, List, [], ◌∷◌, ◌++◌, length, Some, None, refl, sym, ◌∙◌, ap, subst, arith, length-append}
-use Rattle.std.specs.Prelude.{Bool, Option, ◌==◌, ◌&&◌, not, is_some, if◌then◌else◌, MatchOption}
+use Rattle.std.specs.Prelude.{Bool, Option, ◌==◌, is_some, if◌then◌else◌, MatchOption}
 use Rattle.std.proofs.lemmas.Bool.{cases_Bool, false≢true, both_ways}
 use Rattle.flash_base.specs.Lists.{same_bytes}
 use Rattle.flash_plan.specs.Plan.{plan_of, count_of, segment_of}
@@ -15,7 +15,7 @@ use Rattle.uds_codec.specs.Request.{request_of, sid_of}
 use Rattle.uds_codec.specs.declared.request.Request.{Request}
 use Rattle.unit_model.proofs.Units.{SameIn}
 use Rattle.unit_model.specs.Step.{Spoil, Leaves, spoil_in, Obeys, Holds, Departs, UnitStep}
-use Rattle.unit_model.specs.Unit.{ControlUnit, obey_in, obedient, has_level, has_key, read_in, key_in, finish_in, is_locked, ident_of}
+use Rattle.unit_model.specs.Unit.{ControlUnit, obey_in, obedient, has_level, read_in, key_in, finish_in, is_locked, ident_of}
 use Rattle.unit_model.specs.Vehicle.{Vehicle, unit_at}
 use Rattle.unit_model.specs.declared.reply.UnitReply.{UnitReply}
 use Rattle.run_model.specs.Entries.{marks_of}
@@ -25,7 +25,7 @@ use Rattle.run_model.specs.Sound.{HasSegment, VehicleHas, has_range}
 use Rattle.bay_core.specs.Core.{Core}
 use Rattle.bay_core.specs.Joint.{IsVehicleJoint}
 use Rattle.outcome_law.specs.Causes.{HasNoneChecked}
-use Rattle.outcome_law.specs.Counting.{Takes, TakesIn, SameChecked}
+use Rattle.outcome_law.specs.Counting.{Takes, SameChecked}
 use Rattle.outcome_law.proofs.Fair.{TakesOn}
 
 -- ------ a step at a place outside the segments

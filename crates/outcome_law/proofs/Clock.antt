@@ -1,5 +1,5 @@
 -- A tick, for a unit whose answer is awaited.
-use Rattle.std.proofs.Common.{◌≡◌, ◌⊎◌, inl, inr, ℕ, zero, suc, ◌+◌, ◌-◌, ◌%◌, ◌<◌, ◌≤◌, true, false, List, [], ◌∷◌, ◌++◌, length, Some, None, refl, sym, ◌∙◌, ap, subst, arith, append_assoc, length-append}
+use Rattle.std.proofs.Common.{◌≡◌, ◌⊎◌, inl, inr, ℕ, suc, ◌+◌, ◌-◌, ◌%◌, ◌<◌, ◌≤◌, true, false, List, [], ◌∷◌, ◌++◌, length, Some, None, refl, sym, ◌∙◌, ap, subst, arith, append_assoc, length-append}
 use Rattle.std.specs.Prelude.{Bool, Option, ◌==◌, ◌&&◌, ◌||◌, nat_le, map, if◌then◌else◌, unwrap_or}
 use Rattle.std.proofs.lemmas.Bool.{cases_Bool, cases_lt, false≢true, both_ways, eq-eqb, ne_eqb, eqb-true, and_parts, and_from, leb-true, leb-false, le-leb, lt-leb}
 use Rattle.std.proofs.lemmas.List.{append-nil}
@@ -17,11 +17,11 @@ use Rattle.run_model.specs.Connected.{IsConnected}
 use Rattle.run_model.specs.Link.{Link, quiet_link}
 use Rattle.run_model.specs.Script.{bytes_at}
 use Rattle.run_model.specs.Talk.{Talk}
-use Rattle.run_model.specs.Ways.{Spoken, Reply, Unheard, IsWhole, words_from, words_in, words_later, words_held, on_way, ascends_for, is_empty_words, pending_words, final_word}
+use Rattle.run_model.specs.Ways.{Spoken, Reply, IsWhole, words_from, words_in, words_later, words_held, on_way, ascends_for, is_empty_words}
 use Rattle.uds_codec.specs.Request.{sid_of}
 use Rattle.unit_model.proofs.Units.{SameState, SameIn, raised_same}
 use Rattle.unit_model.specs.Feed.{tester_of}
-use Rattle.unit_model.specs.Poll.{bytes_due, not_due, is_turn, held_on, raises, raised_by, ticked}
+use Rattle.unit_model.specs.Poll.{bytes_due, not_due, is_turn, raises, raised_by, ticked}
 use Rattle.unit_model.specs.Step.{is_late, raise_if, pending_bytes}
 use Rattle.unit_model.specs.Unit.{ControlUnit, one_more}
 use Rattle.unit_model.specs.Vehicle.{HeldAnswer, Gateway, Vehicle, unit_at}

@@ -1,6 +1,6 @@
 -- No step of a vehicle lets a count fall or changes what a unit is made of.
 use Rattle.std.proofs.Common.{◌≡◌, ◌⊎◌, inl, inr, ℕ, zero, suc, ◌+◌, true, false, List, [], ◌∷◌, ◌++◌, length, Some, None, refl, sym, ◌∙◌, ap, subst, arith}
-use Rattle.std.specs.Prelude.{Bool, Option, is_some, ◌==◌, ◌&&◌, ◌||◌, not, map, nat_le, nat_lt, MatchBool, if◌then◌else◌}
+use Rattle.std.specs.Prelude.{Bool, Option, is_some, ◌==◌, ◌||◌, not, map, nat_le, nat_lt, MatchBool, if◌then◌else◌}
 use Rattle.std.proofs.lemmas.Bool.{cases_Bool, cases_eq}
 use Rattle.doip_frame.specs.Frame.{Cut, Partial, Wrong, Whole, cut_frame, message_bytes}
 use Rattle.doip_frame.specs.declared.frame.Frame.{Frame}

@@ -5,6 +5,7 @@ pub mod Clock
 pub mod Ending
 pub mod Fair
 pub mod Fairness
+pub mod Faulting
 pub mod Growing
 pub mod Linking
 pub mod Losing

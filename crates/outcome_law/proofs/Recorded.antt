@@ -27,6 +27,7 @@ use Rattle.outcome_law.proofs.Runs.{start as units_start, counted_run, calm_not,
 use Rattle.outcome_law.proofs.Steps.{moves_grow}
 use Rattle.outcome_law.specs.Causes.{IsCaused}
 use Rattle.outcome_law.specs.Counting.{AreUnitsCounted}
+use Rattle.outcome_law.specs.Keeping.{KeptRecordedLaw, KeptUntroubledLaw}
 use Rattle.outcome_law.specs.Law.{IsRun, last_vehicle, IsCalmUnit, IsMatchingRun}
 use Rattle.outcome_law.specs.LinkCounting.{is_fault, fault_of, faults_of}
 use Rattle.outcome_law.specs.OutcomeCounting.{Rests, IsStopCounted, StopCounted, AreOutcomesCounted, OutcomeCountingLaw, StartLaw, CountedLaw}
@@ -67,6 +68,16 @@ over rules P found c (e ∷ es) s (s2 ∷ states) first t0 faults failed accepte
     (step_law.vehicle rules P found c e s s2 t0 accepted parts.0 moves.0 joint) (λ f. fails (or_right _ _ f))
     (outcome_counting_law rules P found c e s s2 first t0 faults failed failed accepted parts.0 moves.0 joint (λ f. f) (λ f. fails (or_left _ _ f)) is))
 
+none_some : (o : Outcome) → None ≡ Some o → ⊥
+none_some o e = false≢true (ap (is_some {T = Outcome}) e)
+
+-- at the start only what was found complete has an outcome
+pub found_rests : (P : List UnitPlan) (found : Entry → Bool) (n : ℕ) (o : Outcome) → ((core_start P found).slots n).outcome ≡ Some o → Rests P (core_start P found) n o
+found_rests P found n o at = elim (cases_Bool (found (entry.Complete n))) [
+  | inr e ↦ absurd (none_some o (rw e at at))
+  | inl e ↦ (let is : Some Complete ≡ Some o = rw e at at in inr (inr (inr (inr (inr (sym (ap (λ (x : Option Outcome). unwrap_or x o) is), e))))))
+]
+
 start : (rules : LinkRules) (P : List UnitPlan) (found : Entry → Bool) (v : Vehicle) (failed : Bool) → AreOutcomesCounted rules P (core_start P found) failed 0 v v
 start rules P found v failed = record {
   link = record {
@@ -75,19 +86,10 @@ start rules P found v failed = record {
     denied = tt;
     fair = λ lives. absurd (false≢true lives);
   };
-  rests = λ n o lt at. found_rests n o at;
+  rests = λ n o lt at. found_rests P found n o at;
   faulted = λ n f. absurd (false≢true f);
   stop = omega arith;
 }
-  where
-    none_some : (o : Outcome) → None ≡ Some o → ⊥
-    none_some o e = false≢true (ap (is_some {T = Outcome}) e)
-
-    found_rests : (n : ℕ) (o : Outcome) → ((core_start P found).slots n).outcome ≡ Some o → Rests P (core_start P found) n o
-    found_rests n o at = elim (cases_Bool (found (entry.Complete n))) [
-      | inr e ↦ absurd (none_some o (rw e at at))
-      | inl e ↦ (let is : Some Complete ≡ Some o = rw e at at in inr (inr (inr (inr (inr (sym (ap (λ (x : Option Outcome). unwrap_or x o) is), e))))))
-    ]
 
 pub ended_run : (rules : LinkRules) (P : List UnitPlan) (found : Entry → Bool) (events : List Event) (s : Vehicle) (states : List Vehicle) → IsRun rules P found events s states
     → AreOutcomesCounted rules P (core_of rules P (core_start P found) events) (has_failure events) (faults_of events s states) s (last_vehicle s states)
@@ -224,6 +226,13 @@ module _ (rules : LinkRules) (P : List UnitPlan) (found : Entry → Bool) (c : C
     kept_recorded (BusyLimit sid) is = no_cause rules P found c first now t0 units n (BusyLimit sid) calm is
     kept_recorded (Undelivered code) is = no_cause rules P found c first now t0 units n (Undelivered code) calm is
     kept_recorded (IdentMismatch did) is = no_cause rules P found c first now t0 units n (IdentMismatch did) calm is
+
+pub kept_recorded_law : KeptRecordedLaw
+kept_recorded_law rules P found c failed faults first now t0 n o units is lt at calm = kept_recorded rules P found c failed faults first now t0 n units calm o (counted_law rules P found c failed faults first now t0 n o lt units is at)
+
+pub kept_untroubled_law : KeptUntroubledLaw
+kept_untroubled_law rules P found c failed faults first now t0 n o units is fine lt at matching =
+    kept_untroubled rules P found c failed faults first now t0 n units fine.disk fine.link fine.vehicle matching o (counted_law rules P found c failed faults first now t0 n o lt units is at)
 
 -- ------ over a list
 pub outcome_law : OutcomeLaw

@@ -37,6 +37,7 @@ use Rattle.outcome_law.proofs.Growing.{unit_up_same, make_same}
 use Rattle.outcome_law.proofs.Steps.{start_counted, unit_step}
 use Rattle.outcome_law.specs.Causes.{Unfit, lacks_ident, lacks_level, other_key, stays_locked, lacks_room, other_check, odd_seed, odd_block, OtherIdent, IsCaused, IsCausedBy}
 use Rattle.outcome_law.specs.Counting.{Takes, IsEndCaused, SameChecked, AreUnitsCounted}
+use Rattle.outcome_law.specs.Keeping.{KeptDoneLaw}
 use Rattle.outcome_law.specs.Law.{last_vehicle, IsRun, EndsCaused, CauseLaw, CountingLaw, IsCalmUnit, AnyUnit, IsUnfitEnd, IsMatchingRun, CalmLaw, MatchingLaw, AnswersWell, ObedientLaw, GoesOn, DoneLaw}
 use Rattle.outcome_law.specs.Rising.{RoseBy}
 
@@ -248,6 +249,9 @@ module _ (rules : LinkRules) (P : List UnitPlan) (found : Entry → Bool) (c : C
 
       left : (c.slots n).talk.number + requests_left (plan_of P n) (c.slots n).talk.place ≤ requests_left (plan_of P n) (start_place (plan_of P n) (c.recorded (Begun n)))
       left = (counted.units n lt).talk.left goes
+
+pub kept_done_law : KeptDoneLaw
+kept_done_law rules P found c first now t0 n counted lt calm = kept_done rules P found c first now t0 counted n lt calm
 
 -- ------ over a list
 pub cause_law : CauseLaw

@@ -54,7 +54,6 @@ use Rattle.unit_model.specs.Feed.{Nothing, queue_words}
 use Rattle.unit_model.specs.Poll.{Ticks, IsShown, ticked}
 use Rattle.unit_model.specs.Unit.{ControlUnit, Counts}
 use Rattle.unit_model.specs.Vehicle.{Gateway, Vehicle, unit_at}
-use Rattle.unit_session.proofs.Keeps.{left_segments}
 use Rattle.unit_session.specs.Left.{left_for, requests_left}
 use Rattle.bay_core.proofs.Sending.{came_out, Refused as refused_request, Heard as heard_request}
 use Rattle.outcome_law.proofs.Asking.{others_on, refused_awaited, heard_awaited}
@@ -241,6 +240,14 @@ behind_segments plan begun found marks first now done (s ∷ ss) = elim (cases_B
   | inr e ↦ rw e (tt, tt)
 ]
 
+-- segments that are left out make none of it more
+left_behind : (plan : UnitPlan) (marks : ℕ → Bool) (done ss : List Segment) → requests_left plan (segments_from marks done ss) ≤ left_for ss
+left_behind plan marks done [] = omega arith
+left_behind plan marks done (s ∷ ss) = elim (cases_Bool (marks (length done))) [
+  | inl e ↦ rw e (omega (arith, left_behind plan marks (done ++ (s ∷ [])) ss))
+  | inr e ↦ rw e (omega arith)
+]
+
 marked_counted : (plan : UnitPlan) (begun : Bool) (found : ℕ → Bool) (first now : Option ControlUnit) (s : ℕ) (t : Talk) (c : Cursor) → t.place ≡ AtMark c → ((u : ControlUnit) → now ≡ Some u → u.checked ≡ [] → ⊥)
     → IsTalkCounted plan begun found first now t → IsTalkCounted plan begun found first now (talk_marked s t)
 marked_counted plan begun found first now s t c at some is =
@@ -254,7 +261,7 @@ marked_counted plan begun found first now s t c at some is =
       left = λ e.
           let so_far : t.number + requests_left plan t.place ≤ requests_left plan (start_place plan begun) = is.left (ap is_ended at) in
           let here : requests_left plan t.place ≡ left_for c.left = ap (requests_left plan) at in
-          let there : requests_left plan (place_marked (with_mark s t.marks) t.place) ≤ left_for c.left = subst (λ (p : Place). requests_left plan p ≤ left_for c.left) (sym next) (left_segments plan (with_mark s t.marks) (c.done ++ (c.now ∷ [])) c.left) in
+          let there : requests_left plan (place_marked (with_mark s t.marks) t.place) ≤ left_for c.left = subst (λ (p : Place). requests_left plan p ≤ left_for c.left) (sym next) (left_behind plan (with_mark s t.marks) (c.done ++ (c.now ∷ [])) c.left) in
           omega (arith, so_far, here, there);
     }
 

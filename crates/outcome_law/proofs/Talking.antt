@@ -14,7 +14,7 @@ use Rattle.unit_model.specs.Step.{Departure, Refuses, Odd, Fails, Mutes, Busies,
 use Rattle.unit_model.specs.Unit.{ControlUnit, has_key, obedient}
 use Rattle.unit_model.specs.Vehicle.{HeldAnswer}
 use Rattle.run_model.specs.Places.{needs_request, is_ended}
-use Rattle.run_model.specs.Script.{Place, AtIdent, AtBegin, AtProgram, AtSeed, AtKey, AtErase, AtDownload, AtBlock, AtExit, AtCheck, AtMark, AtFinish, AtReset, AtDone, AtEnd, bytes_at, routine_at, place_next, place_judged, start_place}
+use Rattle.run_model.specs.Script.{Place, AtIdent, AtBegin, AtProgram, AtSeed, AtKey, AtErase, AtDownload, AtBlock, AtExit, AtCheck, AtMark, AtFinish, AtReset, AtDone, AtEnd, bytes_at, place_next, place_judged, start_place}
 use Rattle.run_model.specs.States.{StateAt, SameButCounts, Obeyed, Departed}
 use Rattle.run_model.specs.Talk.{Talk, talk_hears, talk_judged, talk_final, end_talk}
 use Rattle.run_model.specs.Ways.{Spoken, Reply, Unheard, pending_words, final_word}

@@ -1,5 +1,6 @@
 pub mod Causes
 pub mod Counting
+pub mod Keeping
 pub mod Law
 pub mod LinkCounting
 pub mod OutcomeCounting
