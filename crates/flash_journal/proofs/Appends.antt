@@ -1,6 +1,5 @@
 -- An append to a journal in memory, on its disk.
 use Rattle.std.proofs.Common.{◌≡◌, ◌⊎◌, inl, inr, ℕ, ◌+◌, ◌*◌, ◌<◌, ◌≤◌, Bool, true, false, List, length, get_or, set, refl, sym, ◌∙◌, ap, subst, arith}
-use Rattle.std.specs.Prelude.{◌||◌}
 use Rattle.std.proofs.lemmas.Bool.{cases_eq, leb-true}
 use Rattle.std.proofs.lemmas.List.{get_or-set_same, get_or-set_other}
 use Rattle.disk_model.specs.Disk.{DiskState}
@@ -9,11 +8,11 @@ use Rattle.flash_plan.specs.declared.outcome.Entry.{Entry}
 use Rattle.journal_model.specs.Records.{Label, slots_of, body_of, is_open}
 use Rattle.journal_steps.specs.Append.{AddsSome, AddsAtMost, CanAppendGroup, HasAddedGroup, Records, with_entry}
 use Rattle.journal_steps.specs.Later.{HoldsOnDisk}
-use Rattle.journal_steps.specs.Tables.{place_of}
+use Rattle.journal_steps.specs.Tables.{place_of, is_found}
 use Rattle.journal_steps.proofs.Moments.{weakens}
 use Rattle.journal_steps.proofs.One.{only, open_gate, one_can, one_adds, one_added, entry_with}
 use Rattle.journal_steps.proofs.Settled.{long_of, all_settled}
-use Rattle.journal_steps.proofs.Tables.{table_more, place_below}
+use Rattle.journal_steps.proofs.Tables.{table_more, place_below, plain_of}
 use Rattle.flash_journal.specs.declared.journal.Journal.{Journal}
 use Rattle.flash_journal.specs.Kept.{journal_label, has_entry, MayAppend, IsKeptOn}
 
@@ -44,7 +43,7 @@ told_as P R Q image same holds = record { journal = holds.journal; entries = λ 
 
 -- the table with the entry
 pub has_more : (j new : Journal) (e : Entry) → MayAppend j e → new.found.items ≡ set j.found.items (place_of e) true → (x : Entry) → has_entry new x ≡ with_entry e (has_entry j) x
-has_more j new e may found x = ap (λ (xs : List Bool). get_or xs (place_of x) false) found ∙ table_more j.found.items e x (omega (arith, j.entries, place_below e j.units may.named)) ∙ entry_with (has_entry j) e x
+has_more j new e may found x = ap (λ (xs : List Bool). is_found xs x) found ∙ table_more j.found.items e x (plain_of (has_entry j) e may.prepared) (omega (arith, j.entries, place_below e j.units may.named)) ∙ entry_with (has_entry j) e x
 
 pub kept_more : (j new : Journal) (old disk : DiskState) (slot : ℕ) (e : Entry) → IsKeptOn j old → MayAppend j e → slot < length j.gates.items
     → journal_label new ≡ journal_label j → new.gates.items ≡ set j.gates.items slot true → new.found.items ≡ set j.found.items (place_of e) true

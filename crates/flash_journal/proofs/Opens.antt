@@ -1,25 +1,28 @@
 -- From the bytes of a disk to the journal in memory.
-use Rattle.std.proofs.Common.{◌≡◌, inl, inr, ℕ, ◌+◌, ◌*◌, ◌≤◌, Bool, true, false, List, length, get_or, refl, sym, ◌∙◌, ap, subst, arith, Result, Ok, Err}
-use Rattle.std.specs.Prelude.{◌&&◌, IfOk, IfErr, replicate}
-use Rattle.std.proofs.lemmas.Bool.{ne_eqb, and_left}
+use Rattle.std.proofs.Common.{◌≡◌, ◌⊎◌, inl, inr, ℕ, ◌+◌, ◌*◌, ◌<◌, ◌≤◌, Bool, true, false, List, length, get_or, refl, sym, ◌∙◌, ap, subst, arith, Result, Ok, Err}
+use Rattle.std.specs.Prelude.{◌&&◌, ◌||◌, not, IfOk, IfErr, replicate}
+use Rattle.std.proofs.lemmas.Bool.{ne_eqb, and_left, and_parts, false≢true}
+use Rattle.std.proofs.lemmas.List.{get_or_past}
 use Rattle.disk_model.specs.Disk.{DiskState, IsCrashImage, IsSettled, Synced}
 use Rattle.shop_model.specs.History.{History, Call, LAST, DiskCall, disk_now}
 use Rattle.disk_model.specs.declared.device.DeviceFault.{DeviceFault}
 use Rattle.flash_plan.specs.declared.outcome.Entry.{Entry}
+use Rattle.flash_plan.specs.declared.outcome.Entry.TheVariants.{Complete}
 use Rattle.journal_model.specs.Records.{Label, slots_of, is_fresh, is_journal, has}
 use Rattle.journal_steps.specs.Append.{Records}
 use Rattle.journal_steps.specs.File.{new_bytes}
 use Rattle.journal_steps.specs.Later.{HoldsOnDisk, SameDisk, IsDisk}
 use Rattle.journal_steps.specs.Make.{no_entry, Starts, CanStart, IsNew, AllFollow}
-use Rattle.journal_steps.specs.Read.{IsRead}
-use Rattle.journal_steps.specs.Tables.{place_of}
+use Rattle.journal_steps.specs.Read.{IsRead, table_ordered}
+use Rattle.journal_steps.specs.Tables.{is_found}
 use Rattle.journal_steps.proofs.File.{new_made, new_size}
 use Rattle.journal_steps.specs.Read.{IsFront}
 use Rattle.journal_steps.proofs.Front.{front_fresh, front_journal, front_has, front_gate}
 use Rattle.journal_steps.proofs.Made.{fresh_no_journal}
 use Rattle.journal_steps.proofs.Moments.{weakens, joins, one_call}
 use Rattle.journal_steps.proofs.Opening.{follows_itself, follows_start, follows_on, follows_synced}
-use Rattle.journal_steps.proofs.Reading.{none_of}
+use Rattle.journal_steps.proofs.Reading.{none_of, none_found, read_ordered}
+use Rattle.journal_steps.proofs.Slots.{below_at}
 use Rattle.journal_steps.proofs.Settled.{itself, all_settled}
 use Rattle.journal_steps.proofs.Tests.{tested_fresh, tested_journal}
 use Rattle.flash_journal.specs.declared.journal.Journal.{Journal}
@@ -27,7 +30,7 @@ use Rattle.flash_journal.specs.declared.looking.OpenFault.{OpenFault}
 use Rattle.flash_journal.specs.declared.looking.OpenFault.TheVariants.{NotJournal, OtherPlan, DiskFault, NoMemory}
 use Rattle.flash_journal.specs.Kept.{journal_label, has_entry, IsKeptOn}
 use Rattle.flash_journal.specs.Look.{IsWant, SaysOther}
-use Rattle.flash_journal.specs.Opened.{IsOpened, OpenAnswer, OnRefusal, HasBytes, IsEmpty}
+use Rattle.flash_journal.specs.Opened.{IsOpened, OpenAnswer, OnRefusal, HasBytes, IsEmpty, IsOrdered}
 use Rattle.flash_journal.proofs.Appends.{told_as}
 
 pub front_is : (units : ℕ) (image front : List ℕ) → IsFront (64 + 34 * units) image front → IsFront (64 + 17 * (2 * units)) image front
@@ -50,7 +53,7 @@ kept_new P j disk new label gates found = record {
 }
   where
     now : Records (journal_label j) (has_entry j) disk.bytes
-    now = subst (λ (Q : Label). Records Q (has_entry j) disk.bytes) (sym label) (told_as P no_entry (has_entry j) disk.bytes (λ e. ap (λ (xs : List Bool). get_or xs (place_of e) false) found ∙ none_of (slots_of P) (place_of e)) new.records)
+    now = subst (λ (Q : Label). Records Q (has_entry j) disk.bytes) (sym label) (told_as P no_entry (has_entry j) disk.bytes (λ e. ap (λ (xs : List Bool). is_found xs e) found ∙ none_found (slots_of P) e) new.records)
 
 pub opened_read : (P : Label) (j : Journal) (disk : DiskState) (front : List ℕ) (gates found : List Bool) → IsSettled disk → IsFront (64 + 17 * slots_of P) disk.bytes front → is_journal P front ≡ true → IsRead front (slots_of P) gates found
     → journal_label j ≡ P → j.gates.items ≡ gates → j.found.items ≡ found → IsOpened P disk.bytes j disk
@@ -69,7 +72,7 @@ opened_read P j disk front gates found settled is journal read label gates_is fo
     journal2 = sym (front_journal P disk.bytes front is) ∙ journal
 
     holds : (e : Entry) → has disk.bytes (slots_of P) e ≡ has_entry j e
-    holds e = sym (front_has P disk.bytes front is e) ∙ read.entry e ∙ sym (ap (λ (xs : List Bool). get_or xs (place_of e) false) found_is)
+    holds e = sym (front_has P disk.bytes front is e) ∙ read.entry e ∙ sym (ap (λ (xs : List Bool). is_found xs e) found_is)
 
     now : Records (journal_label j) (has_entry j) disk.bytes
     now = subst (λ (Q : Label). Records Q (has_entry j) disk.bytes) (sym label) (record { journal = journal2; entries = holds })
@@ -129,3 +132,31 @@ synced_same old mid new r bounded did same still = joins (HasBytes (disk_now old
 -- what was answered over the bytes after a sync, over those before it
 pub answer_synced : (P : Label) (old mid : DiskState) (r : Result Journal OpenFault) (disk : DiskState) → mid.bytes ≡ old.bytes → OpenAnswer P mid.bytes r disk → OpenAnswer P old.bytes r disk
 answer_synced P old mid r disk same answer = subst (λ (xs : List ℕ). OpenAnswer P xs r disk) same answer
+
+-- ------ none is complete that is not begun
+pub empty_ordered : (r : Result Journal OpenFault) → IfOk r IsEmpty → IfOk r IsOrdered
+empty_ordered (Ok j) is = record { begun = λ u done. absurd (false≢true (sym (is.none (Complete u)) ∙ done)) }
+empty_ordered (Err e) is = tt
+
+or_of : (a b : Bool) → (not a || b) ≡ true → a ≡ true → b ≡ true
+or_of true b is e = is
+or_of false b is e = absurd (false≢true e)
+
+under_or_not : (a b : ℕ) → (a < b) ⊎ (b ≤ a)
+under_or_not a b = grind arith
+
+pub tables_ordered : (P : Label) (bytes : List ℕ) (j : Journal) (gates found : List Bool) → is_journal P bytes ≡ true → IsRead bytes (slots_of P) gates found → j.found.items ≡ found → IsOrdered j
+tables_ordered P bytes j gates found is read same = record {
+  begun = λ u done.
+      let standing = (and_parts _ _ is).1 in
+      let all : table_ordered found P.units ≡ true = sym (read_ordered bytes (slots_of P) P.units gates found read) ∙ (and_parts _ _ standing).1 in
+      let has : get_or found (2 * u + 1) false ≡ true = ap (λ (xs : List Bool). get_or xs (2 * u + 1) false) (sym same) ∙ done in
+      let begun : get_or found (2 * u) false ≡ true = within u has all in
+      ap (λ (xs : List Bool). get_or xs (2 * u) false) same ∙ begun;
+}
+  where
+    within : (u : ℕ) → get_or found (2 * u + 1) false ≡ true → table_ordered found P.units ≡ true → get_or found (2 * u) false ≡ true
+    within u has all = elim (under_or_not u P.units) [
+      | inl lt ↦ or_of _ _ (below_at P.units (λ (k : ℕ). not (get_or found (2 * k + 1) false) || get_or found (2 * k) false) all u lt) has
+      | inr le ↦ absurd (false≢true (sym (get_or_past found (2 * u + 1) false (omega (arith, le, read.found_size))) ∙ has))
+    ]

@@ -6,7 +6,7 @@ use Rattle.flash_plan.specs.declared.outcome.Entry.{Entry}
 use Rattle.journal_model.specs.Records.{Label, slots_of, unit_of, body_of, is_open}
 use Rattle.journal_steps.specs.Append.{Records, IsPrepared, with_entry}
 use Rattle.journal_steps.specs.Later.{MadeCalls, append_calls}
-use Rattle.journal_steps.specs.Tables.{place_of}
+use Rattle.journal_steps.specs.Tables.{is_found}
 use Rattle.flash_journal.specs.declared.journal.Journal.{Journal}
 
 -- the plan's digest and its number of units
@@ -15,7 +15,7 @@ journal_label j = record { digest = j.digest; units = j.units }
 
 -- the entry is one of the journal's
 abbrev pub has_entry : Journal → Entry → Bool
-has_entry j e = get_or j.found.items (place_of e) false
+has_entry j e = is_found j.found.items e
 
 -- no append has failed
 abbrev pub is_live : Journal → Bool

@@ -67,17 +67,21 @@ impl Journal {
     pub fn has(&self, entry: Entry) -> bool
         ensures { result ≡ has_entry self.now entry }
     {
+        if let Entry::Marked { .. } = entry {
+            return false;
+        }
         let place = place_in_table(entry);
         place < self.found.len() && self.found[place]
     }
 
     /// Whether the entry may be appended: it is not there, it is of a unit of the plan, and a Complete comes
-    /// behind its Begun.
+    /// behind its Begun. Version 1 of the file has no marks.
     pub fn may_append(&self, entry: Entry) -> bool
         ensures { IsTrue result ↔ MayAppend self.now entry }
     {
         match entry {
             Entry::Begun(unit) => unit < self.units && !self.has(entry),
+            Entry::Marked { .. } => false,
             Entry::Complete(unit) => {
                 unit < self.units && !self.has(entry) && self.has(Entry::Begun(unit))
             }

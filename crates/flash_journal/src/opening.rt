@@ -7,7 +7,7 @@ ghost use Rattle.journal_steps.specs.Make.{Starts, AllFollow};
 ghost use Rattle.journal_steps.specs.Read.{IsFront};
 ghost use Rattle.flash_journal.specs.Kept.{IsKeptOn};
 ghost use Rattle.flash_journal.specs.Look.{HasCause, SaysOther, IsWant};
-ghost use Rattle.flash_journal.specs.Opened.{IsOf, IsEmpty, OpenAnswer, OnRefusal, HasBytes};
+ghost use Rattle.flash_journal.specs.Opened.{IsOf, IsEmpty, IsOrdered, OpenAnswer, OnRefusal, HasBytes};
 ghost use Rattle.flash_journal.specs.Seen.{label};
 
 use crate::file::new_file;
@@ -61,6 +61,7 @@ fn open_synced<S: Shop>(
 ) -> Result<Journal, OpenFault>
     requires { IsTrue S.tells_disk → IsSettled (disk_now (S.history shop.old)) }
     ensures of { IfOk result (IsOf (label digest.now units)) }
+    ensures ordered { IfOk result IsOrdered }
     ensures answer { IsTrue S.tells_disk → OpenAnswer (label digest.now units) (disk_now (S.history shop.old)).bytes result (disk_now (S.history shop.new)) }
     ensures any_moment { IsTrue S.tells_disk → HoldsOnDisk (S.history shop.old) (S.history shop.new) (AllFollow (label digest.now units) (disk_now (S.history shop.old))) }
     ensures untouched { OnRefusal result (SameDisk (S.history shop.old) (S.history shop.new)) }
@@ -96,6 +97,9 @@ impl Journal {
         units: u16,
     ) -> Result<Journal, OpenFault>
         ensures of { IfOk result (IsOf (label digest.now units)) }
+
+        // Also over a disk that is not told: none is complete that is not begun.
+        ensures ordered { IfOk result IsOrdered }
 
         // The journal has the entries of what a read gave, and so has each image from now on. A refusal is
         // answered exactly where the tests find it.

@@ -1,25 +1,21 @@
-ghost use Rattle.std.specs.Prelude.{◌≡◌, ◌+◌, ◌≤◌, true, false, length, IsNone, IfSome};
+ghost use Rattle.std.specs.Prelude.{◌≡◌, ◌+◌, ◌∷◌, ◌/◌, ◌%◌, ◌≤◌, true, false, length, replicate, IsNone, IfSome};
 ghost use Rattle.flash_plan.specs.declared.outcome.Entry.{Entry as AnEntry};
 ghost use Rattle.journal_model.specs.Records.{body_of, stands_at};
-ghost use Rattle.journal_steps.specs.Tables.{place_of};
+ghost use Rattle.journal_steps.specs.Tables.{is_plain, place_of};
 
 use flash_plan::Entry;
 
-/// The 16 bytes of an entry.
-pub fn spelling(entry: Entry) -> [u8; 16]
-    ensures { result ≡ body_of entry }
+// A body of this kind.
+fn body(kind: u8, unit: u16, segment: u16) -> [u8; 16]
+    ensures { result ≡ kind ∷ 0 ∷ unit / 256 ∷ unit % 256 ∷ segment / 256 ∷ segment % 256 ∷ replicate 10 0 }
 {
-    let (kind, unit) = match entry {
-        Entry::Begun(unit) => (1, unit),
-        Entry::Complete(unit) => (2, unit),
-    };
     [
         kind,
         0,
         (unit / 256) as u8,
         (unit % 256) as u8,
-        0,
-        0,
+        (segment / 256) as u8,
+        (segment % 256) as u8,
         0,
         0,
         0,
@@ -33,12 +29,24 @@ pub fn spelling(entry: Entry) -> [u8; 16]
     ]
 }
 
-/// Where an entry stands in the table of all entries of a plan.
+/// The 16 bytes of an entry.
+pub fn spelling(entry: Entry) -> [u8; 16]
+    ensures { result ≡ body_of entry }
+{
+    match entry {
+        Entry::Begun(unit) => body(1, unit, 0),
+        Entry::Marked { unit, segment } => body(3, unit, segment),
+        Entry::Complete(unit) => body(2, unit, 0),
+    }
+}
+
+/// Where an entry stands in the table of all entries of a plan; a mark has no place of its own.
 pub fn place_in_table(entry: Entry) -> usize
     ensures { result ≡ place_of entry }
 {
     match entry {
         Entry::Begun(unit) => 2 * unit as usize,
+        Entry::Marked { unit, .. } => 2 * unit as usize,
         Entry::Complete(unit) => 2 * unit as usize + 1,
     }
 }
@@ -56,11 +64,12 @@ pub fn stands(bytes: &[u8], at: usize, text: &[u8]) -> bool
     true
 }
 
-/// The entry whose 16 bytes stand at the place.
+/// The entry without marks whose 16 bytes stand at the place.
 pub fn entry_at(bytes: &[u8], at: usize) -> Option<Entry>
     requires { at + 16 ≤ length bytes.now }
     ensures some { IfSome result (λ e. stands_at bytes.now at 16 (body_of e) ≡ true) }
-    ensures none { IsNone result → (e : AnEntry) → stands_at bytes.now at 16 (body_of e) ≡ false }
+    ensures plain { IfSome result (λ e. is_plain e ≡ true) }
+    ensures none { IsNone result → (e : AnEntry) → is_plain e ≡ true → stands_at bytes.now at 16 (body_of e) ≡ false }
 {
     let unit = 256 * bytes[at + 2] as u16 + bytes[at + 3] as u16;
     let entry = if bytes[at] == 1 {

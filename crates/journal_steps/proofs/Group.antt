@@ -4,7 +4,7 @@ use Rattle.std.specs.Prelude.{◌==◌, Bool, ◌&&◌, ◌||◌, nat_le, slice_
 use Rattle.std.proofs.lemmas.Bool.{cases_Bool, cases_eq, leb-true, both_ways, ne_eqb}
 use Rattle.std.proofs.lemmas.List.{get_or-set_same, get_or-set_other}
 use Rattle.flash_plan.specs.declared.outcome.Entry.{Entry}
-use Rattle.flash_plan.specs.declared.outcome.Entry.TheVariants.{Begun, Complete}
+use Rattle.flash_plan.specs.declared.outcome.Entry.TheVariants.{Begun, Marked, Complete}
 use Rattle.flash_base.specs.Numbers.{some_below}
 use Rattle.journal_model.specs.Records.{Label, slots_of, unit_of, is_open, body_of}
 use Rattle.journal_steps.specs.Append.{Records, and_entry, is_entry, IsPrepared}
@@ -52,12 +52,13 @@ or_false x y e1 e2 = rw (e1, e2) refl
 or_left : (x y : Bool) → x ≡ true → (x || y) ≡ true
 or_left x y e = rw e refl
 
-and_right : (x y : Bool) → y ≡ false → (x && y) ≡ false
+pub and_right : (x y : Bool) → y ≡ false → (x && y) ≡ false
 and_right true y is = is
 and_right false y is = refl
 
 prepared_more : (R Q : Entry → Bool) (e : Entry) → ((x : Entry) → R x ≡ true → Q x ≡ true) → IsPrepared R e → IsPrepared Q e
 prepared_more R Q (Begun u) more is = tt
+prepared_more R Q (Marked u s) more is = absurd is
 prepared_more R Q (Complete u) more is = more (Begun u) is
 
 -- all slots agree

@@ -1,14 +1,14 @@
 -- A list of entries beside their table.
-use Rattle.std.proofs.Common.{◌≡◌, inl, inr, ℕ, ◌<◌, Bool, true, false, List, [], ◌∷◌, ◌++◌, length, get_or, set, refl, sym, ◌∙◌, ap, subst}
+use Rattle.std.proofs.Common.{◌≡◌, ℕ, ◌<◌, Bool, true, false, List, [], ◌∷◌, ◌++◌, length, get_or, set, refl, sym, ◌∙◌, ap, subst}
 use Rattle.std.specs.Prelude.{◌||◌, replicate}
 use Rattle.std.proofs.lemmas.Bool.{both_ways}
 use Rattle.flash_plan.specs.declared.outcome.Entry.{Entry}
 use Rattle.flash_plan.specs.Outcomes.{same_entry}
 use Rattle.journal_steps.specs.Read.{is_among, AreOnce, AreListed}
-use Rattle.journal_steps.specs.Tables.{place_of}
+use Rattle.journal_steps.specs.Tables.{is_plain, place_of, is_found}
 use Rattle.journal_steps.proofs.One.{entry_same, same_sym}
-use Rattle.journal_steps.proofs.Reading.{none_of}
-use Rattle.journal_steps.proofs.Tables.{table_more}
+use Rattle.journal_steps.proofs.Reading.{none_found}
+use Rattle.journal_steps.proofs.Tables.{table_more, found_at}
 
 or_false : (b : Bool) → (b || false) ≡ b
 or_false true = refl
@@ -37,13 +37,13 @@ once_push (y ∷ ys) x once new =
 
 pub list_start : (n : ℕ) (found : List Bool) (entries : List Entry) → found ≡ replicate n false → entries ≡ [] → AreListed found entries
 list_start n found entries f none = subst (λ (es : List Entry). AreListed found es) (sym none) (record {
-  listed = λ e. sym (ap (λ (xs : List Bool). get_or xs (place_of e) false) f ∙ none_of n (place_of e));
+  listed = λ e. sym (ap (λ (xs : List Bool). is_found xs e) f ∙ none_found n e);
   once = tt;
 })
 
-pub list_note : (found : List Bool) (entries : List Entry) (e : Entry) (place : ℕ) → AreListed found entries → place ≡ place_of e → place < length found → get_or found place false ≡ false
+pub list_note : (found : List Bool) (entries : List Entry) (e : Entry) (place : ℕ) → is_plain e ≡ true → AreListed found entries → place ≡ place_of e → place < length found → get_or found place false ≡ false
     → AreListed (set found place true) (entries ++ e ∷ [])
-list_note found entries e place so_far is lt lacks = subst (λ (p : ℕ). AreListed (set found p true) (entries ++ e ∷ [])) (sym is) (record {
-  listed = λ x. among_push entries e x ∙ (λ i. so_far.listed x i || sym (entry_same e x) i) ∙ sym (table_more found e x (subst (λ (p : ℕ). p < length found) is lt));
-  once = once_push entries e so_far.once (so_far.listed e ∙ ap (λ (p : ℕ). get_or found p false) (sym is) ∙ lacks);
+list_note found entries e place plain so_far is lt lacks = subst (λ (p : ℕ). AreListed (set found p true) (entries ++ e ∷ [])) (sym is) (record {
+  listed = λ x. among_push entries e x ∙ (λ i. so_far.listed x i || sym (entry_same e x) i) ∙ sym (table_more found e x plain (subst (λ (p : ℕ). p < length found) is lt));
+  once = once_push entries e so_far.once (so_far.listed e ∙ found_at found e plain ∙ ap (λ (p : ℕ). get_or found p false) (sym is) ∙ lacks);
 })

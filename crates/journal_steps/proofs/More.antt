@@ -3,13 +3,15 @@ use Rattle.std.proofs.Common.{◌≡◌, inl, inr, ℕ, zero, suc, ◌+◌, ◌*
 use Rattle.std.specs.Prelude.{◌==◌, Bool, not, ◌&&◌, ◌||◌, nat_le}
 use Rattle.std.proofs.lemmas.Bool.{cases_Bool, cases_eq, and_parts, and_from, and_left, both_ways, eq-eqb, eqb-true}
 use Rattle.flash_plan.specs.declared.outcome.Entry.{Entry}
-use Rattle.flash_plan.specs.declared.outcome.Entry.TheVariants.{Begun, Complete}
+use Rattle.flash_plan.specs.declared.outcome.Entry.TheVariants.{Begun, Marked, Complete}
 use Rattle.flash_base.specs.Numbers.{each_below, some_below}
 use Rattle.journal_model.specs.Records.{Label, slots_of, is_open, spells, has, is_formed, is_distinct, is_ordered, body_of, unit_of, stands_at, number4, is_headed, says_digest, is_standing}
 use Rattle.journal_steps.proofs.Slots.{below_at, below_from, below_same}
 use Rattle.journal_steps.specs.Append.{Records, and_entry, IsPrepared, is_entry}
 use Rattle.journal_steps.proofs.Same.{Agrees, some_same, some_at, spells_same, slot_same, formed_same, apart_same, headed_same, digest_same, count_same}
 use Rattle.journal_steps.specs.Read.{twice, one_formed, one_apart, one_distinct}
+use Rattle.journal_steps.specs.Tables.{is_plain}
+use Rattle.journal_steps.proofs.Tables.{plain_of}
 
 or_one : (s b : Bool) → (s || b) ≡ ((s || false) || b)
 or_one true b = refl
@@ -58,16 +60,19 @@ same_unit u v same =
 
 ordered_step : (R : Entry → Bool) (e0 : Entry) → IsPrepared R e0 → (v : ℕ) → (not (R (Complete v)) || R (Begun v)) ≡ true → (not (R (Complete v) || is_entry e0 (Complete v)) || (R (Begun v) || is_entry e0 (Begun v))) ≡ true
 ordered_step R (Begun u) prepared v was = ordered_more (R (Complete v)) (R (Begun v)) (is_entry (Begun u) (Complete v)) (is_entry (Begun u) (Begun v)) was (λ same. absurd (not_kind u v same))
+ordered_step R (Marked u s) prepared v was = absurd prepared
 ordered_step R (Complete u) prepared v was = ordered_more (R (Complete v)) (R (Begun v)) (is_entry (Complete u) (Complete v)) (is_entry (Complete u) (Begun v)) was (λ same. (λ i. R (Begun (sym (same_unit u v same) i))) ∙ prepared)
 
 prepared_same : (R Q : Entry → Bool) (e0 : Entry) → ((x : Entry) → Q x ≡ R x) → IsPrepared R e0 → IsPrepared Q e0
 prepared_same R Q (Begun u) same is = tt
+prepared_same R Q (Marked u s) same is = absurd is
 prepared_same R Q (Complete u) same is = same (Begun u) ∙ is
 
 -- a body that spells an entry names its unit
-pub named_there : (units n : ℕ) (image : List ℕ) (k : ℕ) (e0 : Entry) → unit_of e0 < units → spells image n k e0 ≡ true → some_below units (λ v. spells image n k (Begun v) || spells image n k (Complete v)) ≡ true
-named_there units n image k (Begun u) lt is = some_at units (λ v. spells image n k (Begun v) || spells image n k (Complete v)) u lt (rw is refl)
-named_there units n image k (Complete u) lt is = some_at units (λ v. spells image n k (Begun v) || spells image n k (Complete v)) u lt (or_right _ _ is)
+pub named_there : (units n : ℕ) (image : List ℕ) (k : ℕ) (e0 : Entry) → is_plain e0 ≡ true → unit_of e0 < units → spells image n k e0 ≡ true → some_below units (λ v. spells image n k (Begun v) || spells image n k (Complete v)) ≡ true
+named_there units n image k (Begun u) plain lt is = some_at units (λ v. spells image n k (Begun v) || spells image n k (Complete v)) u lt (rw is refl)
+named_there units n image k (Marked u s) plain lt is = absurd (both_ways false refl plain)
+named_there units n image k (Complete u) plain lt is = some_at units (λ v. spells image n k (Begun v) || spells image n k (Complete v)) u lt (or_right _ _ is)
   where
     or_right : (x y : Bool) → y ≡ true → (x || y) ≡ true
     or_right true y e = refl
@@ -95,7 +100,7 @@ module _ (P : Label) (base image : List ℕ) (k : ℕ) (e0 : Entry) (n : ℕ) (l
   ])
     where
       there : some_below P.units (λ v. spells image n k (Begun v) || spells image n k (Complete v)) ≡ true
-      there = named_there P.units n image k e0 named spelt_itself
+      there = named_there P.units n image k e0 (plain_of (has base n) e0 prepared) named spelt_itself
 
       here : one_formed image n P.units k ≡ true
       here = rw (opened, there) refl

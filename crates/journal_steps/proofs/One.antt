@@ -1,19 +1,40 @@
 -- One entry, as a run of one slot.
-use Rattle.std.proofs.Common.{◌≡◌, ◌⊎◌, inl, inr, ℕ, ◌+◌, ◌*◌, ◌<◌, true, false, List, [], ◌∷◌, length, slice_index, refl, sym, ◌∙◌, ap, subst, arith}
+use Rattle.std.proofs.Common.{◌≡◌, ◌⊎◌, inl, inr, ℕ, ◌+◌, ◌*◌, ◌<◌, true, false, List, [], ◌∷◌, length, slice_index, refl, sym, ◌∙◌, ap, subst, arith, lit<, ◌/◌, ◌%◌}
 use Rattle.std.specs.Prelude.{Bool, ◌==◌, ◌&&◌, ◌||◌}
-use Rattle.std.proofs.lemmas.Bool.{cases_Bool, cases_eq, eq-eqb, ne_eqb}
+use Rattle.std.proofs.lemmas.Bool.{cases_Bool, cases_eq, and_from, and_left, eq-eqb, eqb-true, ne_eqb}
 use Rattle.disk_model.specs.Disk.{DiskState, IsSettled}
 use Rattle.flash_plan.specs.declared.outcome.Entry.{Entry}
-use Rattle.flash_plan.specs.declared.outcome.Entry.TheVariants.{Begun, Complete}
+use Rattle.flash_plan.specs.declared.outcome.Entry.TheVariants.{Begun, Marked, Complete}
 use Rattle.flash_plan.specs.Outcomes.{same_entry}
 use Rattle.journal_model.specs.Records.{Label, slots_of, unit_of, body_of, is_open}
 use Rattle.journal_steps.specs.Append.{Records, IsPrepared, is_entry, with_entry, and_some, HasSome, AddsSome, AddsAtMost, CanAppendGroup, HasAddedGroup}
-use Rattle.journal_steps.proofs.Group.{retold, or_none}
+use Rattle.journal_steps.proofs.Group.{retold, or_none, and_right}
+use Rattle.journal_steps.proofs.Slots.{below_at}
 use Rattle.journal_steps.proofs.Settled.{body_size}
 use Rattle.journal_steps.proofs.Tables.{is_itself, one_place}
 
 not_entry : (e x : Entry) → (is_entry e x ≡ true → ⊥) → is_entry e x ≡ false
 not_entry e x none = elim (cases_Bool (is_entry e x)) [ inl is ↦ absurd (none is) | inr isnt ↦ isnt ]
+
+-- two entries of different kinds
+other_kind : (e x : Entry) → (slice_index (body_of e) 0 ≡ slice_index (body_of x) 0 → ⊥) → is_entry e x ≡ false
+other_kind e x other = not_entry e x (λ is. other (eqb-true _ _ (below_at 16 (λ j. slice_index (body_of e) j == slice_index (body_of x) j) is 0 (lit< tt))))
+
+-- two marks
+mark_same : (u s v t : ℕ) → is_entry (Marked u s) (Marked v t) ≡ (u == v && s == t)
+mark_same u s v t = elim (cases_eq u v) [
+  | inr other ↦ not_entry (Marked u s) (Marked v t) (λ is. other (halves (byte is 2 (lit< tt)) (byte is 3 (lit< tt)))) ∙ sym (and_left _ _ (ne_eqb u v other))
+  | inl one ↦ elim (cases_eq s t) [
+    | inl two ↦ (λ i. is_entry (Marked u s) (Marked (sym one i) (sym two i))) ∙ is_itself (Marked u s) ∙ sym (and_from _ _ (eq-eqb u v one) (eq-eqb s t two))
+    | inr other ↦ not_entry (Marked u s) (Marked v t) (λ is. other (halves (byte is 4 (lit< tt)) (byte is 5 (lit< tt)))) ∙ sym (and_right _ _ (ne_eqb s t other))
+  ]
+]
+  where
+    byte : is_entry (Marked u s) (Marked v t) ≡ true → (j : ℕ) → j < 16 → slice_index (body_of (Marked u s)) j ≡ slice_index (body_of (Marked v t)) j
+    byte is j lt = eqb-true _ _ (below_at 16 (λ j. slice_index (body_of (Marked u s)) j == slice_index (body_of (Marked v t)) j) is j lt)
+
+    halves : {a b : ℕ} → a / 256 ≡ b / 256 → a % 256 ≡ b % 256 → a ≡ b
+    halves high low = omega (arith, high, low)
 
 -- entries of one spelling are the same
 pub entry_same : (e x : Entry) → is_entry e x ≡ same_entry e x
@@ -22,6 +43,11 @@ entry_same (Begun u) (Begun v) = elim (cases_eq u v) [
   | inr other ↦ not_entry (Begun u) (Begun v) (λ is. let at : 2 * u ≡ 2 * v = one_place (Begun u) (Begun v) is in other (omega (arith, at))) ∙ sym (ne_eqb u v other)
 ]
 entry_same (Begun u) (Complete v) = not_entry (Begun u) (Complete v) (λ is. let at : 2 * u ≡ 2 * v + 1 = one_place (Begun u) (Complete v) is in omega (arith, at))
+entry_same (Begun u) (Marked v s) = other_kind (Begun u) (Marked v s) (λ is. omega (arith, is))
+entry_same (Complete u) (Marked v s) = other_kind (Complete u) (Marked v s) (λ is. omega (arith, is))
+entry_same (Marked u s) (Begun v) = other_kind (Marked u s) (Begun v) (λ is. omega (arith, is))
+entry_same (Marked u s) (Complete v) = other_kind (Marked u s) (Complete v) (λ is. omega (arith, is))
+entry_same (Marked u s) (Marked v t) = mark_same u s v t
 entry_same (Complete u) (Begun v) = not_entry (Complete u) (Begun v) (λ is. let at : 2 * u + 1 ≡ 2 * v = one_place (Complete u) (Begun v) is in omega (arith, at))
 entry_same (Complete u) (Complete v) = elim (cases_eq u v) [
   | inl same ↦ subst (λ (w : ℕ). is_entry (Complete u) (Complete w) ≡ true) same (is_itself (Complete u)) ∙ sym (eq-eqb u v same)
@@ -37,6 +63,11 @@ eqb_sym a b = elim (cases_eq a b) [
 pub same_sym : (e x : Entry) → same_entry e x ≡ same_entry x e
 same_sym (Begun a) (Begun b) = eqb_sym a b
 same_sym (Begun a) (Complete b) = refl
+same_sym (Begun a) (Marked b t) = refl
+same_sym (Complete a) (Marked b t) = refl
+same_sym (Marked a s) (Begun b) = refl
+same_sym (Marked a s) (Complete b) = refl
+same_sym (Marked a s) (Marked b t) = λ i. eqb_sym a b i && eqb_sym s t i
 same_sym (Complete a) (Begun b) = refl
 same_sym (Complete a) (Complete b) = eqb_sym a b
 

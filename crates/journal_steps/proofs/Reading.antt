@@ -4,17 +4,17 @@ use Rattle.std.specs.Prelude.{◌==◌, Bool, not, ◌&&◌, ◌||◌, slice_ind
 use Rattle.std.proofs.lemmas.Bool.{cases_Bool, cases_eq, cases_lt, or_cases, and_parts, and_from, and_left, both_ways, eq-eqb, eqb-true}
 use Rattle.std.proofs.lemmas.List.{get_or-replicate, get_or_past, get_or-set_same, get_or-set_other, length-replicate}
 use Rattle.flash_plan.specs.declared.outcome.Entry.{Entry}
-use Rattle.flash_plan.specs.declared.outcome.Entry.TheVariants.{Begun, Complete}
+use Rattle.flash_plan.specs.declared.outcome.Entry.TheVariants.{Begun, Marked, Complete}
 use Rattle.flash_base.specs.Numbers.{each_below, some_below}
 use Rattle.journal_model.specs.Records.{is_open, spells, has, unit_of, body_of, is_formed, is_distinct, is_ordered}
 use Rattle.journal_steps.specs.Append.{is_entry}
-use Rattle.journal_steps.specs.Tables.{count_true, place_of}
+use Rattle.journal_steps.specs.Tables.{count_true, is_plain, place_of, is_found}
 use Rattle.journal_steps.specs.Read.{IsRead, IsReadUpTo, has_upto, table_ordered}
 use Rattle.journal_steps.proofs.Slots.{below_at, below_from, below_same, none_below}
 use Rattle.journal_steps.proofs.Same.{some_at}
 use Rattle.journal_steps.specs.Read.{twice, one_formed, one_apart, one_distinct}
 use Rattle.journal_steps.proofs.More.{named_there}
-use Rattle.journal_steps.proofs.Tables.{table_more, count_set, one_place, from_place}
+use Rattle.journal_steps.proofs.Tables.{table_more, count_set, found_at, one_place, from_place}
 
 pub not_below : (n : ℕ) (p : ℕ → Bool) (k : ℕ) → k < n → p k ≡ false → each_below n p ≡ false
 not_below n p k lt is = elim (cases_Bool (each_below n p)) [
@@ -40,6 +40,11 @@ none_of n i = elim (cases_lt i n) [
   | inr more ↦ get_or_past (replicate n false) i false (omega (arith, more, length-replicate n false))
 ]
 
+pub none_found : (n : ℕ) (e : Entry) → is_found (replicate n false) e ≡ false
+none_found n (Begun u) = none_of n (2 * u)
+none_found n (Marked u s) = refl
+none_found n (Complete u) = none_of n (2 * u + 1)
+
 pub read_start : (bytes : List ℕ) (n units : ℕ) (gates found : List Bool) → gates ≡ replicate n false → found ≡ replicate n false → IsReadUpTo bytes n units 0 gates found
 read_start bytes n units gates found g f = record {
   gates_size = ap length g ∙ length-replicate n false;
@@ -47,7 +52,7 @@ read_start bytes n units gates found g f = record {
   balance = ap count_true (g ∙ sym f);
   opened = λ j lt. absurd (omega (arith, lt));
   shut = λ j ge. ap (λ (xs : List Bool). get_or xs j false) g ∙ none_of n j;
-  entry = λ e. ap (λ (xs : List Bool). get_or xs (place_of e) false) f ∙ none_of n (place_of e);
+  entry = λ e. ap (λ (xs : List Bool). is_found xs e) f ∙ none_found n e;
   formed = refl;
   distinct = refl;
 }
@@ -100,10 +105,10 @@ or_last false y e = e
 not_of : (b : Bool) → b ≡ false → not b ≡ true
 not_of b is = rw is refl
 
-pub read_note : (bytes : List ℕ) (n units k m : ℕ) (gates found : List Bool) (e : Entry) (place : ℕ) → IsReadUpTo bytes n units k gates found → m ≡ suc k → k < n
+pub read_note : (bytes : List ℕ) (n units k m : ℕ) (gates found : List Bool) (e : Entry) (place : ℕ) → is_plain e ≡ true → IsReadUpTo bytes n units k gates found → m ≡ suc k → k < n
     → is_open bytes k ≡ true → spells bytes n k e ≡ true → unit_of e < units → place ≡ place_of e → place < n → get_or found place false ≡ false
     → IsReadUpTo bytes n units m (set gates k true) (set found place true)
-read_note bytes n units k m gates found e place so_far is lt opened spelt named place_is place_lt lacks0 =
+read_note bytes n units k m gates found e place plain so_far is lt opened spelt named place_is place_lt lacks0 =
     subst (λ (i : ℕ). IsReadUpTo bytes n units i (set gates k true) (set found place true)) (sym is) (subst (λ (i : ℕ). IsReadUpTo bytes n units (suc k) (set gates k true) (set found i true)) (sym place_is) (record {
       gates_size = length-set gates k true ∙ so_far.gates_size;
       found_size = length-set found (place_of e) true ∙ so_far.found_size;
@@ -113,8 +118,8 @@ read_note bytes n units k m gates found e place so_far is lt opened spelt named 
         | inr same ↦ ap (λ (i : ℕ). get_or (set gates k true) i false) same ∙ get_or-set_same gates k true false (omega (arith, lt, so_far.gates_size)) ∙ sym opened ∙ ap (λ (i : ℕ). is_open bytes i) (sym same)
       ];
       shut = λ j ge. get_or-set_other gates k j true false (λ same. omega (arith, same, ge)) ∙ so_far.shut j (omega (arith, ge));
-      entry = λ x. table_more found e x (omega (arith, place_is, place_lt, so_far.found_size)) ∙ (λ i. so_far.entry x i || sym (here x) i);
-      formed = and_from _ _ so_far.formed (or_last (not (is_open bytes k)) _ (named_there units n bytes k e named spelt));
+      entry = λ x. table_more found e x plain (omega (arith, place_is, place_lt, so_far.found_size)) ∙ (λ i. so_far.entry x i || sym (here x) i);
+      formed = and_from _ _ so_far.formed (or_last (not (is_open bytes k)) _ (named_there units n bytes k e plain named spelt));
       distinct = and_from _ _ so_far.distinct (or_last (not (is_open bytes k)) _ (below_from k (one_apart bytes n k) apart));
     }))
   where
@@ -129,7 +134,7 @@ read_note bytes n units k m gates found e place so_far is lt opened spelt named 
       | inr closed ↦ one_shut (is_open bytes l) _ closed
       | inl is_l ↦ or_last (not (is_open bytes l)) _ (not_of (twice bytes n k l) (elim (cases_Bool (twice bytes n k l)) [
         | inr differs ↦ differs
-        | inl same ↦ absurd (both_ways _ (sym (so_far.entry e) ∙ lacks) (some_at k (λ j. is_open bytes j && spells bytes n j e) l llt (and_from _ _ is_l (twice_spells bytes n k l e spelt same))))
+        | inl same ↦ absurd (both_ways _ (sym (so_far.entry e) ∙ found_at found e plain ∙ lacks) (some_at k (λ j. is_open bytes j && spells bytes n j e) l llt (and_from _ _ is_l (twice_spells bytes n k l e spelt same))))
       ]))
     ]
 
@@ -139,23 +144,23 @@ one_bad b c is isnt = rw (is, isnt) refl
 or_false : (x y : Bool) → x ≡ false → y ≡ false → (x || y) ≡ false
 or_false x y e1 e2 = rw (e1, e2) refl
 
-pub bad_form : (bytes : List ℕ) (n units k : ℕ) → k < n → is_open bytes k ≡ true → ((e : Entry) → spells bytes n k e ≡ false) → is_formed bytes n units ≡ false
+pub bad_form : (bytes : List ℕ) (n units k : ℕ) → k < n → is_open bytes k ≡ true → ((e : Entry) → is_plain e ≡ true → spells bytes n k e ≡ false) → is_formed bytes n units ≡ false
 bad_form bytes n units k lt opened none = not_below n (one_formed bytes n units) k lt (one_bad (is_open bytes k) _ opened
-    (none_below units (λ u. spells bytes n k (Begun u) || spells bytes n k (Complete u)) (λ u ult. or_false _ _ (none (Begun u)) (none (Complete u)))))
+    (none_below units (λ u. spells bytes n k (Begun u) || spells bytes n k (Complete u)) (λ u ult. or_false _ _ (none (Begun u) refl) (none (Complete u) refl))))
 
-pub bad_unit : (bytes : List ℕ) (n units k : ℕ) (e : Entry) → k < n → is_open bytes k ≡ true → spells bytes n k e ≡ true → units ≤ unit_of e → is_formed bytes n units ≡ false
-bad_unit bytes n units k e lt opened spelt far = not_below n (one_formed bytes n units) k lt (one_bad (is_open bytes k) _ opened
-    (none_below units (λ u. spells bytes n k (Begun u) || spells bytes n k (Complete u)) (λ u ult. or_false _ _ (other (Begun u) ult) (other (Complete u) ult))))
+pub bad_unit : (bytes : List ℕ) (n units k : ℕ) (e : Entry) → is_plain e ≡ true → k < n → is_open bytes k ≡ true → spells bytes n k e ≡ true → units ≤ unit_of e → is_formed bytes n units ≡ false
+bad_unit bytes n units k e plain lt opened spelt far = not_below n (one_formed bytes n units) k lt (one_bad (is_open bytes k) _ opened
+    (none_below units (λ u. spells bytes n k (Begun u) || spells bytes n k (Complete u)) (λ u ult. or_false _ _ (other (Begun u) refl ult) (other (Complete u) refl ult))))
   where
-    other : (x : Entry) → unit_of x < units → spells bytes n k x ≡ false
-    other x ult = elim (cases_Bool (spells bytes n k x)) [
+    other : (x : Entry) → is_plain x ≡ true → unit_of x < units → spells bytes n k x ≡ false
+    other x px ult = elim (cases_Bool (spells bytes n k x)) [
       | inr isnt ↦ isnt
-      | inl is_x ↦ absurd (omega (arith, ult, far, ap unit_of (from_place e x (one_place e x (sym (spells_entry bytes n k e spelt x) ∙ is_x)))))
+      | inl is_x ↦ absurd (omega (arith, ult, far, ap unit_of (from_place e x plain px (one_place e x (sym (spells_entry bytes n k e spelt x) ∙ is_x)))))
     ]
 
-pub bad_twice : (bytes : List ℕ) (n units k : ℕ) (gates found : List Bool) (e : Entry) → IsReadUpTo bytes n units k gates found → k < n → is_open bytes k ≡ true → spells bytes n k e ≡ true → get_or found (place_of e) false ≡ true → is_distinct bytes n ≡ false
-bad_twice bytes n units k gates found e so_far lt opened spelt there =
-    let earlier = some_found k (λ j. is_open bytes j && spells bytes n j e) (sym (so_far.entry e) ∙ there) in
+pub bad_twice : (bytes : List ℕ) (n units k : ℕ) (gates found : List Bool) (e : Entry) → is_plain e ≡ true → IsReadUpTo bytes n units k gates found → k < n → is_open bytes k ≡ true → spells bytes n k e ≡ true → get_or found (place_of e) false ≡ true → is_distinct bytes n ≡ false
+bad_twice bytes n units k gates found e plain so_far lt opened spelt there =
+    let earlier = some_found k (λ j. is_open bytes j && spells bytes n j e) (sym (so_far.entry e) ∙ found_at found e plain ∙ there) in
     let parts = and_parts _ _ earlier.holds in
     not_below n (one_distinct bytes n) k lt (one_bad (is_open bytes k) _ opened
     (not_below k (one_apart bytes n k) earlier.at earlier.below (one_bad (is_open bytes earlier.at) _ parts.0 (λ i. not (both_twice bytes n k earlier.at e spelt parts.1 i)))))

@@ -5,13 +5,14 @@ use Rattle.std.proofs.lemmas.Bool.{and_parts, leb-true}
 use Rattle.disk_model.specs.Disk.{DiskState, IsCrashImage, IsSettled}
 use Rattle.journal_steps.proofs.Images.{settled_image, settled_length}
 use Rattle.flash_plan.specs.declared.outcome.Entry.{Entry}
-use Rattle.flash_plan.specs.declared.outcome.Entry.TheVariants.{Begun, Complete}
+use Rattle.flash_plan.specs.declared.outcome.Entry.TheVariants.{Begun, Marked, Complete}
 use Rattle.journal_model.specs.Records.{Label, slots_of, is_journal, body_of}
 use Rattle.journal_steps.specs.Append.{Records}
 use Rattle.journal_steps.proofs.Same.{Agrees, journal_same, has_same}
 
 pub body_size : (e : Entry) → length (body_of e) ≡ 16
 body_size (Begun u) = refl
+body_size (Marked u s) = refl
 body_size (Complete u) = refl
 
 -- what a read gives is an image of a settled disk

@@ -2,7 +2,7 @@
 use Rattle.std.specs.Prelude.{◌≡◌, ◌⊎◌, ℕ, ◌+◌, ◌*◌, ◌<◌, ◌≤◌, Bool, true, false, ◌||◌, ◌&&◌, ◌==◌, List, length, slice_index}
 use Rattle.disk_model.specs.Disk.{DiskState, IsCrashImage, IsSettled}
 use Rattle.flash_plan.specs.declared.outcome.Entry.{Entry}
-use Rattle.flash_plan.specs.declared.outcome.Entry.TheVariants.{Begun, Complete}
+use Rattle.flash_plan.specs.declared.outcome.Entry.TheVariants.{Begun, Marked, Complete}
 use Rattle.flash_plan.specs.Outcomes.{same_entry}
 use Rattle.flash_base.specs.Numbers.{each_below, some_below}
 use Rattle.journal_model.specs.Records.{Label, slots_of, unit_of, body_of, has, is_journal, is_open}
@@ -11,9 +11,10 @@ use Rattle.journal_model.specs.Records.{Label, slots_of, unit_of, body_of, has, 
 abbrev pub is_entry : Entry → Entry → Bool
 is_entry e x = each_below 16 (λ j. slice_index (body_of e) j == slice_index (body_of x) j)
 
--- what an entry needs that stands before it
+-- what an entry needs that stands before it; version 1 of the file has no marks
 abbrev pub IsPrepared : (Entry → Bool) → Entry → Type 0
 IsPrepared R (Begun u) = Unit {0}
+IsPrepared R (Marked u s) = ⊥
 IsPrepared R (Complete u) = R (Begun u) ≡ true
 
 -- the image is a journal of this plan with the entries R

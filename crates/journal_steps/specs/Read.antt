@@ -5,7 +5,7 @@ use Rattle.flash_plan.specs.declared.outcome.Entry.TheVariants.{Begun, Complete}
 use Rattle.flash_plan.specs.Outcomes.{same_entry}
 use Rattle.flash_base.specs.Numbers.{each_below, some_below}
 use Rattle.journal_model.specs.Records.{is_open, spells, has}
-use Rattle.journal_steps.specs.Tables.{count_true, place_of}
+use Rattle.journal_steps.specs.Tables.{count_true, is_found}
 
 -- the tables have the gates and the entries of the bytes
 pub record IsRead (bytes : List ℕ) (n : ℕ) (gates found : List Bool) : Type 0 where
@@ -13,7 +13,7 @@ pub record IsRead (bytes : List ℕ) (n : ℕ) (gates found : List Bool) : Type 
   pub found_size : length found ≡ n
   pub balance : count_true gates ≡ count_true found
   pub gate : (k : ℕ) → k < n → is_open bytes k ≡ get_or gates k false
-  pub entry : (e : Entry) → has bytes n e ≡ get_or found (place_of e) false
+  pub entry : (e : Entry) → has bytes n e ≡ is_found found e
 
 -- no entry is complete that is not begun, by the table
 abbrev pub table_ordered : List Bool → ℕ → Bool
@@ -31,7 +31,7 @@ AreOnce (x ∷ xs) = (is_among xs x ≡ false) × AreOnce xs
 
 -- the list has the entries of the table, each once
 pub record AreListed (found : List Bool) (entries : List Entry) : Type 0 where
-  pub listed : (e : Entry) → is_among entries e ≡ get_or found (place_of e) false
+  pub listed : (e : Entry) → is_among entries e ≡ is_found found e
   pub once : AreOnce entries
 
 -- the beginning of an image, up to m bytes of it
@@ -62,6 +62,6 @@ pub record IsReadUpTo (bytes : List ℕ) (n units k : ℕ) (gates found : List B
   pub balance : count_true gates ≡ count_true found
   pub opened : (j : ℕ) → j < k → get_or gates j false ≡ is_open bytes j
   pub shut : (j : ℕ) → k ≤ j → get_or gates j false ≡ false
-  pub entry : (e : Entry) → get_or found (place_of e) false ≡ has_upto bytes n k e
+  pub entry : (e : Entry) → is_found found e ≡ has_upto bytes n k e
   pub formed : each_below k (one_formed bytes n units) ≡ true
   pub distinct : each_below k (one_distinct bytes n) ≡ true

@@ -11,7 +11,7 @@ use Rattle.flash_journal.specs.declared.looking.OpenFault.TheVariants.{NotJourna
 use Rattle.flash_journal.specs.Seen.{label}
 use Rattle.flash_journal.specs.Opened.{IsOpened}
 use Rattle.flash_journal.proofs.Looks.{refuses_front, refuses_form, refuses_plan, says_other}
-use Rattle.flash_journal.proofs.Opens.{front_is, kept_told, opened_read, answer_made, want_other, on_refusal, same_then, same_follows, start_follows}
+use Rattle.flash_journal.proofs.Opens.{front_is, kept_told, opened_read, answer_made, want_other, on_refusal, same_then, same_follows, start_follows, empty_ordered, tables_ordered}
 use Rattle.flash_journal.proofs.opening.open_synced.Goals as goal
 
 pub returns-in-Ok-Fresh-clause-answer : goal.returns-in-Ok-Fresh-clause-answer
@@ -74,3 +74,11 @@ returns-in-Ok-Fresh-clause-untouched g c =
     let history = g.S.Shop.history in
     on_refusal (SameDisk (history c.read_front.new.shop) (history c.make_journal.new.shop)) (SameDisk (history c.args.shop.now) (history c.make_journal.new.shop)) c.make_journal.result
     (λ second. same_then (history c.args.shop.now) (history c.read_front.new.shop) (history c.make_journal.new.shop) c.read_front.ensures.same second) c.make_journal.ensures.untouched
+
+pub returns-in-Ok-Fresh-clause-ordered : goal.returns-in-Ok-Fresh-clause-ordered
+returns-in-Ok-Fresh-clause-ordered g c = empty_ordered c.make_journal.result c.make_journal.ensures.none
+
+pub returns-in-Ok-Journal-clause-ordered : goal.returns-in-Ok-Journal-clause-ordered
+returns-in-Ok-Journal-clause-ordered g c =
+    let seen = rw c.in-Ok-Journal.field-0-is at c.in-Ok-Journal.ensures in
+    tables_ordered (label c.args.digest.now c.args.units) c.deref.result.now c.with_tables.result c.in-Ok-Journal.tables.gates.items c.in-Ok-Journal.tables.found.items seen.0 seen.1.read c.with_tables.ensures.found

@@ -3,7 +3,7 @@ use Rattle.shop_model.specs.History.{disk_now}
 use Rattle.journal_steps.specs.Later.{MadeCalls, append_calls}
 use Rattle.journal_steps.specs.Tables.{count_true, place_of}
 use Rattle.flash_journal.specs.Kept.{journal_label, has_entry}
-use Rattle.journal_steps.proofs.Tables.{count_lacks, count_set, place_below}
+use Rattle.journal_steps.proofs.Tables.{count_lacks, count_set, found_at, place_below, plain_of}
 use Rattle.journal_steps.proofs.One.{only}
 use Rattle.flash_journal.proofs.Appends.{can_append, long_enough, kept_more, adds_one}
 use Rattle.flash_journal.proofs.journal.Journal.append.Goals as goal
@@ -11,7 +11,7 @@ use Rattle.flash_journal.proofs.journal.Journal.append.Goals as goal
 pub lowest_closed-slot-requires : goal.lowest_closed-slot-requires
 lowest_closed-slot-requires g c =
     let j = c.args.self.now in
-    let lacks : count_true j.found.items < length j.found.items = count_lacks j.found.items (place_of c.args.entry) (omega (arith, j.entries, place_below c.args.entry j.units c.requires.entry.named)) c.requires.entry.fresh in
+    let lacks : count_true j.found.items < length j.found.items = count_lacks j.found.items (place_of c.args.entry) (omega (arith, j.entries, place_below c.args.entry j.units c.requires.entry.named)) (sym (found_at j.found.items c.args.entry (plain_of (has_entry j) c.args.entry c.requires.entry.prepared)) ∙ c.requires.entry.fresh) in
     subst (λ (xs : List Bool). count_true xs < length xs) (sym c.deref.ensures.value) (omega (arith, lacks, j.slots, j.entries, j.balance))
 
 pub append_run-requires-clause-long : goal.append_run-requires-clause-long
@@ -22,7 +22,7 @@ invariant_of-self g c =
     let j = c.args.self.now in
     let lt : c.lowest_closed-slot.result < length j.gates.items = subst (λ (xs : List Bool). c.lowest_closed-slot.result < length xs) c.deref.ensures.value c.lowest_closed-slot.ensures.below in
     let closed : get_or j.gates.items c.lowest_closed-slot.result false ≡ false = subst (λ (xs : List Bool). get_or xs c.lowest_closed-slot.result false ≡ false) c.deref.ensures.value c.lowest_closed-slot.ensures.closed in
-    let fresh : get_or j.found.items c.place_in_table-place.result false ≡ false = subst (λ (k : ℕ). get_or j.found.items k false ≡ false) (sym c.place_in_table-place.ensures) c.requires.entry.fresh in
+    let fresh : get_or j.found.items c.place_in_table-place.result false ≡ false = subst (λ (k : ℕ). get_or j.found.items k false ≡ false) (sym c.place_in_table-place.ensures) (sym (found_at j.found.items c.args.entry (plain_of (has_entry j) c.args.entry c.requires.entry.prepared)) ∙ c.requires.entry.fresh) in
     let below : c.place_in_table-place.result < length j.found.items = omega (arith, j.entries, c.place_in_table-place.ensures, place_below c.args.entry j.units c.requires.entry.named) in
     record {
       slots = length-set j.gates.items c.lowest_closed-slot.result true ∙ j.slots;
