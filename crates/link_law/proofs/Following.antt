@@ -9,7 +9,7 @@ use Rattle.flash_plan.specs.declared.unit.UnitPlan.{UnitPlan}
 use Rattle.run_model.specs.Link.{Link, Phase, Down, Fresh, Waits, Up, Denied, link_start, is_down, is_fresh, is_waiting, is_up, is_open, drop_link, quiet_link, polled_quiet, unanswered, said_link, take_word, first_word}
 use Rattle.bay_core.proofs.Allowed.{CollectedFacts, collected_facts, sent_facts}
 use Rattle.bay_core.specs.Core.{Core, core_of, core_start, core_after, link_after, tended_link}
-use Rattle.bay_core.specs.Legal.{is_allowed, is_legal, may_tend}
+use Rattle.bay_core.specs.Legal.{is_allowed, is_legal, fits_link}
 use Rattle.bay_core.specs.declared.event.Heard.{Heard}
 use Rattle.bay_core.specs.declared.event.Heard.TheVariants.{Kept, Quiet, Piece, Lost}
 use Rattle.bay_core.specs.declared.event.Tend.{Tend}
@@ -212,7 +212,7 @@ module _ (rules : LinkRules) (P : List UnitPlan) (es : List Event) (l : Link) (s
 
 -- ------ each event
 module _ (rules : LinkRules) (P : List UnitPlan) (es : List Event) (c : Core) (s : Stands rules P es c.link) where
-  tended : (step : Tend) → may_tend c step ≡ true → Stands rules P (es ++ (Tended step ∷ [])) (tended_link rules P step c.link)
+  tended : (step : Tend) → fits_link c step ≡ true → Stands rules P (es ++ (Tended step ∷ [])) (tended_link rules P step c.link)
   tended (Dialed lost) may = dialed rules P es lost c.link (down_is c.link.phase may) s
   tended (Asked lost) may = asked rules P es lost c.link (fresh_is c.link.phase may) s
   tended (Said lost) may = said rules P es c.link s lost (up_is c.link.phase (and_parts _ _ may).0)
