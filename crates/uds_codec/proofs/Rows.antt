@@ -1,7 +1,7 @@
 -- The definitions on known requests and answers.
-use Rattle.std.proofs.Common.{◌≡◌, [], ◌∷◌, Some, None, refl}
+use Rattle.std.proofs.Common.{◌≡◌, true, false, [], ◌∷◌, Some, None, refl}
 use Rattle.flash_base.specs.declared.unit.KeyRule.TheVariants.{Xor}
-use Rattle.uds_codec.specs.declared.request.Request.TheVariants.{Session, Seed, Key, ReadId, Routine, Download, Transfer, Exit, Reset}
+use Rattle.uds_codec.specs.declared.request.Request.TheVariants.{Session, Seed, Key, ReadId, Routine, Download, Upload, Transfer, Pull, Exit, Reset, Setting, Messages}
 use Rattle.uds_codec.specs.Answer.{judge, Later, Again, Refusal, Good, Bad_status, Strange}
 use Rattle.uds_codec.specs.Key.{key_of}
 use Rattle.uds_codec.specs.Request.{spelled, request_of}
@@ -45,6 +45,36 @@ narrow = refl
 narrow_read : request_of (52 ∷ 0 ∷ 35 ∷ 1 ∷ 0 ∷ 0 ∷ 0 ∷ 16 ∷ []) ≡ Some (Download (record { size = 2; at = 3 }) 65536 16)
 narrow_read = refl
 
+-- a size of 3 bytes of 4, at an address of 5
+wide : spelled (Download (record { size = 4; at = 5 }) 4294967296 3) ≡ 52 ∷ 0 ∷ 69 ∷ 1 ∷ 0 ∷ 0 ∷ 0 ∷ 0 ∷ 0 ∷ 0 ∷ 0 ∷ 3 ∷ []
+wide = refl
+
+wide_read : request_of (52 ∷ 0 ∷ 69 ∷ 1 ∷ 0 ∷ 0 ∷ 0 ∷ 0 ∷ 0 ∷ 0 ∷ 0 ∷ 3 ∷ []) ≡ Some (Download (record { size = 4; at = 5 }) 4294967296 3)
+wide_read = refl
+
+-- an upload, and a block that is asked for
+upload : spelled (Upload (record { size = 2; at = 3 }) 65536 16) ≡ 53 ∷ 0 ∷ 35 ∷ 1 ∷ 0 ∷ 0 ∷ 0 ∷ 16 ∷ []
+upload = refl
+
+upload_read : request_of (53 ∷ 0 ∷ 35 ∷ 1 ∷ 0 ∷ 0 ∷ 0 ∷ 16 ∷ []) ≡ Some (Upload (record { size = 2; at = 3 }) 65536 16)
+upload_read = refl
+
+block_asked : request_of (54 ∷ 1 ∷ []) ≡ Some (Pull 1)
+block_asked = refl
+
+-- trouble codes and normal messages, off and on
+codes_off : request_of (133 ∷ 2 ∷ []) ≡ Some (Setting true)
+codes_off = refl
+
+codes_on : spelled (Setting false) ≡ 133 ∷ 1 ∷ []
+codes_on = refl
+
+messages_off : request_of (40 ∷ 3 ∷ 1 ∷ []) ≡ Some (Messages true)
+messages_off = refl
+
+messages_on : spelled (Messages false) ≡ 40 ∷ 0 ∷ 1 ∷ []
+messages_on = refl
+
 cut_off : request_of (52 ∷ 0 ∷ 35 ∷ 1 ∷ 0 ∷ []) ≡ None
 cut_off = refl
 
@@ -85,3 +115,19 @@ not_equal = refl
 
 seed_said : judge (39 ∷ 1 ∷ []) (103 ∷ 1 ∷ 18 ∷ 52 ∷ []) ≡ Good (18 ∷ 52 ∷ [])
 seed_said = refl
+
+-- a block number of an upload; a block; and the settings
+upload_said : judge (53 ∷ 0 ∷ 35 ∷ 1 ∷ 0 ∷ 0 ∷ 0 ∷ 16 ∷ []) (117 ∷ 32 ∷ 15 ∷ 255 ∷ 7 ∷ []) ≡ Good (15 ∷ 255 ∷ [])
+upload_said = refl
+
+block_said : judge (54 ∷ 1 ∷ []) (118 ∷ 1 ∷ 97 ∷ 98 ∷ []) ≡ Good (97 ∷ 98 ∷ [])
+block_said = refl
+
+codes_said : judge (133 ∷ 2 ∷ []) (197 ∷ 2 ∷ []) ≡ Good []
+codes_said = refl
+
+codes_other : judge (133 ∷ 2 ∷ []) (197 ∷ 1 ∷ []) ≡ Strange
+codes_other = refl
+
+messages_said : judge (40 ∷ 3 ∷ 1 ∷ []) (104 ∷ 3 ∷ []) ≡ Good []
+messages_said = refl

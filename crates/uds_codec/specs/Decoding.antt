@@ -2,6 +2,7 @@
 use Rattle.std.specs.Prelude.{ℕ, ◌+◌, ◌-◌, ◌*◌, ◌/◌, ◌%◌, Bool, true, false, ◌&&◌, ◌==◌, not, nat_lt, nat_le, List, [], ◌∷◌, length, take, drop, slice_index, Result, Ok, Err, if◌then◌else◌}
 use Rattle.flash_base.specs.Numbers.{number_of}
 use Rattle.flash_base.specs.declared.unit.Width.{Width}
+use Rattle.uds_codec.specs.declared.read.Area.{Area}
 use Rattle.uds_codec.specs.declared.request.Reply.{Reply}
 use Rattle.uds_codec.specs.declared.request.Reply.TheVariants.{Positive, Negative}
 use Rattle.uds_codec.specs.declared.request.Request.{Request}
@@ -58,26 +59,34 @@ routine_at s =
     else if nat_lt (length s) 4 then Err Short
     else Ok (Routine (two_at s 2) (drop 4 s))
 
-abbrev pub range_at : (Width → ℕ → ℕ → Request) → List ℕ → ℕ → ℕ → Result Request UdsFault
-range_at load s size at =
+abbrev pub range_at : List ℕ → ℕ → ℕ → Result Area UdsFault
+range_at s size at =
     if nat_lt (length s) (3 + at + size) then Err Short
     else if nat_lt (3 + at + size) (length s) then Err (BadForm (3 + at + size))
-    else Ok (load (record { size = size; at = at }) (number_of (take at (drop 3 s))) (number_of (drop (3 + at) s)))
+    else Ok (record { width = record { size = size; at = at }; at = number_of (take at (drop 3 s)); size = number_of (drop (3 + at) s) })
 
-abbrev pub widths_at : (Width → ℕ → ℕ → Request) → List ℕ → ℕ → ℕ → Result Request UdsFault
-widths_at load s size at =
+abbrev pub widths_at : List ℕ → ℕ → ℕ → Result Area UdsFault
+widths_at s size at =
     if nat_lt size 1 then Err (BadForm 2)
     else if nat_lt 4 size then Err (BadForm 2)
     else if nat_lt at 1 then Err (BadForm 2)
     else if nat_lt 5 at then Err (BadForm 2)
-    else range_at load s size at
+    else range_at s size at
 
-abbrev pub load_at : (Width → ℕ → ℕ → Request) → List ℕ → Result Request UdsFault
-load_at load s =
+abbrev pub area_in : List ℕ → Result Area UdsFault
+area_in s =
     if nat_lt (length s) 2 then Err Short
     else if not (slice_index s 1 == 0) then Err (BadForm 1)
     else if nat_lt (length s) 3 then Err Short
-    else widths_at load s (slice_index s 2 / 16) (slice_index s 2 % 16)
+    else widths_at s (slice_index s 2 / 16) (slice_index s 2 % 16)
+
+-- a download or an upload of the area
+abbrev pub loaded : (Width → ℕ → ℕ → Request) → Result Area UdsFault → Result Request UdsFault
+loaded load (Ok area) = Ok (load area.width area.at area.size)
+loaded load (Err fault) = Err fault
+
+abbrev pub load_at : (Width → ℕ → ℕ → Request) → List ℕ → Result Request UdsFault
+load_at load s = loaded load (area_in s)
 
 abbrev pub transfer_at : List ℕ → Result Request UdsFault
 transfer_at s =

@@ -1,4 +1,5 @@
 pub mod Answer
+pub mod Awaited
 pub mod Decoding
 pub mod Form
 pub mod Grammar

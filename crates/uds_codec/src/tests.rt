@@ -2,7 +2,8 @@ ghost use Rattle.std.specs.Prelude.{◌≡◌};
 ghost use Rattle.uds_codec.specs.Form.{HasForm};
 
 use crate::{
-    Reply, Request, UdsFault, decode, decode_reply, encode, get_number, is_listed_code, put_number,
+    Awaited, Reply, Request, UdsFault, Verdict, decode, decode_reply, encode, get_number,
+    is_listed_code, judge, put_number, write,
 };
 use flash_base::{Bytes, Width};
 use std::alloc::Global;
@@ -45,6 +46,18 @@ fn same(a: &Request, b: &Request) -> bool {
             },
         ) => *v == *w && *a == *b && *m == *n,
         (
+            Request::Upload {
+                width: v,
+                at: a,
+                size: m,
+            },
+            Request::Upload {
+                width: w,
+                at: b,
+                size: n,
+            },
+        ) => *v == *w && *a == *b && *m == *n,
+        (
             Request::Transfer {
                 counter: a,
                 body: x,
@@ -54,8 +67,11 @@ fn same(a: &Request, b: &Request) -> bool {
                 body: y,
             },
         ) => *a == *b && x.as_slice() == y.as_slice(),
+        (Request::Pull { counter: a }, Request::Pull { counter: b }) => *a == *b,
         (Request::Exit, Request::Exit) => true,
         (Request::Reset, Request::Reset) => true,
+        (Request::Setting { off: a }, Request::Setting { off: b }) => *a == *b,
+        (Request::Messages { off: a }, Request::Messages { off: b }) => *a == *b,
         _ => false,
     }
 }
@@ -136,6 +152,57 @@ fn requests_of_a_run(rt: HostRuntime) -> Result<(), Fail> {
     Ok(())
 }
 
+/// A block that is read back, and what keeps the vehicle quiet meanwhile: trouble codes and normal messages, off and on.
+#[test]
+fn requests_of_reading_back(rt: HostRuntime) -> Result<(), Fail> {
+    let alloc = rt.alloc();
+    let width = Width { size: 4, at: 4 };
+    is_spelled(
+        &rt,
+        alloc,
+        &Request::Upload {
+            width,
+            at: 0x1000,
+            size: 3,
+        },
+        b"\x35\x00\x44\x00\x00\x10\x00\x00\x00\x00\x03",
+    )?;
+    is_spelled(&rt, alloc, &Request::Pull { counter: 1 }, b"\x36\x01")?;
+    is_spelled(&rt, alloc, &Request::Setting { off: true }, b"\x85\x02")?;
+    is_spelled(&rt, alloc, &Request::Setting { off: false }, b"\x85\x01")?;
+    is_spelled(
+        &rt,
+        alloc,
+        &Request::Messages { off: true },
+        b"\x28\x03\x01",
+    )?;
+    is_spelled(
+        &rt,
+        alloc,
+        &Request::Messages { off: false },
+        b"\x28\x00\x01",
+    )?;
+    Ok(())
+}
+
+/// A routine on a range with a digest behind it, from its parts.
+#[test]
+fn routine_on_a_range(rt: HostRuntime) -> Result<(), Fail> {
+    let alloc = rt.alloc();
+    let width = Width { size: 4, at: 5 };
+    let bytes = write::routine_on(alloc, 0xff00, width, 0x1_0000_0000, 3, &[])?;
+    assert_eq!(rt;
+        bytes.as_slice(),
+        b"\x31\x01\xff\x00\x45\x01\x00\x00\x00\x00\x00\x00\x00\x03".as_slice()
+    );
+    let bytes = write::routine_on(alloc, 0x0202, Width { size: 1, at: 1 }, 7, 9, b"abc")?;
+    assert_eq!(rt;
+        bytes.as_slice(),
+        b"\x31\x01\x02\x02\x11\x07\x09abc".as_slice()
+    );
+    Ok(())
+}
+
 /// The requests of one size each, at their least and greatest numbers.
 #[test]
 fn least_and_greatest_numbers(rt: HostRuntime) -> Result<(), Fail> {
@@ -158,17 +225,28 @@ fn least_and_greatest_numbers(rt: HostRuntime) -> Result<(), Fail> {
         size: 0,
     };
     is_spelled(&rt, alloc, &least, b"\x34\x00\x11\x00\x00")?;
-    let width = Width { size: 4, at: 4 };
+    let width = Width { size: 4, at: 5 };
     let greatest = Request::Download {
         width,
-        at: 0xffff_ffff,
+        at: 0xff_ffff_ffff,
         size: 0xffff_ffff,
     };
     is_spelled(
         &rt,
         alloc,
         &greatest,
-        b"\x34\x00\x44\xff\xff\xff\xff\xff\xff\xff\xff",
+        b"\x34\x00\x45\xff\xff\xff\xff\xff\xff\xff\xff\xff",
+    )?;
+    let high = Request::Download {
+        width,
+        at: 0x1_0000_0000,
+        size: 3,
+    };
+    is_spelled(
+        &rt,
+        alloc,
+        &high,
+        b"\x34\x00\x45\x01\x00\x00\x00\x00\x00\x00\x00\x03",
     )?;
     Ok(())
 }
@@ -216,7 +294,7 @@ fn least_and_greatest_sizes(rt: HostRuntime) -> Result<(), Fail> {
 #[test]
 fn beginnings(rt: HostRuntime) {
     let alloc = rt.alloc();
-    let rows: [(&[u8], usize); 10] = [
+    let rows: [(&[u8], usize); 13] = [
         (b"\x10\x02", 2),
         (b"\x11\x01", 2),
         (b"\x22\xf1\x95", 3),
@@ -225,8 +303,11 @@ fn beginnings(rt: HostRuntime) {
         (b"\x31\x01\xff\x01", 4),
         (b"\x31\x01\xff\x00\x11\x00\x03", 4),
         (b"\x34\x00\x23\x01\x00\x00\x00\x10", 8),
-        (b"\x36\x01abc", 3),
+        (b"\x35\x00\x23\x01\x00\x00\x00\x10", 8),
+        (b"\x36\x01abc", 2),
         (b"\x37", 1),
+        (b"\x85\x02", 2),
+        (b"\x28\x03\x01", 3),
     ];
     for (bytes, least) in rows.iter() {
         begins(&rt, alloc, bytes, *least);
@@ -248,9 +329,9 @@ fn widths(rt: HostRuntime) -> Result<(), Fail> {
         },
         b"\x34\x00\x23\x01\x00\x00\x00\x10",
     )?;
-    let greatest: [u64; 4] = [0xff, 0xffff, 0xff_ffff, 0xffff_ffff];
+    let greatest: [u64; 5] = [0xff, 0xffff, 0xff_ffff, 0xffff_ffff, 0xff_ffff_ffff];
     for size in 1..5u8 {
-        for at in 1..5u8 {
+        for at in 1..6u8 {
             let mut bytes = Vec::new(alloc);
             bytes.extend_from_slice(&[0x34, 0, size * 16 + at])?;
             for _ in 0..size + at {
@@ -279,20 +360,28 @@ fn numbers(rt: HostRuntime) {
     assert_eq!(rt; put_number::<2>(0xabcd), [0xab, 0xcd]);
     assert_eq!(rt; put_number::<3>(0x1_0000), [1, 0, 0]);
     assert_eq!(rt; put_number::<4>(0x0102_0304), [1, 2, 3, 4]);
+    assert_eq!(rt; put_number::<5>(0x01_0203_0405), [1, 2, 3, 4, 5]);
     assert_eq!(rt; get_number::<1>(&[0xff]), 0xff);
     assert_eq!(rt; get_number::<2>(&[1, 0]), 0x100);
     assert_eq!(rt; get_number::<3>(&[1, 2, 3]), 0x1_0203);
     assert_eq!(rt; get_number::<4>(&[0xff, 0xff, 0xff, 0xff]), 0xffff_ffff);
+    assert_eq!(rt; get_number::<5>(&[1, 0, 0, 0, 0]), 0x1_0000_0000);
 }
 
 /// What is refused, and where.
+fn is_refused(rt: &impl Abort, alloc: Global, rows: &[(&[u8], (u8, usize))]) {
+    for (bytes, wanted) in rows.iter() {
+        assert_eq!(rt; outcome(decode(alloc, bytes)), *wanted);
+    }
+}
+
 #[test]
 fn refusals(rt: HostRuntime) {
     let alloc = rt.alloc();
-    let rows: [(&[u8], (u8, usize)); 24] = [
+    let rows: [(&[u8], (u8, usize)); 18] = [
         (b"", (1, 0)),
-        (b"\x34\x00\x23\x01\x00", (1, 0)),
-        (b"\x35", (2, 0x35)),
+        (b"\x3e", (2, 0x3e)),
+        (b"\x7f\x34\x33", (2, 0x7f)),
         (b"\x10\x02\x00", (3, 2)),
         (b"\x10\x00", (3, 1)),
         (b"\x10\x04", (3, 1)),
@@ -306,18 +395,125 @@ fn refusals(rt: HostRuntime) {
         (b"\x27\x020123456789abcdef0123456789abcdefX", (3, 34)),
         (b"\x31\x02\xff\x00", (3, 1)),
         (b"\x31\x01\xff", (1, 0)),
+        (b"\x36", (1, 0)),
+        (b"\x37\x00", (3, 1)),
+    ];
+    is_refused(&rt, alloc, &rows);
+}
+
+#[test]
+fn refused_areas(rt: HostRuntime) {
+    let alloc = rt.alloc();
+    let rows: [(&[u8], (u8, usize)); 10] = [
+        (b"\x34\x00\x23\x01\x00", (1, 0)),
         (b"\x34\x01", (3, 1)),
         (b"\x34\x00\x04\x00\x00\x00\x00", (3, 2)),
-        (b"\x34\x00\x45\x00", (3, 2)),
+        (b"\x34\x00\x45\x00", (1, 0)),
+        (b"\x34\x00\x46\x00", (3, 2)),
         (b"\x34\x00\x50", (3, 2)),
         (b"\x34\x00\x11\x01\x02\x03", (3, 5)),
-        (b"\x36\x01", (1, 0)),
-        (b"\x37\x00", (3, 1)),
-        (b"\x7f\x34\x33", (2, 0x7f)),
+        (b"\x35", (1, 0)),
+        (b"\x35\x00\x54\x00", (3, 2)),
+        (b"\x35\x01", (3, 1)),
     ];
-    for (bytes, wanted) in rows.iter() {
-        assert_eq!(rt; outcome(decode(alloc, bytes)), *wanted);
+    is_refused(&rt, alloc, &rows);
+}
+
+#[test]
+fn refused_settings(rt: HostRuntime) {
+    let alloc = rt.alloc();
+    let rows: [(&[u8], (u8, usize)); 8] = [
+        (b"\x85", (1, 0)),
+        (b"\x85\x00", (3, 1)),
+        (b"\x85\x03", (3, 1)),
+        (b"\x85\x02\x00", (3, 2)),
+        (b"\x28\x03", (1, 0)),
+        (b"\x28\x01\x01", (3, 1)),
+        (b"\x28\x00\x02", (3, 2)),
+        (b"\x28\x00\x01\x00", (3, 3)),
+    ];
+    is_refused(&rt, alloc, &rows);
+}
+
+/// What an answer says: 0 accepted, 1 failed, 2 response pending, 3 busy, 4 negative, 5 malformed; its code or status; its record.
+fn said<'a>(awaited: Awaited, reply: &'a [u8]) -> (u8, u8, &'a [u8]) {
+    match judge(awaited, reply) {
+        Verdict::Accepted { record } => (0, 0, record),
+        Verdict::Failed { status } => (1, status, &[]),
+        Verdict::ResponsePending => (2, 0, &[]),
+        Verdict::BusyRepeatRequest => (3, 0, &[]),
+        Verdict::Negative { code } => (4, code, &[]),
+        Verdict::Malformed => (5, 0, &[]),
     }
+}
+
+type Said = (Awaited, &'static [u8], (u8, u8, &'static [u8]));
+
+fn are_said(rt: &impl Abort, rows: &[Said]) {
+    for (awaited, reply, wanted) in rows.iter() {
+        let (kind, code, record) = said(*awaited, reply);
+        assert_eq!(rt; kind, wanted.0);
+        assert_eq!(rt; code, wanted.1);
+        assert_eq!(rt; record, wanted.2);
+    }
+}
+
+/// Answers to the requests of a run, and what is no answer to them.
+#[test]
+fn verdicts_of_a_run(rt: HostRuntime) {
+    let rows: [Said; 12] = [
+        (
+            Awaited::Session { kind: 2 },
+            b"\x50\x02\x00\x32\x01\xf4",
+            (0, 0, b"\x00\x32\x01\xf4"),
+        ),
+        (Awaited::Session { kind: 2 }, b"\x50\x03", (5, 0, b"")),
+        (
+            Awaited::ReadId { did: 0xf195 },
+            b"\x62\xf1\x95A1",
+            (0, 0, b"A1"),
+        ),
+        (
+            Awaited::Seed { level: 1 },
+            b"\x67\x01\x12\x34",
+            (0, 0, b"\x12\x34"),
+        ),
+        (Awaited::Key { level: 1 }, b"\x67\x02", (0, 0, b"")),
+        (
+            Awaited::Routine { id: 0xff00 },
+            b"\x71\x01\xff\x00\x00",
+            (0, 0, b""),
+        ),
+        (
+            Awaited::Routine { id: 0x0202 },
+            b"\x71\x01\x02\x02\x01",
+            (1, 1, b""),
+        ),
+        (Awaited::Download, b"\x74\x20\x0f\xff", (0, 0, b"\x0f\xff")),
+        (Awaited::Download, b"\x74\x10\x02", (5, 0, b"")),
+        (Awaited::Transfer { counter: 1 }, b"\x76\x02", (5, 0, b"")),
+        (Awaited::Exit, b"\x77", (0, 0, b"")),
+        (Awaited::Reset, b"\x51\x01", (0, 0, b"")),
+    ];
+    are_said(&rt, &rows);
+}
+
+/// Answers of reading back, and negative ones.
+#[test]
+fn further_verdicts(rt: HostRuntime) {
+    let rows: [Said; 10] = [
+        (Awaited::Upload, b"\x75\x10\x12", (0, 0, b"\x12")),
+        (Awaited::Upload, b"\x74\x10\x12", (5, 0, b"")),
+        (Awaited::Pull { counter: 1 }, b"\x76\x01abc", (0, 0, b"abc")),
+        (Awaited::Setting { off: true }, b"\xc5\x02", (0, 0, b"")),
+        (Awaited::Setting { off: true }, b"\xc5\x01", (5, 0, b"")),
+        (Awaited::Messages { off: true }, b"\x68\x03", (0, 0, b"")),
+        (Awaited::Exit, b"\x7f\x37\x78", (2, 0, b"")),
+        (Awaited::Exit, b"\x7f\x37\x21", (3, 0, b"")),
+        (Awaited::Exit, b"\x7f\x37\x24", (4, 0x24, b"")),
+        (Awaited::Exit, b"\x7f\x36\x24", (5, 0, b"")),
+    ];
+    are_said(&rt, &rows);
 }
 
 /// Garbage behind each first byte: a service refuses it at its own place, a block takes it, and no other first byte is of a service.
@@ -327,7 +523,7 @@ fn first_bytes(rt: HostRuntime) {
     for sid in 0..256u32 {
         let first = sid as u8;
         let wanted: (u8, usize) = match first {
-            0x10 | 0x11 | 0x27 | 0x31 | 0x34 | 0x37 => (3, 1),
+            0x10 | 0x11 | 0x27 | 0x28 | 0x31 | 0x34 | 0x35 | 0x37 | 0x85 => (3, 1),
             0x22 => (3, 3),
             0x36 => (0, 0),
             _ => (2, sid as usize),
@@ -335,7 +531,8 @@ fn first_bytes(rt: HostRuntime) {
         let garbage = [first, 0xee, 0xee, 0xee];
         assert_eq!(rt; outcome(decode(alloc, &garbage)), wanted);
         let wanted: (u8, usize) = match first {
-            0x50 | 0x51 | 0x62 | 0x67 | 0x71 | 0x74 | 0x76 | 0x77 => (0, 0),
+            0x50 | 0x51 | 0x62 | 0x67 | 0x68 | 0x71 => (0, 0),
+            0x74 | 0x75 | 0x76 | 0x77 | 0xc5 => (0, 0),
             0x7f => (3, 3),
             _ => (2, sid as usize),
         };
@@ -376,14 +573,15 @@ fn answers(rt: HostRuntime) -> Result<(), Fail> {
         }
         Reply::Negative { .. } => assert!(rt; false),
     }
-    let rows: [(&[u8], (u8, usize)); 7] = [
+    let rows: [(&[u8], (u8, usize)); 8] = [
         (b"", (1, 0)),
         (b"\x7f", (1, 0)),
         (b"\x7f\x34", (1, 0)),
         (b"\x7f\x34\x33\x00", (3, 3)),
         (b"\x77", (0, 0)),
         (b"\x34\x00", (2, 0x34)),
-        (b"\x75", (2, 0x75)),
+        (b"\x75", (0, 0)),
+        (b"\x7e", (2, 0x7e)),
     ];
     for (bytes, wanted) in rows.iter() {
         assert_eq!(rt; outcome(decode_reply(alloc, bytes)), *wanted);
