@@ -5,5 +5,7 @@
 #![tactic(auto)]
 
 mod device;
+mod laws;
 
 pub use device::{DeviceFault, Pick};
+pub use laws::worked_images;
