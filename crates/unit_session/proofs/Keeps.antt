@@ -1,7 +1,7 @@
 -- What a session keeps, and how an answer is heard.
-use Rattle.std.proofs.Common.{◌≡◌, inl, inr, ℕ, zero, suc, ◌+◌, ◌-◌, ◌*◌, ◌<◌, ◌≤◌, true, false, List, [], ◌∷◌, ◌++◌, length, take, drop, refl, sym, ◌∙◌, ap, arith, length-drop, add-one, drop-cons}
-use Rattle.std.specs.Prelude.{Bool, min}
-use Rattle.std.proofs.lemmas.Bool.{cases_Bool, false≢true}
+use Rattle.std.proofs.Common.{◌≡◌, inl, inr, ℕ, zero, suc, ◌+◌, ◌-◌, ◌*◌, ◌<◌, ◌≤◌, true, false, List, [], ◌∷◌, ◌++◌, length, take, drop, refl, sym, ◌∙◌, ap, subst, arith, length-drop, add-one, drop-cons}
+use Rattle.std.specs.Prelude.{Bool, Option, Some, None, ◌==◌, ◌||◌, min}
+use Rattle.std.proofs.lemmas.Bool.{cases_Bool, false≢true, ne_eqb}
 use Rattle.std.proofs.lemmas.List.{take-append-drop}
 use Rattle.flash_base.specs.Numbers.{number_of}
 use Rattle.flash_base.specs.Lists.{Each}
@@ -14,6 +14,7 @@ use Rattle.flash_plan.specs.declared.unit.Segment.{Segment}
 use Rattle.flash_plan.specs.declared.unit.UnitPlan.{UnitPlan}
 use Rattle.flash_plan.specs.declared.unit.Wanted.{Wanted}
 use Rattle.run_model.proofs.Along.{IsGoodPlace, says}
+use Rattle.run_model.specs.Entries.{with_mark}
 use Rattle.run_model.specs.Places.{needs_request}
 use Rattle.run_model.specs.Script as script
 use Rattle.run_model.specs.Script.{Cursor, Blocks, Place, AtIdent, AtBegin, AtProgram, AtSeed, AtKey, AtErase, AtDownload, AtBlock, AtExit, AtCheck, AtMark, AtFinish, AtReset, AtDone, AtEnd, request_at, bytes_at, place_judged, place_next, place_marked, routine_at, idents_from, segments_from, after_program, start_place, more_blocks, after_block, is_empty, has_value, ask_at}
@@ -24,13 +25,14 @@ use Rattle.uds_codec.specs.Key.{all_zero}
 use Rattle.uds_codec.specs.Request.{sid_of}
 use Rattle.unit_session.specs.Judging.{judged, verdict_of, IsFront}
 use Rattle.unit_session.specs.Left.{left_for, requests_left}
-use Rattle.unit_session.specs.Onward.{IsFinalForm, sid_at}
-use Rattle.unit_session.specs.Session.{place_at, IsStage, asked, settled, IsFewer}
+use Rattle.unit_session.specs.Onward.{IsFinalForm, sid_at, erase_next}
+use Rattle.unit_session.specs.Session.{place_at, IsStage, KnowsNext, cursor_at, open_from, asked, settled, IsFewer}
 use Rattle.unit_session.specs.declared.judging.Front.{Front}
 use Rattle.unit_session.specs.declared.session.Ask.TheVariants as ask
 use Rattle.unit_session.specs.declared.stage.Stage.{Stage}
 use Rattle.unit_session.specs.declared.stage.Stage.TheVariants.{Ident, Program, Seed, Key, Erase, Download, Block, Exit, Check, Mark, Finish, Reset, Done, Ended}
 use Rattle.unit_session.proofs.Forms.{judged_by}
+use Rattle.unit_session.proofs.Leads.{take_here, done_count, leaves_open, open_stage, open_same}
 
 -- ------ each stage is a place of the script
 each_drop : {T : Type 0} (P : T → Type 0) (xs : List T) (n : ℕ) → Each P xs → Each P (drop n xs)
@@ -229,3 +231,31 @@ ident_sends u n lt = of (drop n u.idents) (omega (arith, length-drop n u.idents,
     of : (ws : List Wanted) → 1 ≤ length ws → asked false (ask_at u (idents_from ws)) ≡ ask.Send
     of [] some = absurd (omega (arith, some))
     of (w ∷ ws) some = refl
+
+-- ------ behind a mark
+pub mark_asked : (u : UnitPlan) (b : Bool) (n k : ℕ) (next : Option ℕ) → n < length u.segments → asked b (ask_at u (place_at u (Mark n next))) ≡ ask.Mark k → n ≡ k
+mark_asked u true n k next lt is = cc
+mark_asked u false n k next lt is = let e : length (take n u.segments) ≡ k = cc in sym (done_count u (λ s. false) n (omega (arith, lt))) ∙ e
+
+module _ (u : UnitPlan) (marks : ℕ → Bool) (n : ℕ) (next : Option ℕ) (lt : n < length u.segments) (known : next ≡ open_from u marks (n + 1)) where
+  later_same : (k : ℕ) → n + 1 ≤ k → with_mark n marks k ≡ marks k
+  later_same k le = let other : (k == n) ≡ false = ne_eqb k n (λ e. omega (arith, e, le)) in ap (λ (b : Bool). b || marks k) other
+
+  pub marked_place : place_at u (erase_next next) ≡ place_marked (with_mark n marks) (AtMark (cursor_at u n))
+  marked_place =
+      ap (λ (o : Option ℕ). place_at u (erase_next o)) (known ∙ sym (open_same u (with_mark n marks) marks (n + 1) later_same))
+      ∙ sym (leaves_open u (with_mark n marks) (n + 1) (omega (arith, lt)))
+      ∙ ap (λ (xs : List Segment). segments_from (with_mark n marks) xs (drop (n + 1) u.segments)) (sym (take_here u marks n lt))
+
+  pub marked_stage : IsStage u (erase_next next)
+  marked_stage = subst (λ (o : Option ℕ). IsStage u (erase_next o)) (sym known) (open_stage u marks (n + 1) (omega (arith, lt)))
+
+  pub marked_left : requests_left u (place_at u (erase_next next)) ≤ requests_left u (place_at u (Mark n next))
+  marked_left = subst (λ (p : Place). requests_left u p ≤ requests_left u (place_at u (Mark n next))) (sym marked_place) (left_marked u (with_mark n marks) (cursor_at u n))
+
+pub erase_knows : (u : UnitPlan) (marks : ℕ → Bool) (next : Option ℕ) → KnowsNext u marks (erase_next next)
+erase_knows u marks None = tt
+erase_knows u marks (Some n) = tt
+
+pub same_talk : (t : Talk) (p q : Place) (a b : ℕ → Bool) → p ≡ q → a ≡ b → record t { place = p; marks = a } ≡ record t { place = q; marks = b }
+same_talk t p q a b e f = (λ i. record t { place = e i; marks = f i })

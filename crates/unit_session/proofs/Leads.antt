@@ -66,7 +66,7 @@ module _ (u : UnitPlan) (marks : ℕ → Bool) where
   drop_here : (n : ℕ) → n < length u.segments → drop n u.segments ≡ segment_of u n ∷ drop (n + 1) u.segments
   drop_here n lt = drop-cons u.segments n no_segment lt ∙ ap (λ (k : ℕ). segment_of u n ∷ drop k u.segments) (sym (add-one n))
 
-  take_here : (n : ℕ) → n < length u.segments → take n u.segments ++ (segment_of u n ∷ []) ≡ take (n + 1) u.segments
+  pub take_here : (n : ℕ) → n < length u.segments → take n u.segments ++ (segment_of u n ∷ []) ≡ take (n + 1) u.segments
   take_here n lt = sym (ap (λ (k : ℕ). take k u.segments) (add-one n) ∙ take-suc u.segments n no_segment lt)
 
   pub done_count : (n : ℕ) → n ≤ length u.segments → length (take n u.segments) ≡ n
@@ -145,6 +145,10 @@ size_within (s ∷ ss) (suc n) = omega (arith, size_within ss n)
 pub body_small : (u : UnitPlan) (n : ℕ) → IsAcceptedUnit u → length (segment_of u n).body ≤ 16777216
 body_small u n ok = omega (arith, size_within u.segments n, ok.bytes)
 
+-- ------ identifiers
+pub ident_bytes : (u : UnitPlan) (n : ℕ) (w : Wanted) → slice_get u.idents n ≡ Some w → bytes_at u (place_at u (Ident n)) ≡ 34 ∷ big_endian 2 w.did
+ident_bytes u n w is = ap (bytes_at u) (ap idents_from (drop_at u.idents n w is))
+
 module _ (u : UnitPlan) (marks : ℕ → Bool) where
   led : (stage : Stage) (rest : List ℕ) (next : Stage) (place : Place) (v : Verdict) → IsFinalForm v → place_at u stage ≡ place → form_in (request_at u place) rest ≡ v
       → place_at u next ≡ place_judged u marks place v → IsStage u next → KnowsNext u marks next → LeadsTo u marks stage rest next
@@ -211,9 +215,6 @@ module _ (u : UnitPlan) (marks : ℕ → Bool) where
       led Seed rest (Key kept) _ (Good seed) tt refl (seed_form_at rest level at is ∙ ap seed_form (sym eq) ∙ ap (λ (b : Bool). if b then Good seed else Strange) good) (rw (z, bytes) refl) stage tt
 
   -- ------ identifiers
-  pub ident_bytes : (n : ℕ) (w : Wanted) → slice_get u.idents n ≡ Some w → bytes_at u (place_at u (Ident n)) ≡ 34 ∷ big_endian 2 w.did
-  ident_bytes n w is = ap (bytes_at u) (ap idents_from (drop_at u.idents n w is))
-
   ident_place : (n : ℕ) (w : Wanted) → slice_get u.idents n ≡ Some w → place_at u (Ident n) ≡ AtIdent w (drop (n + 1) u.idents)
   ident_place n w is = ap idents_from (drop_at u.idents n w is)
 

@@ -6,7 +6,7 @@ use Rattle.run_model.specs.Script.{Place, AtEnd, request_at}
 use Rattle.run_model.specs.Talk.{talk_judged}
 use Rattle.uds_codec.specs.Answer.{Verdict, Refusal, Strange, form_in}
 use Rattle.unit_session.specs.declared.judging.Front.TheVariants as front
-use Rattle.unit_session.specs.Session.{place_at, talk_of, IsFewer}
+use Rattle.unit_session.specs.Session.{place_at, talk_of, has_mark, IsFewer}
 use Rattle.unit_session.proofs.Keeps.{waits, heard_front, heard_final, sid_is, stage_good, left_judged}
 use Rattle.unit_session.proofs.session.UnitSession.hear.Goals as goal
 
@@ -58,5 +58,5 @@ returns-in-Positive-clause-of c =
     let u = c.args.unit.now in
     let s = c.args.self.now in
     let needs : needs_request (place_at u s.stage) ≡ true = c.requires.of.awaits (waits _ _ c.requires.wait) in
-    let fewer = left_judged u (place_at u s.stage) _ (stage_good u s.stage c.requires.accepted c.requires.of.stage) needs c.onward-stage.ensures.final in
-    c.settle-in-Positive.ensures.of u c.onward-stage.ensures.fits (subst (λ (p : Place). IsFewer u p (place_at u s.stage)) (sym c.onward-stage.ensures.place) fewer) c.requires.of
+    let fewer = left_judged u (has_mark s.marks) (place_at u s.stage) _ (stage_good u s.stage c.requires.accepted c.requires.of.stage) needs c.onward-stage.ensures.final in
+    c.settle-in-Positive.ensures.of u c.onward-stage.ensures.fits c.onward-stage.ensures.known (subst (λ (p : Place). IsFewer u p (place_at u s.stage)) (sym c.onward-stage.ensures.place) fewer) c.requires.of
