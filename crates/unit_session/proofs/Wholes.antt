@@ -20,7 +20,8 @@ use Rattle.uds_codec.specs.Key.{key_of, level_of, all_zero}
 use Rattle.uds_codec.specs.Request.{sid_of}
 use Rattle.unit_model.proofs.Steps.{negative_bad}
 use Rattle.unit_model.specs.Step.{is_good}
-use Rattle.unit_session.specs.Whole.{answered, with_good, AreBlocks, IsSegmentPart, AreSegmentParts, AreKeys, IsWholeScript, ident_requests, EndsMeanAll, range_at}
+use Rattle.unit_model.specs.Unit.{next_counter}
+use Rattle.unit_session.specs.Whole.{Exchange, answered, with_good, AreBlocks, IsSegmentPart, IsLastPart, AreSegmentParts, IsKeySent, IsUnlocked, AreKeys, IsWholeScript, AreIdents, EndsMeanAll, range_at, check_of}
 
 -- ------ where no request is due no answer is positive
 negative_never : (sid : ℕ) (xs : List ℕ) → is_good (negative_of sid xs) ≡ false
@@ -57,49 +58,66 @@ empty_is : (xs : List ℕ) → is_empty xs ≡ true → xs ≡ []
 empty_is [] e = refl
 empty_is (x ∷ xs) e = absurd (false≢true e)
 
+-- from the blocks of a segment on
+record Sends (u : UnitPlan) (skipped : ℕ → Bool) (c : Cursor) (limit counter : ℕ) (bytes : List ℕ) (es : List Exchange) : Type 0 where
+  blocks : List Exchange
+  exit : Exchange
+  check : Exchange
+  more : List Exchange
+  all : es ≡ (blocks ++ (exit ∷ check ∷ [])) ++ more
+  sends : AreBlocks limit counter bytes blocks
+  exits : exit.request ≡ 55 ∷ []
+  checks : check.request ≡ check_of u c.now
+  behind : AreSegmentParts u skipped (length c.done + 1) c.left more
+
+-- from the request of the seed, or of the key, on
+record Unlocks (u : UnitPlan) (skipped : ℕ → Bool) (level : ℕ) (es : List Exchange) : Type 0 where
+  keys : List Exchange
+  parts : List Exchange
+  all : es ≡ keys ++ parts
+  unlocked : IsUnlocked u level keys
+  segments : AreSegmentParts u skipped 0 u.segments parts
+
 module _ (u : UnitPlan) (skipped marks : ℕ → Bool) where
   -- behind the segment in hand
-  abbrev Rest : Cursor → List (List ℕ) → Type 0
+  abbrev Rest : Cursor → List Exchange → Type 0
   Rest c more = AreSegmentParts u skipped (length c.done + 1) c.left more
 
-  -- the requests that are left at a place before the end
-  abbrev Remains : Place → List (List ℕ) → Type 0
-  Remains (AtIdent w ws) rs = Unit {0}
-  Remains AtBegin rs = Unit {0}
-  Remains AtProgram rs = IsWholeScript u skipped rs
-  Remains (AtSeed level) rs = (more : List (List ℕ)) × (rs ≡ (39 ∷ level ∷ []) ∷ more)
-      × (AreSegmentParts u skipped 0 u.segments more
-      ⊎ ((seed : List ℕ) × (parts : List (List ℕ)) × (more ≡ (39 ∷ (level + 1) ∷ key_of u.key seed) ∷ parts) × AreSegmentParts u skipped 0 u.segments parts))
-  Remains (AtKey level seed) rs = (parts : List (List ℕ)) × (rs ≡ (39 ∷ (level + 1) ∷ key_of u.key seed) ∷ parts) × AreSegmentParts u skipped 0 u.segments parts
-  Remains (AtErase c) rs = (part : List (List ℕ)) × (more : List (List ℕ)) × (rs ≡ part ++ more) × IsSegmentPart u c.now part × Rest c more
-  Remains (AtDownload c) rs = (blocks : List (List ℕ)) × (more : List (List ℕ))
-      × (rs ≡ ((52 ∷ 0 ∷ range_at u c.now) ∷ (blocks ++ (bytes_at u (AtExit c) ∷ bytes_at u (AtCheck c) ∷ []))) ++ more) × AreBlocks 1 c.now.body blocks × Rest c more
-  Remains (AtBlock c b) rs = (blocks : List (List ℕ)) × (more : List (List ℕ))
-      × (rs ≡ (blocks ++ (bytes_at u (AtExit c) ∷ bytes_at u (AtCheck c) ∷ [])) ++ more) × AreBlocks b.counter b.rest blocks × Rest c more
-  Remains (AtExit c) rs = (more : List (List ℕ)) × (rs ≡ bytes_at u (AtExit c) ∷ bytes_at u (AtCheck c) ∷ more) × Rest c more
-  Remains (AtCheck c) rs = (more : List (List ℕ)) × (rs ≡ bytes_at u (AtCheck c) ∷ more) × Rest c more
-  Remains (AtMark c) rs = Rest c rs
-  Remains AtFinish rs = AreSegmentParts u skipped 0 [] rs
-  Remains AtReset rs = rs ≡ (17 ∷ 1 ∷ []) ∷ []
-  Remains AtDone rs = rs ≡ []
-  Remains (AtEnd outcome) rs = Unit {0}
+  -- what is left at a place before the end
+  abbrev Remains : Place → List Exchange → Type 0
+  Remains (AtIdent w ws) es = Unit {0}
+  Remains AtBegin es = Unit {0}
+  Remains AtProgram es = IsWholeScript u skipped es
+  Remains (AtSeed level) es = Unlocks u skipped level es
+  Remains (AtKey level seed) es = (keys : List Exchange) × (parts : List Exchange) × (es ≡ keys ++ parts) × IsKeySent u level seed keys × AreSegmentParts u skipped 0 u.segments parts
+  Remains (AtErase c) es = (part : List Exchange) × (more : List Exchange) × (es ≡ part ++ more) × IsSegmentPart u c.now part × Rest c more
+  Remains (AtDownload c) es = (download : Exchange) × (rest : List Exchange) × (es ≡ download ∷ rest) × (download.request ≡ 52 ∷ 0 ∷ range_at u c.now)
+      × Sends u skipped c (min (number_of download.said) 65535) 1 c.now.body rest
+  Remains (AtBlock c b) es = Sends u skipped c b.limit b.counter b.rest es
+  Remains (AtExit c) es = (exit : Exchange) × (check : Exchange) × (more : List Exchange) × (es ≡ exit ∷ check ∷ more) × (exit.request ≡ 55 ∷ []) × (check.request ≡ check_of u c.now) × Rest c more
+  Remains (AtCheck c) es = (check : Exchange) × (more : List Exchange) × (es ≡ check ∷ more) × (check.request ≡ check_of u c.now) × Rest c more
+  Remains (AtMark c) es = Rest c es
+  Remains AtFinish es = IsLastPart es
+  Remains AtReset es = (reset : Exchange) × (es ≡ reset ∷ []) × (reset.request ≡ 17 ∷ 1 ∷ [])
+  Remains AtDone es = es ≡ []
+  Remains (AtEnd outcome) es = Unit {0}
 
   one_longer : (done : List Segment) (s : Segment) → length (done ++ (s ∷ [])) ≡ length done + 1
   one_longer done s = length-append done (s ∷ [])
 
   -- a segment that is left out has no request
-  from_segments : (done ss : List Segment) (rs : List (List ℕ)) → Remains (segments_from skipped done ss) rs → AreSegmentParts u skipped (length done) ss rs
+  from_segments : (done ss : List Segment) (rs : List Exchange) → Remains (segments_from skipped done ss) rs → AreSegmentParts u skipped (length done) ss rs
   from_segments done [] rs is = is
   from_segments done (s ∷ ss) rs is = elim (cases_Bool (skipped (length done))) [
     | inl e ↦
         (let behind : AreSegmentParts u skipped (length done + 1) ss rs =
-          subst (λ (n : ℕ). AreSegmentParts u skipped n ss rs) (one_longer done s) (from_segments (done ++ (s ∷ [])) ss rs (rw e at is)) in
+        subst (λ (n : ℕ). AreSegmentParts u skipped n ss rs) (one_longer done s) (from_segments (done ++ (s ∷ [])) ss rs (rw e at is)) in
         rw e ([], rs, refl, refl, behind))
     | inr e ↦ (let here : Remains (AtErase (record { done = done; now = s; left = ss })) rs = rw e at is in rw e here)
   ]
 
   -- a mark has no request
-  from_marked : (p : Place) (rs : List (List ℕ)) → Remains (past_mark skipped marks p) rs → Remains p rs
+  from_marked : (p : Place) (rs : List Exchange) → Remains (past_mark skipped marks p) rs → Remains p rs
   from_marked (AtMark c) rs is = elim (cases_Bool (marks (length c.done))) [
     | inl e ↦
         (let after : Remains (segments_from skipped (c.done ++ (c.now ∷ [])) c.left) rs = rw e at is in
@@ -138,63 +156,109 @@ module _ (u : UnitPlan) (skipped marks : ℕ → Bool) where
   good_marked AtDone good = good
   good_marked (AtEnd outcome) good = good
 
-  locked : (level : ℕ) (rs : List (List ℕ)) → level_of u.key ≡ Some level → Remains (AtSeed level) rs → IsWholeScript u skipped ((16 ∷ 2 ∷ []) ∷ rs)
-  locked level rs key (more, eq, inl segments) = record {
-    keys = (39 ∷ level ∷ []) ∷ [];
-    parts = more;
-    all = ap (λ (xs : List (List ℕ)). (16 ∷ 2 ∷ []) ∷ xs) eq;
-    opens = subst (λ (o : Option ℕ). AreKeys u o ((39 ∷ level ∷ []) ∷ [])) (sym key) (inl refl);
-    segments = segments;
-  }
-  locked level rs key (more, eq, inr (seed, parts, eq2, segments)) = record {
-    keys = (39 ∷ level ∷ []) ∷ (39 ∷ (level + 1) ∷ key_of u.key seed) ∷ [];
-    parts = parts;
-    all = ap (λ (xs : List (List ℕ)). (16 ∷ 2 ∷ []) ∷ xs) (eq ∙ ap (λ (xs : List (List ℕ)). (39 ∷ level ∷ []) ∷ xs) eq2);
-    opens = subst (λ (o : Option ℕ). AreKeys u o ((39 ∷ level ∷ []) ∷ (39 ∷ (level + 1) ∷ key_of u.key seed) ∷ [])) (sym key) (inr (seed, refl));
-    segments = segments;
+  abbrev exchange : Place → List ℕ → Exchange
+  exchange p rest = record { request = bytes_at u p; said = rest }
+
+  locked : (level : ℕ) (rest : List ℕ) (rs : List Exchange) → level_of u.key ≡ Some level → Remains (AtSeed level) rs → IsWholeScript u skipped (exchange AtProgram rest ∷ rs)
+  locked level rest rs key is = record {
+    opening = exchange AtProgram rest;
+    keys = is.keys;
+    parts = is.parts;
+    all = ap (λ (xs : List Exchange). exchange AtProgram rest ∷ xs) is.all;
+    opens = refl;
+    unlocks = subst (λ (o : Option ℕ). AreKeys u o is.keys) (sym key) is.unlocked;
+    segments = is.segments;
   }
 
-  opened : (rule : KeyRule) (rs : List (List ℕ)) → u.key ≡ rule → Remains (after_program u skipped rule) rs → IsWholeScript u skipped ((16 ∷ 2 ∷ []) ∷ rs)
-  opened Free rs key is = record { keys = []; parts = rs; all = refl; opens = subst (λ (r : KeyRule). AreKeys u (level_of r) []) (sym key) refl; segments = from_segments [] u.segments rs is }
-  opened (Xor level mask) rs key is = locked level rs (ap level_of key) is
-  opened (Digest level size secret) rs key is = locked level rs (ap level_of key) is
+  opened : (rule : KeyRule) (rest : List ℕ) (rs : List Exchange) → u.key ≡ rule → Remains (after_program u skipped rule) rs → IsWholeScript u skipped (exchange AtProgram rest ∷ rs)
+  opened Free rest rs key is = record {
+    opening = exchange AtProgram rest;
+    keys = [];
+    parts = rs;
+    all = refl;
+    opens = refl;
+    unlocks = subst (λ (r : KeyRule). AreKeys u (level_of r) []) (sym key) refl;
+    segments = from_segments [] u.segments rs is;
+  }
+  opened (Xor level mask) rest rs key is = locked level rest rs (ap level_of key) is
+  opened (Digest level size secret) rest rs key is = locked level rest rs (ap level_of key) is
 
-  more_remains : (c : Cursor) (b : Blocks) (rs : List (List ℕ)) → Remains (more_blocks c b) rs → Remains (AtBlock c b) rs
+  seeded : (level : ℕ) (rest : List ℕ) (rs : List Exchange) → Remains (place_next u skipped (AtSeed level) rest) rs → Unlocks u skipped level (exchange (AtSeed level) rest ∷ rs)
+  seeded level rest rs is = elim (cases_Bool (all_zero rest)) [
+    | inl e ↦ record {
+      keys = exchange (AtSeed level) rest ∷ [];
+      parts = rs;
+      all = refl;
+      unlocked = record { asked = exchange (AtSeed level) rest; more = []; all = refl; asks = refl; key = rw e refl };
+      segments = from_segments [] u.segments rs (rw e at is);
+    }
+    | inr e ↦
+        (let (keys, parts, eq, sent, segments) : Remains (AtKey level rest) rs = rw e at is in
+        record {
+          keys = exchange (AtSeed level) rest ∷ keys;
+          parts = parts;
+          all = ap (λ (xs : List Exchange). exchange (AtSeed level) rest ∷ xs) eq;
+          unlocked = record { asked = exchange (AtSeed level) rest; more = keys; all = refl; asks = refl; key = rw e sent };
+          segments = segments;
+        })
+  ]
+
+  more_remains : (c : Cursor) (b : Blocks) (rs : List Exchange) → Remains (more_blocks c b) rs → Remains (AtBlock c b) rs
   more_remains c b rs is = elim (cases_Bool (is_empty b.rest)) [
-    | inl e ↦ (let (more, eq, segments) : Remains (AtExit c) rs = rw e at is in ([], more, eq, empty_is b.rest e, segments))
+    | inl e ↦
+        (let (exit, check, more, eq, exits, checks, behind) : Remains (AtExit c) rs = rw e at is in
+        record { blocks = []; exit = exit; check = check; more = more; all = eq; sends = empty_is b.rest e; exits = exits; checks = checks; behind = behind })
     | inr e ↦ rw e at is
   ]
 
-  step : (p : Place) (rest : List ℕ) (rs : List (List ℕ)) → IsGoodPlace u p → needs_request p ≡ true → Remains (place_next u skipped p rest) rs → Remains p (bytes_at u p ∷ rs)
+  step : (p : Place) (rest : List ℕ) (rs : List Exchange) → IsGoodPlace u p → needs_request p ≡ true → Remains (place_next u skipped p rest) rs → Remains p (exchange p rest ∷ rs)
   step (AtIdent w ws) rest rs good needs is = tt
   step AtBegin rest rs good needs is = tt
-  step AtProgram rest rs good needs is = opened u.key rs refl is
-  step (AtSeed level) rest rs good needs is = elim (cases_Bool (all_zero rest)) [
-    | inl e ↦ (rs, refl, inl (from_segments [] u.segments rs (rw e at is)))
-    | inr e ↦ (let (parts, eq, segments) : Remains (AtKey level rest) rs = rw e at is in (rs, refl, inr (rest, parts, eq, segments)))
-  ]
-  step (AtKey level seed) rest rs good needs is = (rs, refl, from_segments [] u.segments rs is)
+  step AtProgram rest rs good needs is = opened u.key rest rs refl is
+  step (AtSeed level) rest rs good needs is = seeded level rest rs is
+  step (AtKey level seed) rest rs good needs is =
+      (exchange (AtKey level seed) rest ∷ [], rs, refl, record { sent = exchange (AtKey level seed) rest; all = refl; sends = refl }, from_segments [] u.segments rs is)
   step (AtErase c) rest rs good needs is =
-      let (blocks, more, eq, are, segments) = is in
-      (
-        (49 ∷ 1 ∷ 255 ∷ 0 ∷ range_at u c.now) ∷ (52 ∷ 0 ∷ range_at u c.now) ∷ (blocks ++ (bytes_at u (AtExit c) ∷ bytes_at u (AtCheck c) ∷ [])),
-        more,
-        ap (λ (xs : List (List ℕ)). bytes_at u (AtErase c) ∷ xs) eq,
-        (blocks, refl, are),
-        segments,
+      let (download, tail, eq, downloads, sends) = is in (
+        exchange (AtErase c) rest ∷ download ∷ (sends.blocks ++ (sends.exit ∷ sends.check ∷ [])),
+        sends.more,
+        ap (λ (xs : List Exchange). exchange (AtErase c) rest ∷ xs) (eq ∙ ap (λ (xs : List Exchange). download ∷ xs) sends.all),
+        record {
+          erase = exchange (AtErase c) rest;
+          download = download;
+          blocks = sends.blocks;
+          exit = sends.exit;
+          check = sends.check;
+          all = refl;
+          erases = refl;
+          downloads = downloads;
+          sends = sends.sends;
+          exits = sends.exits;
+          checks = sends.checks;
+        },
+        sends.behind,
       )
   step (AtDownload c) rest rs good needs is =
-      let (blocks, more, eq, are, segments) = more_remains c (record { sent = []; rest = c.now.body; counter = 1; limit = min (number_of rest) 65535 }) rs is in
-      (blocks, more, ap (λ (xs : List (List ℕ)). (52 ∷ 0 ∷ range_at u c.now) ∷ xs) eq, are, segments)
+      (exchange (AtDownload c) rest, rs, refl, refl, more_remains c (record { sent = []; rest = c.now.body; counter = 1; limit = min (number_of rest) 65535 }) rs is)
   step (AtBlock c b) rest rs good needs is =
-      let (blocks, more, eq, are, segments) = more_remains c (after_block b) rs is in
-      let some : 1 ≤ length (block_of b) = omega (arith, length-take (b.limit - 2) b.rest, good.place_is.1.some, good.place_is.1.limit) in
-      (bytes_at u (AtBlock c b) ∷ blocks, more, ap (λ (xs : List (List ℕ)). bytes_at u (AtBlock c b) ∷ xs) eq, (block_of b, drop (b.limit - 2) b.rest, refl, some, sym (take-append-drop (b.limit - 2) b.rest), are), segments)
-  step (AtExit c) rest rs good needs is = let (more, eq, segments) = is in (more, ap (λ (xs : List (List ℕ)). bytes_at u (AtExit c) ∷ xs) eq, segments)
-  step (AtCheck c) rest rs good needs is = (rs, refl, is)
+      let next : Sends u skipped c b.limit (next_counter b.counter) (drop (b.limit - 2) b.rest) rs = more_remains c (after_block b) rs is in
+      record {
+        blocks = exchange (AtBlock c b) rest ∷ next.blocks;
+        exit = next.exit;
+        check = next.check;
+        more = next.more;
+        all = ap (λ (xs : List Exchange). exchange (AtBlock c b) rest ∷ xs) next.all;
+        sends = (good.place_is.1.some, refl, next.sends);
+        exits = next.exits;
+        checks = next.checks;
+        behind = next.behind;
+      }
+  step (AtExit c) rest rs good needs is = let (check, more, eq, checks, behind) = is in (exchange (AtExit c) rest, check, more, ap (λ (xs : List Exchange). exchange (AtExit c) rest ∷ xs) eq, refl, checks, behind)
+  step (AtCheck c) rest rs good needs is = (exchange (AtCheck c) rest, rs, refl, refl, is)
   step (AtMark c) rest rs good needs is = absurd (false≢true needs)
-  step AtFinish rest rs good needs is = ap (λ (xs : List (List ℕ)). (49 ∷ 1 ∷ 255 ∷ 1 ∷ []) ∷ xs) is
-  step AtReset rest rs good needs is = ap (λ (xs : List (List ℕ)). (17 ∷ 1 ∷ []) ∷ xs) is
+  step AtFinish rest rs good needs is =
+      let (reset, eq, resets) = is in record { whole = exchange AtFinish rest; reset = reset; all = ap (λ (xs : List Exchange). exchange AtFinish rest ∷ xs) eq; checks = refl; resets = resets }
+  step AtReset rest rs good needs is = (exchange AtReset rest, ap (λ (xs : List Exchange). exchange AtReset rest ∷ xs) is, refl)
   step AtDone rest rs good needs is = absurd (false≢true needs)
   step (AtEnd outcome) rest rs good needs is = tt
 
@@ -234,9 +298,14 @@ module _ (u : UnitPlan) (skipped marks : ℕ → Bool) where
       by ih (Bad_status status) v e = absurd (ended_stays u skipped marks (CheckFailed (routine_at u p).0 (routine_at u p).1 status) more AtDone e refl)
       by ih Strange v e = absurd (ended_stays u skipped marks (BadAnswer (sid_of (bytes_at u p))) more AtDone e refl)
 
-  named : (answers : List (List ℕ)) (ws : List Wanted) → place_of u skipped marks (idents_from ws) answers ≡ AtBegin → answered u skipped marks (idents_from ws) answers ≡ ident_requests ws
+  -- no identifier stands at a mark
+  unmarked : (ws : List Wanted) → past_mark skipped marks (idents_from ws) ≡ idents_from ws
+  unmarked [] = refl
+  unmarked (w ∷ ws) = refl
+
+  named : (answers : List (List ℕ)) (ws : List Wanted) → place_of u skipped marks (idents_from ws) answers ≡ AtBegin → AreIdents ws (answered u skipped marks (idents_from ws) answers)
   named [] [] is = refl
-  named [] (w ∷ ws) is = cc
+  named [] (w ∷ ws) is = absurd (let no : ⊥ = cc in no)
   named (a ∷ more) [] is = by (λ e. named more [] e) (judge [] a) refl is
     where
       by : (place_of u skipped marks AtBegin more ≡ AtBegin → answered u skipped marks AtBegin more ≡ []) → (v : Verdict) → judge [] a ≡ v
@@ -250,22 +319,19 @@ module _ (u : UnitPlan) (skipped marks : ℕ → Bool) where
       by ih Strange v e = absurd (ended_stays u skipped marks (BadAnswer 0) more AtBegin e refl)
   named (a ∷ more) (w ∷ ws) is = by (λ vs e. named more vs e) (judge (bytes_at u (AtIdent w ws)) a) is
     where
-      -- no identifier stands at a mark
-      unmarked : (vs : List Wanted) → past_mark skipped marks (idents_from vs) ≡ idents_from vs
-      unmarked [] = refl
-      unmarked (x ∷ vs) = refl
-
-      by : ((vs : List Wanted) → place_of u skipped marks (idents_from vs) more ≡ AtBegin → answered u skipped marks (idents_from vs) more ≡ ident_requests vs) → (v : Verdict)
+      by : ((vs : List Wanted) → place_of u skipped marks (idents_from vs) more ≡ AtBegin → AreIdents vs (answered u skipped marks (idents_from vs) more)) → (v : Verdict)
           → place_of u skipped marks (past_mark skipped marks (place_judged u skipped (AtIdent w ws) v)) more ≡ AtBegin
-          → with_good v (bytes_at u (AtIdent w ws)) (answered u skipped marks (past_mark skipped marks (place_judged u skipped (AtIdent w ws) v)) more) ≡ ident_requests (w ∷ ws)
+          → AreIdents (w ∷ ws) (with_good v (bytes_at u (AtIdent w ws)) (answered u skipped marks (past_mark skipped marks (place_judged u skipped (AtIdent w ws) v)) more))
       by ih Later e = ih (w ∷ ws) e
       by ih Again e = ih (w ∷ ws) e
       by ih (Refusal nrc) e = absurd (ended_stays u skipped marks (Refused 34 nrc) more AtBegin e refl)
       by ih (Good rest) e = elim (cases_Bool (has_value w.values rest)) [
         | inl has ↦
-            (let e2 : place_of u skipped marks (past_mark skipped marks (idents_from ws)) more ≡ AtBegin = rw has at e in
-            let e3 : place_of u skipped marks (idents_from ws) more ≡ AtBegin = ap (λ (p : Place). place_of u skipped marks p more) (sym (unmarked ws)) ∙ e2 in
-            rw has (ap (λ (p : Place). bytes_at u (AtIdent w ws) ∷ answered u skipped marks p more) (unmarked ws) ∙ ap (λ (xs : List (List ℕ)). bytes_at u (AtIdent w ws) ∷ xs) (ih ws e3)))
+            (let stays : place_of u skipped marks (past_mark skipped marks (idents_from ws)) more ≡ AtBegin = rw has at e in
+            let again : place_of u skipped marks (idents_from ws) more ≡ AtBegin = ap (λ (p : Place). place_of u skipped marks p more) (sym (unmarked ws)) ∙ stays in
+            let later : AreIdents ws (answered u skipped marks (past_mark skipped marks (idents_from ws)) more) =
+            subst (λ (p : Place). AreIdents ws (answered u skipped marks p more)) (sym (unmarked ws)) (ih ws again) in
+            rw has (exchange (AtIdent w ws) rest, answered u skipped marks (past_mark skipped marks (idents_from ws)) more, refl, refl, has, later))
         | inr has ↦ absurd (ended_stays u skipped marks (IdentMismatch w.did) more AtBegin (rw has at e) refl)
       ]
       by ih (Bad_status status) e = absurd (ended_stays u skipped marks (CheckFailed 65281 (length u.segments) status) more AtBegin e refl)

@@ -2,9 +2,9 @@ ghost use Rattle.std.specs.Prelude.{◌≤◌, length, IfOk};
 ghost use Rattle.flash_plan.specs.Plan.{IsAcceptedUnit, IsKeyRule};
 ghost use Rattle.unit_session.specs.Session.{IsOf};
 
-use crate::{Ask, UnitSession};
+use crate::{Ask, Marks, UnitSession};
 use flash_base::{Bytes, Items, KeyRule, NoMemory, Text, Width};
-use flash_plan::{Outcome, Segment, UnitPlan};
+use flash_plan::{Outcome, Segment, UnitPlan, Wanted};
 use std::alloc::Global;
 use std::process::Abort;
 use std::test::Fail;
@@ -25,6 +25,38 @@ fn unit_of(alloc: Global, key: KeyRule, body: Bytes) -> Result<UnitPlan, NoMemor
         check: 0x0202,
         key,
         idents: Items::new(alloc),
+        after: Items::new(alloc),
+        segments,
+    })
+}
+
+/// The same with `abcd` at 1000 and `efgh` at 2000, and with the value 41 expected of the identifier F190.
+fn pair_of(alloc: Global) -> Result<UnitPlan, NoMemory>
+    ensures { IfOk result IsAcceptedUnit }
+{
+    let mut values = Items::new(alloc);
+    values.push(Bytes::from_slice(alloc, b"\x41")?)?;
+    let mut idents = Items::new(alloc);
+    idents.push(Wanted {
+        did: 0xF190,
+        values,
+    })?;
+    let mut segments = Items::new(alloc);
+    segments.push(Segment {
+        at: 0x1000,
+        body: Bytes::from_slice(alloc, b"abcd")?,
+    })?;
+    segments.push(Segment {
+        at: 0x2000,
+        body: Bytes::from_slice(alloc, b"efgh")?,
+    })?;
+    Ok(UnitPlan {
+        name: Text::from_str(alloc, "A")?,
+        address: 0x1001,
+        width: Width { size: 4, at: 4 },
+        check: 0x0202,
+        key: KeyRule::Free,
+        idents,
         after: Items::new(alloc),
         segments,
     })
@@ -84,12 +116,17 @@ const BLOCK: &[u8] = b"\x36\x01abc";
 
 const DOWNLOAD: &[u8] = b"\x34\x00\x44\x00\x00\x10\x00\x00\x00\x00\x03";
 
+const WHOLE: (&[u8], &[u8]) = (b"\x31\x01\xFF\x01", b"\x71\x01\xFF\x01\x00");
+
+const RESET: (&[u8], &[u8]) = (b"\x11\x01", b"\x51\x01");
+
 /// The eight requests of a unit without a key rule over the bytes `abc`; the digest is that of `sha256sum`.
+/// A loss changes nothing where the segment is to be marked.
 #[test]
 fn smallest_run(rt: HostRuntime) -> Result<(), Fail> {
     let alloc = rt.alloc();
     let unit = unit_of(alloc, KeyRule::Free, Bytes::from_slice(alloc, b"abc")?)?;
-    let mut s = UnitSession::new(true);
+    let mut s = UnitSession::new(true, Marks::none());
     exchanges(
         &rt,
         alloc,
@@ -105,12 +142,68 @@ fn smallest_run(rt: HostRuntime) -> Result<(), Fail> {
                 b"\x31\x01\x02\x02\x44\x00\x00\x10\x00\x00\x00\x00\x03\xba\x78\x16\xbf\x8f\x01\xcf\xea\x41\x41\x40\xde\x5d\xae\x22\x23\xb0\x03\x61\xa3\x96\x17\x7a\x9c\xb4\x10\xff\x61\xf2\x00\x15\xad",
                 b"\x71\x01\x02\x02\x00",
             ),
-            (b"\x31\x01\xFF\x01", b"\x71\x01\xFF\x01\x00"),
-            (b"\x11\x01", b"\x51\x01"),
         ],
     )?;
+    s.lost();
+    assert_eq!(rt; s.next(&unit), Ask::Mark { segment: 0 });
+    s.marked();
+    exchanges(&rt, alloc, &mut s, &unit, &[WHOLE, RESET])?;
     assert_eq!(rt; s.next(&unit), Ask::Done);
     assert_eq!(rt; s.number(), 8);
+    Ok(())
+}
+
+/// Before Begun the identifier is asked for. A segment that is marked is not erased, and with all marked only the
+/// whole is checked.
+#[test]
+fn marked_segments(rt: HostRuntime) -> Result<(), Fail> {
+    let alloc = rt.alloc();
+    let unit = pair_of(alloc)?;
+    let mut s = UnitSession::new(false, Marks::none());
+    exchange(
+        &rt,
+        alloc,
+        &mut s,
+        &unit,
+        b"\x22\xF1\x90",
+        b"\x62\xF1\x90\x41",
+    )?;
+    assert_eq!(rt; s.next(&unit), Ask::Begin);
+    s.begun();
+    exchange(&rt, alloc, &mut s, &unit, PROGRAM, PROGRAMMING)?;
+    let first = Marks::none().with(0);
+    assert_eq!(rt; (first.has(0), first.has(1)), (true, false));
+    let mut s = UnitSession::new(true, first);
+    exchanges(
+        &rt,
+        alloc,
+        &mut s,
+        &unit,
+        &[
+            (PROGRAM, PROGRAMMING),
+            (
+                b"\x31\x01\xFF\x00\x44\x00\x00\x20\x00\x00\x00\x00\x04",
+                ERASED,
+            ),
+            (b"\x34\x00\x44\x00\x00\x20\x00\x00\x00\x00\x04", ROOM),
+            (b"\x36\x01efgh", b"\x76\x01"),
+            (b"\x37", b"\x77"),
+            (
+                b"\x31\x01\x02\x02\x44\x00\x00\x20\x00\x00\x00\x00\x04\xe5\xe0\x88\xa0\xb6\x61\x63\xa0\xa2\x6a\x5e\x05\x3d\x2a\x44\x96\xdc\x16\xab\x6e\x0e\x3d\xd1\xad\xf2\xd1\x6a\xa8\x4a\x07\x8c\x9d",
+                b"\x71\x01\x02\x02\x00",
+            ),
+        ],
+    )?;
+    assert_eq!(rt; s.next(&unit), Ask::Mark { segment: 1 });
+    let mut s = UnitSession::new(true, first.with(1));
+    exchanges(
+        &rt,
+        alloc,
+        &mut s,
+        &unit,
+        &[(PROGRAM, PROGRAMMING), WHOLE, RESET],
+    )?;
+    assert_eq!(rt; s.next(&unit), Ask::Done);
     Ok(())
 }
 
@@ -123,7 +216,7 @@ fn mask_key(rt: HostRuntime) -> Result<(), Fail> {
         mask: Bytes::from_slice(alloc, b"\xFF")?,
     };
     let unit = unit_of(alloc, rule, Bytes::from_slice(alloc, b"abc")?)?;
-    let mut s = UnitSession::new(true);
+    let mut s = UnitSession::new(true, Marks::none());
     exchanges(
         &rt,
         alloc,
@@ -136,7 +229,7 @@ fn mask_key(rt: HostRuntime) -> Result<(), Fail> {
             (ERASE, ERASED),
         ],
     )?;
-    let mut open = UnitSession::new(true);
+    let mut open = UnitSession::new(true, Marks::none());
     exchanges(
         &rt,
         alloc,
@@ -161,7 +254,7 @@ fn digest_key(rt: HostRuntime) -> Result<(), Fail> {
         secret: Bytes::from_slice(alloc, b"ab")?,
     };
     let other = unit_of(alloc, rule, Bytes::from_slice(alloc, b"abc")?)?;
-    let mut digest = UnitSession::new(true);
+    let mut digest = UnitSession::new(true, Marks::none());
     exchanges(
         &rt,
         alloc,
@@ -181,7 +274,7 @@ fn at_block(rt: &impl Abort, alloc: Global, unit: &UnitPlan) -> Result<UnitSessi
     requires { IsAcceptedUnit unit.now }
     ensures { IfOk result (IsOf unit.now) }
 {
-    let mut s = UnitSession::new(true);
+    let mut s = UnitSession::new(true, Marks::none());
     exchanges(
         rt,
         alloc,
@@ -240,6 +333,7 @@ fn a_thousand_ticks(rt: HostRuntime) -> Result<(), Fail> {
     let alloc = rt.alloc();
     let unit = unit_of(alloc, KeyRule::Free, Bytes::from_slice(alloc, b"abc")?)?;
     let mut s = at_block(&rt, alloc, &unit)?;
+    assert_eq!(rt; s.next(&unit), Ask::Send);
     s.sent(5);
     s.quiet(1004);
     assert_eq!(rt; s.next(&unit), Ask::Wait);
@@ -253,7 +347,7 @@ fn a_thousand_ticks(rt: HostRuntime) -> Result<(), Fail> {
 fn no_room(rt: HostRuntime) -> Result<(), Fail> {
     let alloc = rt.alloc();
     let unit = unit_of(alloc, KeyRule::Free, Bytes::from_slice(alloc, b"abc")?)?;
-    let mut s = UnitSession::new(true);
+    let mut s = UnitSession::new(true, Marks::none());
     exchanges(
         &rt,
         alloc,
@@ -292,7 +386,7 @@ fn counters(rt: HostRuntime) -> Result<(), Fail> {
         KeyRule::Free,
         Bytes::from_slice(alloc, &[0x5A; 4800])?,
     )?;
-    let mut s = UnitSession::new(true);
+    let mut s = UnitSession::new(true, Marks::none());
     exchange(&rt, alloc, &mut s, &unit, PROGRAM, PROGRAMMING)?;
     let range = b"\x31\x01\xFF\x00\x44\x00\x00\x10\x00\x00\x00\x12\xC0";
     exchange(&rt, alloc, &mut s, &unit, range, ERASED)?;

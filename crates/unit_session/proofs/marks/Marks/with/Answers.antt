@@ -36,14 +36,14 @@ module _ (words : List ℕ) (s w : ℕ) (is : w ≡ s / 64) (few : w < length wo
     | inr e ↦
         (let other = eqb_false n s e in
         let rest : has_bit (slice_index_or (slice_set words w new) (n / 64) 0) (n % 64) ≡ has_bit (slice_index_or words (n / 64) 0) (n % 64) =
-          elim (cases_Bool (n / 64 == w)) [
-            | inl f ↦
-                (let place : n / 64 ≡ w = eqb-true (n / 64) w f in
-                let apart : n % 64 ≢ s % 64 = λ q. other (omega (arith, q, place, is)) in
-                ap (λ (x : ℕ). has_bit x (n % 64)) (here n place) ∙ ap (λ (b : ℕ). b == 1) (bit_at_set_other w64 old (s % 64) low (n % 64) apart)
-                ∙ ap (λ (k : ℕ). has_bit (slice_index_or words k 0) (n % 64)) (sym place))
-            | inr f ↦ ap (λ (x : ℕ). has_bit x (n % 64)) (get_or-set_other words w (n / 64) new 0 (eqb_false (n / 64) w f))
-          ] in
+        elim (cases_Bool (n / 64 == w)) [
+          | inl f ↦
+              (let place : n / 64 ≡ w = eqb-true (n / 64) w f in
+              let apart : n % 64 ≢ s % 64 = λ q. other (omega (arith, q, place, is)) in
+              ap (λ (x : ℕ). has_bit x (n % 64)) (here n place) ∙ ap (λ (b : ℕ). b == 1) (bit_at_set_other w64 old (s % 64) low (n % 64) apart)
+              ∙ ap (λ (k : ℕ). has_bit (slice_index_or words k 0) (n % 64)) (sym place))
+          | inr f ↦ ap (λ (x : ℕ). has_bit x (n % 64)) (get_or-set_other words w (n / 64) new 0 (eqb_false (n / 64) w f))
+        ] in
         rest ∙ sym (ap (λ (b : Bool). b || has_bit (slice_index_or words (n / 64) 0) (n % 64)) e))
   ]
 

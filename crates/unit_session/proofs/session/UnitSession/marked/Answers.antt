@@ -23,8 +23,8 @@ returns-in-Mark-clause-talk c = λ u k ok of waits.
     let same : n ≡ k = mark_asked u s.awaiting n k next lt (subst (λ (x : Stage). asked s.awaiting (ask_at u (place_at u x)) ≡ ask.Mark k) c.in-Mark.is waits) in
     let marks : has_mark c.with-self.result ≡ with_mark k (has_mark s.marks) = c.with-self.ensures.one (omega (arith, lt, ok.few)) ∙ ap (λ (m : ℕ). with_mark m (has_mark s.marks)) same in
     let place : place_at u c.erase-self.result ≡ place_marked (with_mark k (has_mark s.marks)) (place_at u s.stage) =
-        ap (place_at u) c.erase-self.ensures ∙ marked_place u (has_mark s.marks) n next lt known
-        ∙ (λ i. place_marked (with_mark (same i) (has_mark s.marks)) (place_at u (sym c.in-Mark.is i))) in
+    ap (place_at u) c.erase-self.ensures ∙ marked_place u (has_mark s.marks) n next lt known
+    ∙ (λ i. place_marked (with_mark (same i) (has_mark s.marks)) (place_at u (sym c.in-Mark.is i))) in
     same_talk (talk_of u s) _ _ _ _ place marks
 
 pub returns-in-Mark-clause-of : goal.returns-in-Mark-clause-of
