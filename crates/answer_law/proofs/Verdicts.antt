@@ -6,14 +6,14 @@ use Rattle.std.proofs.lemmas.Bool.Decides.{nat_tests}
 use Rattle.std.proofs.lemmas.List.{take-append-drop, length-take-le, take_at}
 use Rattle.flash_base.specs.Numbers.{number2, number_of}
 use Rattle.uds_codec.specs.declared.request.Request.{Request}
-use Rattle.uds_codec.specs.declared.request.Request.TheVariants.{Session, Seed, Key, ReadId, Routine, Download, Transfer, Exit, Reset}
+use Rattle.uds_codec.specs.declared.request.Request.TheVariants.{Session, Seed, Key, ReadId, Routine, Download, Upload, Transfer, Pull, Exit, Reset, Setting, Messages}
 use Rattle.uds_codec.specs.Answer.{Verdict, Later, Again, Refusal, Good, Bad_status, Strange, judge, negative, negative_of, after_one, seed_form, status_form, routine_form, id_form, block_form, form_of, form_in}
 use Rattle.uds_codec.specs.Form.{HasLength}
 use Rattle.uds_codec.specs.Laws.{Spells}
-use Rattle.uds_codec.specs.Request.{sid_of, request_of}
+use Rattle.uds_codec.specs.Request.{sid_of, request_of, setting_code, messages_code}
 use Rattle.uds_codec.proofs.Decodes.{neq-eqb}
 use Rattle.uds_codec.proofs.Found.{and_true, le_of, eq_of}
-use Rattle.answer_law.specs.Answering.{Answers, EndsWith, Refuses}
+use Rattle.answer_law.specs.Answering.{Answers, AnswersLoad, EndsWith, Refuses}
 
 same : (a b : ℕ) → a ≡ b → (a == b) ≡ true
 same a b e = grind (arith, nat_tests)
@@ -96,8 +96,12 @@ service_of (Seed level) = 39
 service_of (Key level key) = 39
 service_of (Routine id option) = 49
 service_of (Download width at size) = 52
+service_of (Upload width at size) = 53
 service_of (Transfer counter body) = 54
+service_of (Pull counter) = 54
 service_of Exit = 55
+service_of (Setting off) = 133
+service_of (Messages off) = 40
 
 sid_is : (r : Request) (request : List ℕ) → Spells r request → sid_of request ≡ service_of r
 sid_is (Session kind) request s = ap sid_of s.0
@@ -107,8 +111,14 @@ sid_is (Seed level) request s = ap sid_of s.0
 sid_is (Key level key) request s = ap sid_of s.0
 sid_is (Routine id option) request s = ap sid_of s.2
 sid_is (Download width at size) request s = ap sid_of s.2
+sid_is (Upload width at size) request s = ap sid_of s.2
 sid_is (Transfer counter body) request s = ap sid_of s.0
+sid_is (Pull counter) request s = ap sid_of s
 sid_is Exit request s = ap sid_of s
+sid_is (Setting true) request s = ap sid_of s
+sid_is (Setting false) request s = ap sid_of s
+sid_is (Messages true) request s = ap sid_of s
+sid_is (Messages false) request s = ap sid_of s
 
 record OfForm (r : Request) (bytes : List ℕ) (v : Verdict) : Type 0 where
   pub rest : List ℕ
@@ -230,6 +240,11 @@ numbered (digits ∷ xs) more e =
       least = subst (λ (l : List ℕ). 3 ≤ number_of l) all (le_of 3 (number_of (take n xs)) least);
     }
 
+numbered_load : (first : ℕ) (bytes rest more : List ℕ) → bytes ≡ first ∷ rest → block_form rest ≡ Good more → AnswersLoad first bytes more
+numbered_load first bytes rest more is form =
+    let n = numbered rest more form in
+    (n.digits, n.behind, is ∙ ap (λ (l : List ℕ). first ∷ l) n.is, record { said = n.said; some = n.some; few = n.few; least = n.least })
+
 pub good : (r : Request) (request bytes more : List ℕ) → Spells r request → request_of request ≡ Some r → judge request bytes ≡ Good more → Answers r bytes more
 good (Session kind) request bytes more s q e =
     let p = of_form (Session kind) request bytes (Good more) tt s q e in
@@ -259,14 +274,31 @@ good (Routine id option) request bytes more s q e =
     )
 good (Download width at size) request bytes more s q e =
     let p = of_form (Download width at size) request bytes (Good more) tt s q e in
-    let n = numbered p.rest more p.form in
-    (n.digits, n.behind, p.is ∙ ap (λ (l : List ℕ). 116 ∷ l) n.is, record { said = n.said; some = n.some; few = n.few; least = n.least })
+    numbered_load 116 bytes p.rest more p.is p.form
+good (Upload width at size) request bytes more s q e =
+    let p = of_form (Upload width at size) request bytes (Good more) tt s q e in
+    numbered_load 117 bytes p.rest more p.is p.form
 good (Transfer counter body) request bytes more s q e =
     let p = of_form (Transfer counter body) request bytes (Good more) tt s q e in
+    p.is ∙ ap (λ (l : List ℕ). 118 ∷ l) (plain p.rest counter more p.form)
+good (Pull counter) request bytes more s q e =
+    let p = of_form (Pull counter) request bytes (Good more) tt s q e in
     p.is ∙ ap (λ (l : List ℕ). 118 ∷ l) (plain p.rest counter more p.form)
 good Exit request bytes more s q e =
     let p = of_form Exit request bytes (Good more) tt s q e in
     p.is ∙ ap (λ (l : List ℕ). 119 ∷ l) (good_is p.rest more p.form)
+good (Setting true) request bytes more s q e =
+    let p = of_form (Setting true) request bytes (Good more) tt s q e in
+    p.is ∙ ap (λ (l : List ℕ). 197 ∷ l) (plain p.rest 2 more p.form)
+good (Setting false) request bytes more s q e =
+    let p = of_form (Setting false) request bytes (Good more) tt s q e in
+    p.is ∙ ap (λ (l : List ℕ). 197 ∷ l) (plain p.rest 1 more p.form)
+good (Messages true) request bytes more s q e =
+    let p = of_form (Messages true) request bytes (Good more) tt s q e in
+    p.is ∙ ap (λ (l : List ℕ). 104 ∷ l) (plain p.rest 3 more p.form)
+good (Messages false) request bytes more s q e =
+    let p = of_form (Messages false) request bytes (Good more) tt s q e in
+    p.is ∙ ap (λ (l : List ℕ). 104 ∷ l) (plain p.rest 0 more p.form)
 
 judged : (n : ℕ) (r : Request) (request rest : List ℕ) → (n + 64 == 127) ≡ false → sid_of request ≡ n → request_of request ≡ Some r → judge request ((n + 64) ∷ rest) ≡ form_of r rest
 judged n r request rest f s q =
@@ -277,6 +309,19 @@ routine_said : (id hi lo status : ℕ) (more : List ℕ) → id ≡ number2 hi l
 routine_said id hi lo status more pair =
     let t : (number2 hi lo == id) ≡ true = same (number2 hi lo) id (sym pair) in
     rw t refl
+
+load_answers : (n : ℕ) (r : Request) (request bytes more : List ℕ) → (n + 64 == 127) ≡ false → sid_of request ≡ n → request_of request ≡ Some r → ((rest : List ℕ) → form_of r rest ≡ block_form rest)
+    → AnswersLoad (n + 64) bytes more → judge request bytes ≡ Good more
+load_answers n r request bytes more f s q form_is a =
+    let b = a.3 in
+    let said : a.0 / 16 ≡ length more = b.said in
+    let low = le-leb 1 (length more) b.some in
+    let high = le-leb (length more) 8 b.few in
+    let within = le-leb (length more) (length (more ++ a.1)) (omega (arith, length-append more a.1)) in
+    let front : take (length more) (more ++ a.1) ≡ more = take_at more a.1 (length more) refl in
+    let least = le-leb 3 (number_of more) b.least in
+    let form : block_form (a.0 ∷ (more ++ a.1)) ≡ Good more = rw (said, front, low, high, within, least) refl in
+    ap (judge request) a.2 ∙ judged n r request (a.0 ∷ (more ++ a.1)) f s q ∙ form_is (a.0 ∷ (more ++ a.1)) ∙ form
 
 pub answers : (r : Request) (request bytes more : List ℕ) → Spells r request → request_of request ≡ Some r → Answers r bytes more → judge request bytes ≡ Good more
 answers (Session kind) request bytes more s q a =
@@ -303,19 +348,21 @@ answers (Routine id option) request bytes more s q a =
     ∙ judged 49 (Routine id option) request (1 ∷ a.0 ∷ a.1 ∷ 0 ∷ more) refl (sid_is (Routine id option) request s) q
     ∙ routine_said id a.0 a.1 0 more a.3
 answers (Download width at size) request bytes more s q a =
-    let b = a.3 in
-    let said : a.0 / 16 ≡ length more = b.said in
-    let low = le-leb 1 (length more) b.some in
-    let high = le-leb (length more) 8 b.few in
-    let within = le-leb (length more) (length (more ++ a.1)) (omega (arith, length-append more a.1)) in
-    let front : take (length more) (more ++ a.1) ≡ more = take_at more a.1 (length more) refl in
-    let least = le-leb 3 (number_of more) b.least in
-    let form : block_form (a.0 ∷ (more ++ a.1)) ≡ Good more = rw (said, front, low, high, within, least) refl in
-    ap (judge request) a.2 ∙ judged 52 (Download width at size) request (a.0 ∷ (more ++ a.1)) refl (sid_is (Download width at size) request s) q ∙ form
+    load_answers 52 (Download width at size) request bytes more refl (sid_is (Download width at size) request s) q (λ rest. refl) a
+answers (Upload width at size) request bytes more s q a =
+    load_answers 53 (Upload width at size) request bytes more refl (sid_is (Upload width at size) request s) q (λ rest. refl) a
 answers (Transfer counter body) request bytes more s q a =
     let t = same counter counter refl in
     let form : after_one (counter ∷ more) counter Good ≡ Good more = rw t refl in
     ap (judge request) a ∙ judged 54 (Transfer counter body) request (counter ∷ more) refl (sid_is (Transfer counter body) request s) q ∙ form
+answers (Pull counter) request bytes more s q a =
+    let t = same counter counter refl in
+    let form : after_one (counter ∷ more) counter Good ≡ Good more = rw t refl in
+    ap (judge request) a ∙ judged 54 (Pull counter) request (counter ∷ more) refl (sid_is (Pull counter) request s) q ∙ form
+answers (Setting true) request bytes more s q a = ap (judge request) a ∙ judged 133 (Setting true) request (2 ∷ more) refl (sid_is (Setting true) request s) q
+answers (Setting false) request bytes more s q a = ap (judge request) a ∙ judged 133 (Setting false) request (1 ∷ more) refl (sid_is (Setting false) request s) q
+answers (Messages true) request bytes more s q a = ap (judge request) a ∙ judged 40 (Messages true) request (3 ∷ more) refl (sid_is (Messages true) request s) q
+answers (Messages false) request bytes more s q a = ap (judge request) a ∙ judged 40 (Messages false) request (0 ∷ more) refl (sid_is (Messages false) request s) q
 answers Exit request bytes more s q a = ap (judge request) a ∙ judged 55 Exit request more refl (sid_is Exit request s) q
 
 -- ------ a status
@@ -370,9 +417,21 @@ status (Routine id option) request bytes said s q e =
 status (Download width at size) request bytes said s q e =
     let p = of_form (Download width at size) request bytes (Bad_status said) tt s q e in
     block_status said p.rest p.form
+status (Upload width at size) request bytes said s q e =
+    let p = of_form (Upload width at size) request bytes (Bad_status said) tt s q e in
+    block_status said p.rest p.form
 status (Transfer counter body) request bytes said s q e =
     let p = of_form (Transfer counter body) request bytes (Bad_status said) tt s q e in
     after_status p.rest counter said Good (good_status said) p.form
+status (Pull counter) request bytes said s q e =
+    let p = of_form (Pull counter) request bytes (Bad_status said) tt s q e in
+    after_status p.rest counter said Good (good_status said) p.form
+status (Setting off) request bytes said s q e =
+    let p = of_form (Setting off) request bytes (Bad_status said) tt s q e in
+    after_status p.rest (setting_code off) said Good (good_status said) p.form
+status (Messages off) request bytes said s q e =
+    let p = of_form (Messages off) request bytes (Bad_status said) tt s q e in
+    after_status p.rest (messages_code off) said Good (good_status said) p.form
 status Exit request bytes said s q e =
     let p = of_form Exit request bytes (Bad_status said) tt s q e in
     good_status said p.rest p.form
@@ -392,8 +451,12 @@ ends (Routine id option) request bytes said s q a =
     ∙ routine_said id a.0 a.1 said a.2 a.4
     ∙ form
 ends (Download width at size) request bytes said s q a = absurd a
+ends (Upload width at size) request bytes said s q a = absurd a
 ends (Transfer counter body) request bytes said s q a = absurd a
+ends (Pull counter) request bytes said s q a = absurd a
 ends Exit request bytes said s q a = absurd a
+ends (Setting off) request bytes said s q a = absurd a
+ends (Messages off) request bytes said s q a = absurd a
 
 -- ------ negative answers
 after_not_no : (rest : List ℕ) (a : ℕ) (f : List ℕ → Verdict) → ((ys : List ℕ) → NotNo (f ys)) → NotNo (after_one rest a f)
@@ -432,8 +495,12 @@ form_not_no (Seed level) rest = after_not_no rest level seed_form seed_not_no
 form_not_no (Key level key) rest = after_not_no rest (level + 1) Good (λ ys n. n)
 form_not_no (Routine id option) rest = routine_not_no id rest
 form_not_no (Download width at size) rest = block_not_no rest
+form_not_no (Upload width at size) rest = block_not_no rest
 form_not_no (Transfer counter body) rest = after_not_no rest counter Good (λ ys n. n)
+form_not_no (Pull counter) rest = after_not_no rest counter Good (λ ys n. n)
 form_not_no Exit rest = λ n. n
+form_not_no (Setting off) rest = after_not_no rest (setting_code off) Good (λ ys n. n)
+form_not_no (Messages off) rest = after_not_no rest (messages_code off) Good (λ ys n. n)
 
 read_not_no : (o : Option Request) (rest : List ℕ) → NotNo (form_in o rest)
 read_not_no None rest = λ n. n

@@ -1,8 +1,8 @@
 -- Which bytes answer a request, by the rows of the table of services (ISO 14229-1).
-use Rattle.std.specs.Prelude.{◌≡◌, ℕ, ◌+◌, ◌/◌, ◌≤◌, List, [], ◌∷◌, ◌++◌, length}
+use Rattle.std.specs.Prelude.{◌≡◌, ℕ, ◌+◌, ◌/◌, ◌≤◌, true, false, List, [], ◌∷◌, ◌++◌, length}
 use Rattle.flash_base.specs.Numbers.{number_of}
 use Rattle.uds_codec.specs.declared.request.Request.{Request}
-use Rattle.uds_codec.specs.declared.request.Request.TheVariants.{Session, Seed, Key, ReadId, Routine, Download, Transfer, Exit, Reset}
+use Rattle.uds_codec.specs.declared.request.Request.TheVariants.{Session, Seed, Key, ReadId, Routine, Download, Upload, Transfer, Pull, Exit, Reset, Setting, Messages}
 use Rattle.uds_codec.specs.Answer.{Later, Again, Refusal, Good, Bad_status, judge}
 use Rattle.uds_codec.specs.Form.{HasLength}
 use Rattle.uds_codec.specs.Laws.{IsPair, Spells}
@@ -15,6 +15,10 @@ pub record IsBlockNumber (digits : ℕ) (number : List ℕ) : Type 0 where
   pub few : length number ≤ 8
   pub least : 3 ≤ number_of number
 
+-- the answer to a download or an upload: its first byte, and the bytes of the number
+abbrev pub AnswersLoad : ℕ → List ℕ → List ℕ → Type 0
+AnswersLoad first bytes number = (digits : ℕ) × (rest : List ℕ) × (bytes ≡ first ∷ digits ∷ (number ++ rest)) × IsBlockNumber digits number
+
 -- The bytes answer the request positively, and this is what they say beyond the form.
 abbrev pub Answers : Request → List ℕ → List ℕ → Type 0
 Answers (Session kind) bytes more = bytes ≡ 80 ∷ kind ∷ more
@@ -23,9 +27,15 @@ Answers (ReadId did) bytes more = (hi : ℕ) × (lo : ℕ) × (bytes ≡ 98 ∷ 
 Answers (Seed level) bytes more = (bytes ≡ 103 ∷ level ∷ more) × HasLength 1 32 more
 Answers (Key level key) bytes more = bytes ≡ 103 ∷ (level + 1) ∷ more
 Answers (Routine id option) bytes more = (hi : ℕ) × (lo : ℕ) × (bytes ≡ 113 ∷ 1 ∷ hi ∷ lo ∷ 0 ∷ more) × IsPair hi lo id
-Answers (Download width at size) bytes more = (digits : ℕ) × (rest : List ℕ) × (bytes ≡ 116 ∷ digits ∷ (more ++ rest)) × IsBlockNumber digits more
+Answers (Download width at size) bytes more = AnswersLoad 116 bytes more
+Answers (Upload width at size) bytes more = AnswersLoad 117 bytes more
 Answers (Transfer counter body) bytes more = bytes ≡ 118 ∷ counter ∷ more
+Answers (Pull counter) bytes more = bytes ≡ 118 ∷ counter ∷ more
 Answers Exit bytes more = bytes ≡ 119 ∷ more
+Answers (Setting true) bytes more = bytes ≡ 197 ∷ 2 ∷ more
+Answers (Setting false) bytes more = bytes ≡ 197 ∷ 1 ∷ more
+Answers (Messages true) bytes more = bytes ≡ 104 ∷ 3 ∷ more
+Answers (Messages false) bytes more = bytes ≡ 104 ∷ 0 ∷ more
 
 -- The bytes say that the routine ended with this status, which is not 0.
 abbrev pub EndsWith : Request → List ℕ → ℕ → Type 0
@@ -37,8 +47,12 @@ EndsWith (ReadId did) bytes status = ⊥
 EndsWith (Seed level) bytes status = ⊥
 EndsWith (Key level key) bytes status = ⊥
 EndsWith (Download width at size) bytes status = ⊥
+EndsWith (Upload width at size) bytes status = ⊥
 EndsWith (Transfer counter body) bytes status = ⊥
+EndsWith (Pull counter) bytes status = ⊥
 EndsWith Exit bytes status = ⊥
+EndsWith (Setting off) bytes status = ⊥
+EndsWith (Messages off) bytes status = ⊥
 
 -- The bytes refuse the request's service with this code.
 abbrev pub Refuses : List ℕ → List ℕ → ℕ → Type 0
