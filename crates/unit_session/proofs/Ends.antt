@@ -1,12 +1,12 @@
 -- What ends a conversation has its cause.
-use Rattle.std.proofs.Common.{◌≡◌, ◌⊎◌, inl, inr, ℕ, ◌+◌, ◌/◌, ◌≤◌, true, false, List, [], ◌∷◌, ◌++◌, length, take, Some, None, refl, sym, ◌∙◌, ap, subst, arith}
+use Rattle.std.proofs.Common.{◌≡◌, ◌⊎◌, inl, inr, ℕ, ◌+◌, ◌/◌, ◌≤◌, true, false, List, [], ◌∷◌, ◌++◌, length, take, Some, None, refl, sym, ◌∙◌, ap, subst}
 use Rattle.std.specs.Prelude.{Bool, Option, ◌==◌, ◌&&◌, nat_le, min, if◌then◌else◌}
 use Rattle.std.proofs.lemmas.Bool.{cases_Bool, false≢true, eqb-true, leb-true}
 use Rattle.flash_base.specs.Numbers.{number2, number_of}
 use Rattle.flash_base.specs.declared.unit.KeyRule.{KeyRule}
 use Rattle.flash_base.specs.declared.unit.KeyRule.TheVariants.{Free, Xor, Digest}
 use Rattle.flash_plan.specs.declared.outcome.Outcome.{Outcome}
-use Rattle.flash_plan.specs.declared.outcome.Outcome.TheVariants.{NoMemory, IdentMismatch, Refused, BadAnswer, CheckFailed, Undelivered, NoAnswer, PendingLimit, BusyLimit}
+use Rattle.flash_plan.specs.declared.outcome.Outcome.TheVariants.{NoMemory, IdentMismatch, Refused, BadAnswer, CheckFailed, NoAnswer, PendingLimit, BusyLimit}
 use Rattle.flash_plan.specs.declared.unit.Segment.{Segment}
 use Rattle.flash_plan.specs.declared.unit.UnitPlan.{UnitPlan}
 use Rattle.flash_plan.specs.declared.unit.Wanted.{Wanted}
@@ -18,7 +18,7 @@ use Rattle.uds_codec.specs.Key.{all_zero}
 use Rattle.uds_codec.specs.Request.{request_of, sid_of, setting_code, messages_code}
 use Rattle.uds_codec.specs.declared.request.Request.{Request}
 use Rattle.uds_codec.specs.declared.request.Request.TheVariants.{Session, Reset, ReadId, Seed, Key, Routine, Download, Upload, Transfer, Pull, Exit, Setting, Messages}
-use Rattle.unit_session.specs.Ends.{AnswerEnds, IsOther, EndsAreCaused}
+use Rattle.unit_session.specs.Ends.{AnswerEnds, EndsAreCaused}
 
 -- ------ what an answer may be judged as
 abbrev IsForm : Verdict → Type 0

@@ -1,17 +1,16 @@
 -- What each answer leads to, by the numbers of a session.
-use Rattle.std.proofs.Common.{◌≡◌, inl, inr, ℕ, zero, suc, ◌+◌, ◌-◌, ◌<◌, ◌≤◌, true, false, List, [], ◌∷◌, ◌++◌, length, take, drop, Some, None, refl, sym, ◌∙◌, ap, subst, arith, slice_get, length-take, length-append, add-one, take-suc, drop-cons}
+use Rattle.std.proofs.Common.{◌≡◌, inl, inr, ℕ, zero, suc, ◌+◌, ◌-◌, ◌<◌, ◌≤◌, true, false, List, [], ◌∷◌, ◌++◌, length, take, drop, Some, None, refl, sym, ◌∙◌, ap, subst, arith, slice_get, length-take, add-one, take-suc, drop-cons}
 use Rattle.std.specs.Prelude.{Bool, Option, ◌==◌, ◌&&◌, nat_le, nat_lt, if◌then◌else◌, slice_index_or}
 use Rattle.std.proofs.lemmas.Bool.{cases_Bool, cases_lt, lt-ltb, le-ltb, false≢true}
 use Rattle.std.proofs.lemmas.List.{drop_all}
 use Rattle.flash_base.specs.Numbers.{big_endian}
-use Rattle.flash_base.specs.declared.unit.KeyRule.{KeyRule}
-use Rattle.flash_base.specs.declared.unit.KeyRule.TheVariants.{Free, Xor, Digest}
+use Rattle.flash_base.specs.declared.unit.KeyRule.TheVariants.{Free}
 use Rattle.flash_plan.specs.Plan.{IsAcceptedUnit, size_of, no_segment, segment_of}
 use Rattle.flash_plan.specs.declared.outcome.Outcome.TheVariants.{IdentMismatch, BadAnswer, CheckFailed}
 use Rattle.flash_plan.specs.declared.unit.Segment.{Segment}
 use Rattle.flash_plan.specs.declared.unit.UnitPlan.{UnitPlan}
 use Rattle.flash_plan.specs.declared.unit.Wanted.{Wanted}
-use Rattle.run_model.specs.Script.{Blocks, Place, AtIdent, AtErase, AtEnd, request_at, bytes_at, place_judged, place_next, routine_at, idents_from, segments_from, after_program, more_blocks, is_empty, has_value}
+use Rattle.run_model.specs.Script.{Blocks, Place, AtIdent, AtEnd, request_at, bytes_at, place_judged, place_next, routine_at, idents_from, segments_from, after_program, more_blocks, is_empty, has_value}
 use Rattle.uds_codec.specs.Answer.{Verdict, Good, Bad_status, Strange, form_in, routine_form, seed_form}
 use Rattle.uds_codec.specs.Key.{level_of, all_zero}
 use Rattle.uds_codec.specs.Request.{sid_of}

@@ -1,8 +1,7 @@
 -- The end of a script is reached through the whole of it.
-use Rattle.std.proofs.Common.{◌≡◌, ◌⊎◌, inl, inr, ℕ, ◌+◌, ◌-◌, ◌≤◌, true, false, List, [], ◌∷◌, ◌++◌, length, drop, Some, refl, sym, ◌∙◌, ap, subst, arith, length-take, length-append}
+use Rattle.std.proofs.Common.{◌≡◌, inl, inr, ℕ, ◌+◌, ◌-◌, true, false, List, [], ◌∷◌, ◌++◌, length, drop, Some, refl, sym, ◌∙◌, ap, subst, length-append}
 use Rattle.std.specs.Prelude.{Bool, Option, ◌==◌, min}
 use Rattle.std.proofs.lemmas.Bool.{cases_Bool, false≢true, both_ways}
-use Rattle.std.proofs.lemmas.List.{take-append-drop}
 use Rattle.flash_base.specs.Numbers.{number_of}
 use Rattle.flash_base.specs.declared.unit.KeyRule.{KeyRule}
 use Rattle.flash_base.specs.declared.unit.KeyRule.TheVariants.{Free, Xor, Digest}
@@ -14,9 +13,9 @@ use Rattle.flash_plan.specs.declared.unit.UnitPlan.{UnitPlan}
 use Rattle.flash_plan.specs.declared.unit.Wanted.{Wanted}
 use Rattle.run_model.proofs.Along.{IsGoodPlace, goes, start_good, marked_good}
 use Rattle.run_model.specs.Places.{needs_request}
-use Rattle.run_model.specs.Script.{Cursor, Blocks, Place, AtIdent, AtBegin, AtProgram, AtSeed, AtKey, AtErase, AtDownload, AtBlock, AtExit, AtCheck, AtMark, AtFinish, AtReset, AtDone, AtEnd, bytes_at, place_judged, place_next, place_marked, past_mark, place_of, routine_at, idents_from, segments_from, after_program, more_blocks, after_block, block_of, is_empty, has_value}
+use Rattle.run_model.specs.Script.{Cursor, Blocks, Place, AtIdent, AtBegin, AtProgram, AtSeed, AtKey, AtErase, AtDownload, AtBlock, AtExit, AtCheck, AtMark, AtFinish, AtReset, AtDone, AtEnd, bytes_at, place_judged, place_next, past_mark, place_of, routine_at, idents_from, segments_from, after_program, more_blocks, after_block, is_empty, has_value}
 use Rattle.uds_codec.specs.Answer.{Verdict, Later, Again, Refusal, Good, Bad_status, Strange, judge, negative_of}
-use Rattle.uds_codec.specs.Key.{key_of, level_of, all_zero}
+use Rattle.uds_codec.specs.Key.{level_of, all_zero}
 use Rattle.uds_codec.specs.Request.{sid_of}
 use Rattle.unit_model.proofs.Steps.{negative_bad}
 use Rattle.unit_model.specs.Step.{is_good}
@@ -183,6 +182,15 @@ module _ (u : UnitPlan) (skipped marks : ℕ → Bool) where
   opened (Xor level mask) rest rs key is = locked level rest rs (ap level_of key) is
   opened (Digest level size secret) rest rs key is = locked level rest rs (ap level_of key) is
 
+  keyed : (level : ℕ) (rest : List ℕ) (rs : List Exchange) → all_zero rest ≡ false → Remains (AtKey level rest) rs → Unlocks u skipped level (exchange (AtSeed level) rest ∷ rs)
+  keyed level rest rs some (keys, parts, eq, sent, segments) = record {
+    keys = exchange (AtSeed level) rest ∷ keys;
+    parts = parts;
+    all = ap (λ (xs : List Exchange). exchange (AtSeed level) rest ∷ xs) eq;
+    unlocked = record { asked = exchange (AtSeed level) rest; more = keys; all = refl; asks = refl; key = rw some sent };
+    segments = segments;
+  }
+
   seeded : (level : ℕ) (rest : List ℕ) (rs : List Exchange) → Remains (place_next u skipped (AtSeed level) rest) rs → Unlocks u skipped level (exchange (AtSeed level) rest ∷ rs)
   seeded level rest rs is = elim (cases_Bool (all_zero rest)) [
     | inl e ↦ record {
@@ -192,15 +200,7 @@ module _ (u : UnitPlan) (skipped marks : ℕ → Bool) where
       unlocked = record { asked = exchange (AtSeed level) rest; more = []; all = refl; asks = refl; key = rw e refl };
       segments = from_segments [] u.segments rs (rw e at is);
     }
-    | inr e ↦
-        (let (keys, parts, eq, sent, segments) : Remains (AtKey level rest) rs = rw e at is in
-        record {
-          keys = exchange (AtSeed level) rest ∷ keys;
-          parts = parts;
-          all = ap (λ (xs : List Exchange). exchange (AtSeed level) rest ∷ xs) eq;
-          unlocked = record { asked = exchange (AtSeed level) rest; more = keys; all = refl; asks = refl; key = rw e sent };
-          segments = segments;
-        })
+    | inr e ↦ keyed level rest rs e (rw e at is)
   ]
 
   more_remains : (c : Cursor) (b : Blocks) (rs : List Exchange) → Remains (more_blocks c b) rs → Remains (AtBlock c b) rs

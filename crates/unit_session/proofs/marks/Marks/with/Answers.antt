@@ -1,4 +1,4 @@
-use Rattle.std.proofs.Common.{ℕ, ◌≡◌, ◌≢◌, inl, inr, ◌+◌, ◌*◌, ◌/◌, ◌%◌, ◌^◌, ◌<◌, true, false, List, length, w64, rules, refl, sym, ◌∙◌, ap, arith}
+use Rattle.std.proofs.Common.{ℕ, ◌≡◌, ◌≢◌, inl, inr, ◌*◌, ◌/◌, ◌%◌, ◌^◌, ◌<◌, false, List, length, w64, rules, sym, ◌∙◌, ap, arith}
 use Rattle.std.specs.Prelude.{Bool, ◌==◌, ◌||◌, slice_index_or, slice_set, bit_or}
 use Rattle.std.proofs.lemmas.Bool.{cases_Bool, eqb-true, eq-eqb, false≢true}
 use Rattle.std.proofs.lemmas.List.{get_or-set_same, get_or-set_other}

@@ -1,11 +1,9 @@
 use Rattle.std.proofs.Common.{ℕ, ◌≡◌, ◌+◌, ◌<◌, ◌≤◌, true, length, sym, ◌∙◌, ap, subst, arith}
-use Rattle.std.specs.Prelude.{Bool, Option}
 use Rattle.std.proofs.lemmas.Bool.{false≢true}
 use Rattle.run_model.specs.Entries.{with_mark}
 use Rattle.run_model.specs.Places.{needs_request}
-use Rattle.run_model.specs.Script.{Place, ask_at, place_marked}
+use Rattle.run_model.specs.Script.{ask_at, place_marked}
 use Rattle.unit_session.specs.Left.{requests_left}
-use Rattle.unit_session.specs.Onward.{erase_next}
 use Rattle.unit_session.specs.Session.{place_at, has_mark, talk_of, asked, open_from, IsStage, KnowsNext}
 use Rattle.unit_session.specs.declared.session.Ask.TheVariants as ask
 use Rattle.unit_session.specs.declared.stage.Stage.{Stage}
