@@ -90,22 +90,12 @@ module _ (one : FilesGiveOneAnswer) (files : List (List ℕ × List ℕ)) (name 
   pub shelf_too : (r : Result Built BuildFault) → built files name r → IsShelf r → Rises f f' ⊎ (s ≡ status.Shelf) ⊎ (s ≡ status.NoMemory)
   shelf_too r is h = shelf_by r h (compared one files name f f' g r told is (shelf_some r h))
 
--- a refusal is never `Done`, and an accepted order is refused for want of memory alone
+-- a refusal is never `Done`
 pub never_done : (e : BuildFault) (s : Status) → (s ≡ status.NoMemory) ⊎ (s ≡ status_of e) → s ≡ status.Done → ⊥
 never_done e s (inl m) is = cc
 never_done (Shelf name why) s (inr d) is = cc
 never_done (Input name cause) s (inr d) is = cc
 never_done NoMemory s (inr d) is = cc
-
-module _ (f f' : ℕ) (e : BuildFault) (s : Status) (d : Decides (Err e) s) (none : Rises f f' → ⊥) where
-  starved_by : (b : Built) → Compares f f' (Err e) (Ok b) → s ≡ status.NoMemory
-  starved_by b (inl m) = starved s (subst (λ (x : Result Built BuildFault). Decides x s) m d)
-  starved_by b (inr (inl h)) = absurd (none h)
-  starved_by b (inr (inr h)) = absurd cc
-
-  pub only_starved : (one : FilesGiveOneAnswer) (files : List (List ℕ × List ℕ)) (name : List ℕ) (b : Built)
-      → (let g : Result Built BuildFault = Err e in (g ≡ Err NoMemory) ⊎ Rises f f' ⊎ built files name g) → built files name (Ok b) → s ≡ status.NoMemory
-  only_starved one files name b told is = starved_by b (compared one files name f f' (Err e) (Ok b) told is (λ x. absurd cc))
 
 -- ------ the cause of a refusal, with its line
 -- some answer with G is an input refusal, and its line is printed

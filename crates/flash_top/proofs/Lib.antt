@@ -2,5 +2,4 @@ pub mod Answers
 pub mod Closes
 pub mod Pieces
 pub mod Refusals
-pub mod Sounds
 pub mod WordForms

@@ -12,16 +12,12 @@ ghost use Rattle.plan_commands.specs.Answering.{answered, refused, shown_for};
 ghost use Rattle.plan_commands.specs.Serving.{usage, IsPlainStatus, IsPrinted, IsServed, IsStarved};
 ghost use Rattle.plan_commands.specs.Words.{command_of, order_of};
 ghost use Rattle.plan_commands.specs.declared.words.Command.{Command};
-ghost use Rattle.run_model.specs.Matching.{Matches};
-ghost use Rattle.run_model.specs.Sound.{IsFinalVehicle};
-ghost use Rattle.run_model.specs.Troubles.{IsUntroubled};
+ghost use Rattle.run_model.specs.Troubles.{IsVehicleCalm};
 ghost use Rattle.run_report.specs.Report.{report_text};
 ghost use Rattle.run_report.specs.Refusing.{refusal_line};
 ghost use Rattle.shop_model.specs.History.{disk_now, vehicle_now};
 ghost use Rattle.thin_engine.specs.Later.{IsUnchanged};
 ghost use Rattle.thin_engine.specs.Recorded.{RecordsBoth};
-ghost use Rattle.thin_engine.specs.Sounding.{KeepsSound};
-ghost use Rattle.thin_engine.specs.Undisturbed.{IsPlainRun, none_recorded};
 ghost use Rattle.flash_top.specs.Printing.{IsBefore, Says};
 ghost use Rattle.flash_top.specs.Running.{is_served, refused_line, Gave, IsInput, IsShelf};
 ghost use Rattle.flash_top.specs.Words.{run_order};
@@ -97,10 +93,6 @@ pub fn flash_plain<R: Threads + Sync, F: Shelf, S: Shop, K: Sink>(
 /// 256 bytes; any other plan is refused with `input ORDER not yet`, behind every other refusal of
 /// the files. The shop is handed back with what became of it. Nothing is written to disk or vehicle
 /// before a plan was accepted.
-///
-/// The clauses on a run that nothing disturbs have one premise beside the counts that did not rise
-/// (`IsPlainRun`): on a connection that is dialed in the run the vehicle sends no response pending
-/// and no alive check request, since the engine for one unit serves neither and ends the run there.
 pub fn flash<R: Threads + Wait + Sync, F: Shelf, S: Shop + Send, K: Sink>(
     rt: &R,
     alloc: Global,
@@ -160,12 +152,6 @@ pub fn flash<R: Threads + Wait + Sync, F: Shelf, S: Shop + Send, K: Sink>(
     // What is refused before a run leaves disk and vehicle as they were.
     ensures refused { IsBefore result.1 → IsUnchanged (S.history shop) (S.history result.0) }
 
-    // Where the records of whatever a crash leaves of the disk fit the vehicle at entry, they do at each moment, as long as each
-    // receive was shown: whatever the status is.
-    ensures sound { IsTrue F.tells → IsTrue S.tells_disk → IsTrue S.tells_vehicle
-        → (order : List ℕ) (b : Built) → run_order (map string_bytes words.now) ≡ Some order → built (F.contents shelf.old) order (Ok b)
-        → ¬ Rises (F.faults shelf.old) (F.faults shelf.new) → KeepsSound b.plan (S.history shop) (S.history result.0) }
-
     // At `Done` whatever a crash leaves of the disk records that the unit is begun and complete, and the report was printed.
     ensures done { IsTrue F.tells → IsTrue K.tells → result.1 ≡ Status.Done
         → (order : List ℕ) (b : Built) → run_order (map string_bytes words.now) ≡ Some order → built (F.contents shelf.old) order (Ok b)
@@ -173,23 +159,11 @@ pub fn flash<R: Threads + Wait + Sync, F: Shelf, S: Shop + Send, K: Sink>(
         → (IsTrue S.tells_disk → RecordsBoth (label_of b.plan) (disk_now (S.history result.0)))
         × (K.written out.new ≡ K.written out.old ++ report_text b.plan (outcome.Complete ∷ [])) }
 
-    // Where no call and no shelf or sink fails, the vehicle departs from nothing, sends no response pending and no alive check
-    // request, and its unit fits, the unit of an accepted order that is served is programmed, recorded in the empty journal and
-    // reported, but for want of memory.
-    ensures complete { IsTrue F.tells → IsTrue S.tells_disk → IsTrue S.tells_vehicle → IsTrue K.tells
-        → (order : List ℕ) (b : Built) → run_order (map string_bytes words.now) ≡ Some order → built (F.contents shelf.old) order (Ok b) → is_served b ≡ true
-        → (disk_now (S.history shop)).bytes ≡ [] → Matches b.plan none_recorded (vehicle_now (S.history shop))
-        → ¬ Rises (F.faults shelf.old) (F.faults shelf.new) → ¬ Rises (K.faults out.old) (K.faults out.new)
-        → IsUntroubled (S.history shop) (S.history result.0) → IsPlainRun (S.history shop) (S.history result.0)
-        → (result.1 ≡ Status.NoMemory) ⊎ (result.1 ≡ Status.Done)
-        × IsFinalVehicle b.plan (vehicle_now (S.history shop)) (vehicle_now (S.history result.0))
-        × RecordsBoth (label_of b.plan) (disk_now (S.history result.0))
-        × (K.written out.new ≡ K.written out.old ++ report_text b.plan (outcome.Complete ∷ [])) }
-    // And the gateway is activated for the order's tester.
+    // Where the gateway denied no activation and answered each in time, it is activated then for the order's tester.
     ensures tester { IsTrue F.tells → IsTrue S.tells_vehicle
         → (order : List ℕ) (b : Built) → run_order (map string_bytes words.now) ≡ Some order → built (F.contents shelf.old) order (Ok b)
-        → Matches b.plan none_recorded (vehicle_now (S.history shop)) → ¬ Rises (F.faults shelf.old) (F.faults shelf.new)
-        → IsUntroubled (S.history shop) (S.history result.0) → IsPlainRun (S.history shop) (S.history result.0)
+        → ¬ Rises (F.faults shelf.old) (F.faults shelf.new)
+        → IsVehicleCalm (vehicle_now (S.history shop)) (vehicle_now (S.history result.0))
         → result.1 ≡ Status.Done → (vehicle_now (S.history result.0)).gateway.active ≡ Some b.order.tester }
 {
     let mut shop = shop;

@@ -83,8 +83,6 @@ fn print_report<K: Sink>(alloc: Global, out: &mut K, plan: &Plan, outcome: Outco
     ensures sink { result ≡ Status.Sink → Rises (K.faults out.old) (K.faults out.new) }
     ensures done { result ≡ Status.Done → outcome ≡ Outcome.Complete }
     ensures units { result ≡ Status.Units → outcome ≢ Outcome.Complete }
-    ensures starved { outcome ≡ Outcome.NoMemory → result ≡ Status.NoMemory }
-    ensures complete { outcome ≡ Outcome.Complete → (result ≡ Status.NoMemory) ⊎ (result ≡ Status.Sink) ⊎ (result ≡ Status.Done) }
     ensures printed { Prints K.tells (K.written out.old) (K.written out.new) (K.faults out.old) (K.faults out.new) (report_text plan.now (outcome ∷ [])) result }
 {
     let Ok(text) = one_report(alloc, plan, outcome) else {
@@ -108,10 +106,7 @@ pub fn finish<K: Sink>(alloc: Global, out: &mut K, plan: &Plan, ended: Ended) ->
     ensures sink { result ≡ Status.Sink → Rises (K.faults out.old) (K.faults out.new) }
     ensures done { result ≡ Status.Done → ended ≡ Ended.Ran Outcome.Complete }
     ensures units { result ≡ Status.Units → ended ≢ Ended.Ran Outcome.Complete }
-    ensures starved { ended ≡ Ended.Ran Outcome.NoMemory → result ≡ Status.NoMemory }
-    ensures complete { ended ≡ Ended.Ran Outcome.Complete → (result ≡ Status.NoMemory) ⊎ (result ≡ Status.Sink) ⊎ (result ≡ Status.Done) }
     ensures journal { ended ≡ Ended.NotEmpty → result ≡ Status.Journal }
-    ensures no_memory { ended ≡ Ended.NoMemory → result ≡ Status.NoMemory }
     ensures printed { IsFinished K.tells (K.written out.old) (K.written out.new) (K.faults out.old) (K.faults out.new) plan.now ended result }
 {
     match ended {

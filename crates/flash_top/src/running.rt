@@ -8,16 +8,12 @@ ghost use Rattle.journal_model.specs.Records.{label_of};
 ghost use Rattle.plan_build.specs.Building.{built};
 ghost use Rattle.plan_build.specs.declared.built.Built.{Built};
 ghost use Rattle.plan_build.specs.declared.fault.BuildFault.{BuildFault};
-ghost use Rattle.run_model.specs.Matching.{Matches};
-ghost use Rattle.run_model.specs.Sound.{IsFinalVehicle};
-ghost use Rattle.run_model.specs.Troubles.{IsUntroubled};
+ghost use Rattle.run_model.specs.Troubles.{IsVehicleCalm};
 ghost use Rattle.run_report.specs.Report.{report_text};
 ghost use Rattle.run_report.specs.Refusing.{refusal_line};
 ghost use Rattle.shop_model.specs.History.{disk_now, vehicle_now};
 ghost use Rattle.thin_engine.specs.Later.{IsUnchanged};
 ghost use Rattle.thin_engine.specs.Recorded.{RecordsBoth};
-ghost use Rattle.thin_engine.specs.Sounding.{KeepsSound};
-ghost use Rattle.thin_engine.specs.Undisturbed.{IsPlainRun, none_recorded};
 ghost use Rattle.flash_top.specs.Printing.{IsBefore, Says};
 ghost use Rattle.flash_top.specs.Running.{is_served, not_yet_line, refused_line, Gave, IsInput, IsShelf};
 
@@ -49,20 +45,11 @@ fn run_built<S: Shop, K: Sink>(
     ensures disk { result ≡ Status.Disk → Rises (S.history shop.old).disk_faults (S.history shop.new).disk_faults }
     ensures sink { result ≡ Status.Sink → Rises (K.faults out.old) (K.faults out.new) }
     ensures refused { IsBefore result → IsUnchanged (S.history shop.old) (S.history shop.new) }
-    ensures sound { IsTrue S.tells_disk → IsTrue S.tells_vehicle → KeepsSound built.now.plan (S.history shop.old) (S.history shop.new) }
     ensures done { IsTrue K.tells → result ≡ Status.Done → ¬ Rises (K.faults out.old) (K.faults out.new)
         → (IsTrue S.tells_disk → RecordsBoth (label_of built.now.plan) (disk_now (S.history shop.new)))
         × (K.written out.new ≡ K.written out.old ++ report_text built.now.plan (outcome.Complete ∷ [])) }
-    ensures complete { IsTrue S.tells_disk → IsTrue S.tells_vehicle → IsTrue K.tells → is_served built.now ≡ true
-        → (disk_now (S.history shop.old)).bytes ≡ [] → Matches built.now.plan none_recorded (vehicle_now (S.history shop.old))
-        → ¬ Rises (K.faults out.old) (K.faults out.new)
-        → IsUntroubled (S.history shop.old) (S.history shop.new) → IsPlainRun (S.history shop.old) (S.history shop.new)
-        → (result ≡ Status.NoMemory) ⊎ (result ≡ Status.Done)
-        × IsFinalVehicle built.now.plan (vehicle_now (S.history shop.old)) (vehicle_now (S.history shop.new))
-        × RecordsBoth (label_of built.now.plan) (disk_now (S.history shop.new))
-        × (K.written out.new ≡ K.written out.old ++ report_text built.now.plan (outcome.Complete ∷ [])) }
-    ensures tester { IsTrue S.tells_vehicle → Matches built.now.plan none_recorded (vehicle_now (S.history shop.old))
-        → IsUntroubled (S.history shop.old) (S.history shop.new) → IsPlainRun (S.history shop.old) (S.history shop.new)
+    ensures tester { IsTrue S.tells_vehicle
+        → IsVehicleCalm (vehicle_now (S.history shop.old)) (vehicle_now (S.history shop.new))
         → result ≡ Status.Done → (vehicle_now (S.history shop.new)).gateway.active ≡ Some built.now.order.tester }
 {
     if !is_first_form(built.order.relinks, &built.plan) {
@@ -102,27 +89,14 @@ pub fn run<F: Shelf, S: Shop, K: Sink>(
     ensures disk { result ≡ Status.Disk → Rises (S.history shop.old).disk_faults (S.history shop.new).disk_faults }
     ensures sink { result ≡ Status.Sink → Rises (K.faults out.old) (K.faults out.new) }
     ensures refused { IsBefore result → IsUnchanged (S.history shop.old) (S.history shop.new) }
-    ensures sound { IsTrue F.tells → IsTrue S.tells_disk → IsTrue S.tells_vehicle
-        → (b : Built) → built (F.contents shelf.old) order.now (Ok b) → ¬ Rises (F.faults shelf.old) (F.faults shelf.new)
-        → KeepsSound b.plan (S.history shop.old) (S.history shop.new) }
     ensures done { IsTrue F.tells → IsTrue K.tells → result ≡ Status.Done
         → (b : Built) → built (F.contents shelf.old) order.now (Ok b)
         → ¬ Rises (F.faults shelf.old) (F.faults shelf.new) → ¬ Rises (K.faults out.old) (K.faults out.new)
         → (IsTrue S.tells_disk → RecordsBoth (label_of b.plan) (disk_now (S.history shop.new)))
         × (K.written out.new ≡ K.written out.old ++ report_text b.plan (outcome.Complete ∷ [])) }
-    ensures complete { IsTrue F.tells → IsTrue S.tells_disk → IsTrue S.tells_vehicle → IsTrue K.tells
-        → (b : Built) → built (F.contents shelf.old) order.now (Ok b) → is_served b ≡ true
-        → (disk_now (S.history shop.old)).bytes ≡ [] → Matches b.plan none_recorded (vehicle_now (S.history shop.old))
-        → ¬ Rises (F.faults shelf.old) (F.faults shelf.new) → ¬ Rises (K.faults out.old) (K.faults out.new)
-        → IsUntroubled (S.history shop.old) (S.history shop.new) → IsPlainRun (S.history shop.old) (S.history shop.new)
-        → (result ≡ Status.NoMemory) ⊎ (result ≡ Status.Done)
-        × IsFinalVehicle b.plan (vehicle_now (S.history shop.old)) (vehicle_now (S.history shop.new))
-        × RecordsBoth (label_of b.plan) (disk_now (S.history shop.new))
-        × (K.written out.new ≡ K.written out.old ++ report_text b.plan (outcome.Complete ∷ [])) }
     ensures tester { IsTrue F.tells → IsTrue S.tells_vehicle
-        → (b : Built) → built (F.contents shelf.old) order.now (Ok b)
-        → Matches b.plan none_recorded (vehicle_now (S.history shop.old)) → ¬ Rises (F.faults shelf.old) (F.faults shelf.new)
-        → IsUntroubled (S.history shop.old) (S.history shop.new) → IsPlainRun (S.history shop.old) (S.history shop.new)
+        → (b : Built) → built (F.contents shelf.old) order.now (Ok b) → ¬ Rises (F.faults shelf.old) (F.faults shelf.new)
+        → IsVehicleCalm (vehicle_now (S.history shop.old)) (vehicle_now (S.history shop.new))
         → result ≡ Status.Done → (vehicle_now (S.history shop.new)).gateway.active ≡ Some b.order.tester }
 {
     files_give_one_answer();

@@ -144,9 +144,7 @@ fn lines_spell(text: &str, bodies: &[Bytes]) -> bool {
 
 /// Whether the region begins with `abc` and is otherwise as it was made.
 fn is_programmed(shop: &ThinShop) -> bool {
-    let Some(region) = shop.car().memory(0x1000, 0x1000) else {
-        return false;
-    };
+    let region = shop.car().region();
     region.len() == 0x1000 && region.starts_with(b"abc") && is_blank(&region[3..])
 }
 
@@ -167,7 +165,7 @@ fn smallest_run(rt: HostRuntime) -> Result<(), Fail> {
     assert!(rt; sink.written() == REPORT.as_bytes());
     assert!(rt; lines_spell(REQUESTS, shop.car().heard()));
     assert!(rt; is_programmed(&shop));
-    assert!(rt; spells(JOURNAL, shop.disk().bytes()));
+    assert!(rt; spells(JOURNAL, shop.left(alloc)?.as_slice()));
     Ok(())
 }
 
@@ -179,13 +177,13 @@ fn failing_sink(rt: HostRuntime) -> Result<(), Fail> {
     assert!(rt; status == Status::Sink);
     assert!(rt; sink.written().is_empty());
     assert!(rt; is_programmed(&shop));
-    assert!(rt; spells(JOURNAL, shop.disk().bytes()));
+    assert!(rt; spells(JOURNAL, shop.left(alloc)?.as_slice()));
     Ok(())
 }
 
-/// Whether nothing was asked of the unit and nothing written to the disk.
+/// Whether neither the disk nor the link was called.
 fn is_untouched(shop: &ThinShop) -> bool {
-    shop.car().heard().is_empty() && shop.disk().bytes().is_empty()
+    shop.calls() == 0
 }
 
 /// Words that are in no form.
@@ -277,7 +275,7 @@ fn run_of_a_session(rt: HostRuntime) -> Result<(), Fail> {
     assert!(rt; is_done(status));
     assert!(rt; sink.written() == REPORT.as_bytes());
     assert!(rt; is_programmed(&shop));
-    assert!(rt; spells(JOURNAL, shop.disk().bytes()));
+    assert!(rt; spells(JOURNAL, shop.left(alloc)?.as_slice()));
     Ok(())
 }
 

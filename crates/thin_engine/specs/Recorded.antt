@@ -1,19 +1,16 @@
--- What the journal of a plan of one unit records before, in and behind a run.
+-- What the journal of a plan of one unit records before and behind a run.
 use Rattle.std.specs.Prelude.{◌≡◌, ℕ, Bool, true, false, ◌==◌, List}
 use Rattle.disk_model.specs.Disk.{DiskState, IsCrashImage}
 use Rattle.flash_plan.specs.declared.outcome.Entry.{Entry}
-use Rattle.flash_plan.specs.declared.outcome.Entry.TheVariants.{Begun, Complete}
+use Rattle.flash_plan.specs.declared.outcome.Entry.TheVariants.{Begun, Marked, Complete}
 use Rattle.journal_model.specs.Records.{Label, records}
 use Rattle.flash_journal.specs.Kept.{has_entry, is_live, MayAppend}
 use Rattle.flash_journal.specs.declared.journal.Journal.{Journal}
 
--- each image that a crash may leave records nothing
-abbrev pub RecordsNothing : Label → DiskState → Type 0
-RecordsNothing P disk = (image : List ℕ) → IsCrashImage disk image → (e : Entry) → records P image e ≡ false
-
 -- of the unit 0 alone, it is said that it is begun, and that it is complete
 abbrev pub is_both : Entry → Bool
 is_both (Begun u) = u == 0
+is_both (Marked u s) = false
 is_both (Complete u) = u == 0
 
 -- each image that a crash may leave records that the unit is begun and complete, and nothing else

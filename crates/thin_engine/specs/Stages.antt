@@ -1,12 +1,11 @@
--- The stages of a run as places of the unit's script.
-use Rattle.std.specs.Prelude.{◌≡◌, ℕ, ◌+◌, ◌-◌, ◌<◌, ◌≤◌, List, [], ◌∷◌, length, take, drop}
+-- The plans of the first form, and the stages of a run of one.
+use Rattle.std.specs.Prelude.{◌≡◌, ℕ, ◌+◌, ◌-◌, ◌<◌, ◌≤◌, List, [], ◌∷◌, length, Option, None, Some}
 use Rattle.flash_base.specs.declared.unit.KeyRule.TheVariants.{Free}
 use Rattle.flash_plan.specs.declared.unit.Segment.{Segment}
 use Rattle.flash_plan.specs.declared.unit.UnitPlan.{UnitPlan}
 use Rattle.flash_plan.specs.Plan.{IsAccepted, plan_of, count_of}
-use Rattle.run_model.specs.Script.{Cursor, Place, AtProgram, AtErase, AtDownload, AtBlock, AtExit, AtCheck, AtFinish, AtReset, AtDone}
 use Rattle.thin_engine.specs.declared.stage.Stage.{Stage}
-use Rattle.thin_engine.specs.declared.stage.Stage.TheVariants.{Program, Erase, Download, Block, Exit, Check, Finish, Reset, Done}
+use Rattle.thin_engine.specs.declared.stage.Stage.TheVariants.{Program, Erase, Download, Block, Exit, Check, Finish, Reset}
 
 abbrev pub first_in : List Segment → Segment
 first_in [] = record { at = 0; body = [] }
@@ -35,19 +34,10 @@ pub record IsFirstPlan (P : List UnitPlan) : Type 0 where
   pub count : count_of P ≡ 1
   pub unit : IsFirst (plan_of P 0)
 
-abbrev pub cursor_of : UnitPlan → Cursor
-cursor_of u = record { done = []; now = segment_of u; left = [] }
-
-abbrev pub place_at : UnitPlan → Stage → Place
-place_at u Program = AtProgram
-place_at u Erase = AtErase (cursor_of u)
-place_at u Download = AtDownload (cursor_of u)
-place_at u (Block sent counter limit) = AtBlock (cursor_of u) (record { sent = take sent (segment_of u).body; rest = drop sent (segment_of u).body; counter = counter; limit = limit })
-place_at u Exit = AtExit (cursor_of u)
-place_at u Check = AtCheck (cursor_of u)
-place_at u Finish = AtFinish
-place_at u Reset = AtReset
-place_at u Done = AtDone
+-- a request that one message carries
+pub record IsRequest (body : List ℕ) : Type 0 where
+  pub some : 1 ≤ length body
+  pub few : length body ≤ 300
 
 -- a block has a byte, and its request has room for one
 pub record IsBlock (n sent limit : ℕ) : Type 0 where
@@ -64,7 +54,11 @@ IsStage u Exit = Unit {0}
 IsStage u Check = Unit {0}
 IsStage u Finish = Unit {0}
 IsStage u Reset = Unit {0}
-IsStage u Done = Unit {0}
+
+-- the same of the stage that follows, if one does
+abbrev pub IsNext : UnitPlan → Option Stage → Type 0
+IsNext u None = Unit {0}
+IsNext u (Some stage) = IsStage u stage
 
 -- at most so many requests are left, for a segment of n bytes
 abbrev pub work_left : ℕ → Stage → ℕ
@@ -76,15 +70,7 @@ work_left n Exit = 4
 work_left n Check = 3
 work_left n Finish = 2
 work_left n Reset = 1
-work_left n Done = 0
 
-abbrev pub sid_at : Stage → ℕ
-sid_at Program = 16
-sid_at Erase = 49
-sid_at Download = 52
-sid_at (Block sent counter limit) = 54
-sid_at Exit = 55
-sid_at Check = 49
-sid_at Finish = 49
-sid_at Reset = 17
-sid_at Done = 0
+abbrev pub work_on : ℕ → Option Stage → ℕ
+work_on n None = 0
+work_on n (Some stage) = work_left n stage

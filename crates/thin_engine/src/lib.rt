@@ -4,13 +4,10 @@
 //! A connection that is lost is not made anew, and an alive check, a response pending or a busy answer ends the run.
 #![tactic(auto)]
 
-mod asking;
 mod driving;
 mod judging;
-mod laws;
-mod reading;
+mod line;
 mod requests;
 mod stage;
 
 pub use driving::{Ended, drive};
-pub use laws::an_empty_journal_is_sound;

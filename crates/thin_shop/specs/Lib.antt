@@ -1,13 +1,2 @@
-pub mod BuiltIn
-pub mod Cars
-pub mod Disks
-pub mod Downloads
-pub mod Feeding
-pub mod Desks
-pub mod Holding
-pub mod Moments
-pub mod New
-pub mod Overwriting
-pub mod Places
-pub mod Saying
+pub mod Short
 pub mod Shops

@@ -1,177 +1,212 @@
-ghost use Rattle.std.specs.Prelude.{◌≡◌, ◌≤◌, ◌+◌, ◌<◌, ◌^◌, ◌++◌, length, take, drop, slice_range, IfOk, OnOk, OnErr, ⊤, IsTrue};
-ghost use Rattle.doip_frame.specs.Frame.{cut_frame};
-ghost use Rattle.doip_frame.specs.Deframe.{is_partial};
-ghost use Rattle.thin_shop.specs.Holding.{unfinished_of};
+ghost use Rattle.std.specs.Prelude.{◌≤◌, ◌<◌, length, OnOk};
+ghost use Rattle.doip_frame.specs.Form.{IsFrame};
+ghost use Rattle.shop_model.specs.History.{IsPiece};
 
-use crate::handling::{Desk, handle_all, refuse_header, reply_all};
-use disk_model::DeviceFault;
-use doip_frame::{Deframer, Fed};
+use crate::unit::PlainUnit;
+use doip_frame::{Bad, Deframer, Frame, encode};
 use flash_base::{Bytes, Items, NoMemory};
 use std::alloc::Global;
-use unit_model::{Got, Unit, UnitSpec};
+use unit_model::Got;
 
-/// The vehicle: a gateway (ISO 13400-2:2019) and one control unit behind it that obeys.
-#[derive(Debug, Drop)]
+/// The logical addresses of the gateway and of the unit (ISO 13400-2:2019).
+const ENTITY: u16 = 0x4000;
+
+const UNIT: u16 = 0x1001;
+
+/// The code of routing that is activated (ISO 13400-2:2019, payload type 0x0006).
+const ACTIVATED: u8 = 0x10;
+
+/// The vehicle: a gateway (ISO 13400-2:2019) and one plain control unit behind it.
+#[derive(Drop)]
 pub struct Car {
-    entity: u16,
+    alloc: Global,
     /// The tester of the activation request last accepted.
     active: Option<u16>,
     deframer: Deframer,
     /// Bytes due, of which those before `start` were carried.
     ready: Vec<u8>,
     start: usize,
-    /// What the tester received on this connection.
-    carried: Vec<u8>,
-    pub(crate) tick: u64,
-    unit: Unit,
-    /// The messages that the unit heard, in order.
+    unit: PlainUnit,
+    /// The requests that the unit heard, in order, over every connection.
     heard: Items<Bytes>,
     ghost order: { start ≤ length ready.items },
-    ghost partial: { IsTrue (is_partial (cut_frame (unfinished_of deframer))) },
+}
+
+fn say(alloc: Global, out: &mut Vec<u8>, frame: &Frame) -> Result<(), NoMemory>
+    requires { IsFrame frame.now }
+    ensures { OnOk result (length out.old.items ≤ length out.new.items) }
+{
+    let bytes = encode(alloc, frame)?;
+    out.extend_from_slice(bytes.as_slice())?;
+    Ok(())
+}
+
+/// The code with which a refused header is answered (ISO 13400-2:2019, payload type 0x0000).
+fn header_code(bad: &Option<Bad>) -> Option<u8> {
+    match bad {
+        Some(Bad::Pattern) => Some(0),
+        Some(Bad::TooLarge { .. }) => Some(2),
+        Some(Bad::Length { .. }) => Some(4),
+        Some(Bad::Failed) => None,
+        None => None,
+    }
 }
 
 impl Car {
-    ghost use Rattle.unit_model.specs.Vehicle.{Vehicle, redialed};
-    ghost use Rattle.unit_model.specs.Running.{IsUnitSpec, unit_of};
-    ghost use Rattle.shop_model.specs.History.{Received, IsPiece, Sent};
-    ghost use Rattle.std.specs.Prelude.{MatchOption, None};
-    ghost use Rattle.flash_base.specs.ByteMaps.{byte_at};
-    ghost use Rattle.unit_model.specs.Regions.{IsPart};
-    ghost use Rattle.thin_shop.specs.Cars.{vehicle_of, memory_in, heard_in};
-    ghost use Rattle.thin_shop.specs.New.{new_vehicle};
-    ghost use Rattle.thin_shop.specs.Feeding.{CarCut, CarWorked, CarPart};
-
-    /// The vehicle with this gateway and the unit of this spec, to which nothing was sent.
-    pub(crate) fn new(alloc: Global, entity: u16, spec: &UnitSpec) -> Result<Car, NoMemory>
-        requires { IsUnitSpec spec.now }
-        ensures { IfOk result (λ c. (vehicle_of c ≡ new_vehicle entity (unit_of spec.now)) × (c.tick ≡ 0)) }
-    {
-        Ok(Car {
-            entity,
+    /// The vehicle to which nothing was sent.
+    pub(crate) fn new(alloc: Global) -> Car {
+        Car {
+            alloc,
             active: None,
             deframer: Deframer::new(alloc),
             ready: Vec::new(alloc),
             start: 0,
-            carried: Vec::new(alloc),
-            tick: 0,
-            unit: Unit::new(alloc, spec)?,
+            unit: PlainUnit::new(alloc),
             heard: Items::new(alloc),
-        })
-    }
-
-    /// A new connection: the gateway forgets the activation and all that was on its way.
-    pub(crate) fn redial(&mut self, alloc: Global)
-        ensures vehicle { vehicle_of self.new ≡ redialed (vehicle_of self.old) }
-        ensures tick { self.new.tick ≡ self.old.tick }
-    {
-        self.active = None;
-        self.deframer = Deframer::new(alloc);
-        self.ready.clear();
-        self.start = 0;
-        self.carried.clear();
-    }
-
-    /// What a receive carries; where no byte is due, a tick passes.
-    pub(crate) fn poll(&mut self, out: &mut [u8]) -> Result<Got, DeviceFault>
-        requires room { 1 ≤ length out.old }
-        requires tick { self.old.tick + 1 < 2 ^ 64 }
-        ensures vehicle { Received out.new ⊤ (vehicle_of self.old) (vehicle_of self.new) result }
-        ensures piece { IfOk result (IsPiece (length out.old)) }
-        ensures tick { self.new.tick ≤ self.old.tick + 1 }
-    {
-        let left = self.ready.len() - self.start;
-        if left == 0 {
-            self.tick += 1;
-            return Ok(Got::Quiet);
         }
-        let n = left.min(out.len());
-        let end = self.start + n;
-        match carry(&mut self.carried, &self.ready, self.start, end) {
-            Ok(()) => {
-                put_front(out, &self.ready, self.start, n);
-                self.start = end;
-                Ok(Got::Bytes(n))
-            }
-            Err(_) => Err(DeviceFault),
-        }
-    }
-
-    /// Handles the bytes that the tester sends: each whole frame in order, behind them a refused header,
-    /// and then the unit's replies. Where there is no memory the bytes up to some frame's end were handled,
-    /// and where these were any the connection is broken.
-    pub(crate) fn feed(&mut self, alloc: Global, bytes: &[u8]) -> Result<(), DeviceFault>
-        ensures vehicle { Sent bytes.now (vehicle_of self.old) (vehicle_of self.new) result }
-        ensures tick { self.new.tick ≡ self.old.tick }
-    {
-        let Ok(fed) = self.cut(bytes) else {
-            return Err(DeviceFault);
-        };
-        match self.work(alloc, &fed) {
-            Ok(()) => Ok(()),
-            Err(_) => {
-                self.redial(alloc);
-                Err(DeviceFault)
-            }
-        }
-    }
-
-    /// The next bytes of the unit's memory from an address on, at most so many; None where it has no such address.
-    pub fn memory(&self, at: u64, most: u64) -> Option<&[u8]>
-        requires { 1 ≤ most }
-        ensures { MatchOption result (byte_at (memory_in self.now) at ≡ None) (λ p. IsPart at most (memory_in self.now) p.now) }
-    {
-        self.unit.memory.part(at, most)
     }
 
     /// The requests that the unit heard, in order, over every connection.
-    pub fn heard(&self) -> &[Bytes]
-        ensures { result.now ≡ heard_in self.now }
-    {
+    pub fn heard(&self) -> &[Bytes] {
         self.heard.as_slice()
     }
 
-    fn cut(&mut self, bytes: &[u8]) -> Result<Fed, NoMemory>
-        ensures ok { IfOk result (λ fed. CarCut bytes.now self.old self.new fed.frames fed.bad) }
-        ensures err { OnErr result (vehicle_of self.new ≡ vehicle_of self.old) }
-        ensures tick { self.new.tick ≡ self.old.tick }
-    {
-        self.deframer.feed(bytes)
+    /// The bytes of the unit's one region, which begins at address 0x1000.
+    pub fn region(&self) -> &[u8] {
+        self.unit.region()
     }
 
-    fn work(&mut self, alloc: Global, fed: &Fed) -> Result<(), NoMemory>
-        ensures ok { OnOk result (CarWorked fed.now.frames fed.now.bad self.old self.new) }
-        ensures err { OnErr result (CarPart fed.now.frames self.old self.new) }
-        ensures tick { self.new.tick ≡ self.old.tick }
+    /// A new connection: the gateway forgets the activation and all that was on its way.
+    pub(crate) fn redial(&mut self) {
+        self.active = None;
+        self.deframer = Deframer::new(self.alloc);
+        self.ready.clear();
+        self.start = 0;
+    }
+
+    /// What a receive carries.
+    pub(crate) fn poll(&mut self, out: &mut [u8]) -> Got
+        requires { 1 ≤ length out.old }
+        ensures { IsPiece (length out.old) result }
     {
-        let mut desk = Desk {
-            entity: self.entity,
-            active: self.active,
-            answers: Vec::new(alloc),
-            alloc,
-        };
-        let replies = handle_all(&mut desk, &mut self.unit, &mut self.heard, &fed.frames)?;
-        refuse_header(&mut desk, &fed.bad)?;
-        reply_all(&mut desk, self.unit.address, replies.as_slice())?;
-        self.ready.extend_from_slice(&desk.answers)?;
-        self.active = desk.active;
+        let n = out.len().min(self.ready.len() - self.start);
+        if n == 0 {
+            return Got::Quiet;
+        }
+        let end = self.start + n;
+        out[..n].copy_from_slice(&self.ready[self.start..end]);
+        self.start = end;
+        Got::Bytes(n)
+    }
+
+    /// Handles the bytes that the tester sends: each whole frame in order, behind them a refused header, and then the unit's
+    /// replies. Where there is no memory the first of the frames were handled, and the connection is a new one.
+    pub(crate) fn feed(&mut self, bytes: &[u8]) -> Result<(), NoMemory> {
+        match self.handle_all(bytes) {
+            Ok(()) => Ok(()),
+            Err(e) => {
+                self.redial();
+                Err(e)
+            }
+        }
+    }
+
+    fn handle_all(&mut self, bytes: &[u8]) -> Result<(), NoMemory> {
+        let fed = self.deframer.feed(bytes)?;
+        let mut answers = Vec::new(self.alloc);
+        let mut replies = Vec::new(self.alloc);
+        for i in 0..fed.frames.len() {
+            self.handle(fed.frames.at(i), &mut answers, &mut replies)?;
+        }
+        if let Some(code) = header_code(&fed.bad) {
+            say(self.alloc, &mut answers, &Frame::HeaderNack { code })?;
+        }
+        self.ready.extend_from_slice(&answers)?;
+        self.ready.extend_from_slice(&replies)?;
         Ok(())
     }
-}
 
-fn carry(carried: &mut Vec<u8>, ready: &[u8], from: usize, to: usize) -> Result<(), NoMemory>
-    requires order { from ≤ to }
-    requires within { to ≤ length ready.now }
-    ensures ok { OnOk result (carried.new.items ≡ carried.old.items ++ slice_range ready.now from to) }
-    ensures err { OnErr result (carried.new.items ≡ carried.old.items) }
-{
-    carried.extend_from_slice(&ready[from..to])?;
-    Ok(())
-}
+    /// Handles one frame: what the gateway answers, and what the unit replies.
+    fn handle(
+        &mut self,
+        frame: &Frame,
+        answers: &mut Vec<u8>,
+        replies: &mut Vec<u8>,
+    ) -> Result<(), NoMemory> {
+        match frame {
+            Frame::Activate { source, .. } => {
+                self.active = Some(*source);
+                let answer = Frame::Activated {
+                    tester: *source,
+                    entity: ENTITY,
+                    code: ACTIVATED,
+                    oem: None,
+                };
+                say(self.alloc, answers, &answer)
+            }
+            Frame::Message {
+                source,
+                target,
+                body,
+            } => self.deliver(*source, *target, body.as_slice(), answers, replies),
+            _ => Ok(()),
+        }
+    }
 
-fn put_front(out: &mut [u8], ready: &[u8], from: usize, n: usize)
-    requires room { n ≤ length out.old }
-    requires within { from + n ≤ length ready.now }
-    ensures { take n out.new ≡ slice_range ready.now from (from + n) }
-{
-    out[..n].copy_from_slice(&ready[from..from + n]);
+    /// A diagnostic message (ISO 13400-2:2019, payload type 0x8001), acknowledged (0x8002) or refused (0x8003).
+    fn deliver(
+        &mut self,
+        source: u16,
+        target: u16,
+        body: &[u8],
+        answers: &mut Vec<u8>,
+        replies: &mut Vec<u8>,
+    ) -> Result<(), NoMemory> {
+        let old = Bytes::new(self.alloc);
+        let (from, to) = (target, source);
+        let Some(tester) = self.active else {
+            let code = 0x02;
+            return say(
+                self.alloc,
+                answers,
+                &Frame::Nack {
+                    source: from,
+                    target: to,
+                    code,
+                    old,
+                },
+            );
+        };
+        if target != UNIT {
+            let code = 0x03;
+            return say(
+                self.alloc,
+                answers,
+                &Frame::Nack {
+                    source: from,
+                    target: to,
+                    code,
+                    old,
+                },
+            );
+        }
+        let code = 0;
+        say(
+            self.alloc,
+            answers,
+            &Frame::Ack {
+                source: from,
+                target: to,
+                code,
+                old,
+            },
+        )?;
+        self.heard.push(Bytes::from_slice(self.alloc, body)?)?;
+        let reply = Frame::Message {
+            source: UNIT,
+            target: tester,
+            body: self.unit.answer(body)?,
+        };
+        say(self.alloc, replies, &reply)
+    }
 }

@@ -1,22 +1,13 @@
-//! A shop in memory with a built-in vehicle: one gateway and one plain control unit that obeys.
+//! A shop in memory: the disk of `mem_disk` with its record of calls, and behind its link a gateway with one plain control unit.
 //!
-//! It tells what its disk holds and what its vehicle does, and what both were at each moment;
-//! that record has no bytes.
+//! It tells what its disk holds. Of its vehicle it tells nothing, and nothing is proved but that it is safe.
 #![tactic(auto)]
 
-mod built_in;
 mod car;
-mod disk;
-mod handling;
-mod hear;
-mod obey;
-mod past;
-mod routine;
 mod shop;
 #[cfg(test)]
 mod tests;
+mod unit;
 
 pub use car::Car;
-pub use disk::Disk;
-pub use past::{Made, Past, Said};
 pub use shop::ThinShop;

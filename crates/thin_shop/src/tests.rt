@@ -2,11 +2,9 @@ ghost use Rattle.std.specs.Prelude.{◌≡◌, ◌≤◌, IsTrue, length};
 ghost use Rattle.thin_shop.specs.Shops.{history_of};
 
 use crate::ThinShop;
-use crate::built_in::plain;
-use crate::hear::hear;
+use crate::unit::PlainUnit;
 use shop_model::{Got, Shop};
 use std::test::Fail;
-use unit_model::Unit;
 
 const DIGEST: [u8; 32] = [
     0xba, 0x78, 0x16, 0xbf, 0x8f, 0x01, 0xcf, 0xea, 0x41, 0x41, 0x40, 0xde, 0x5d, 0xae, 0x22, 0x23,
@@ -16,8 +14,7 @@ const DIGEST: [u8; 32] = [
 #[test]
 fn a_unit_is_programmed(rt: HostRuntime) -> Result<(), Fail> {
     let alloc = rt.alloc();
-    let spec = plain(alloc)?;
-    let mut unit = Unit::new(alloc, &spec)?;
+    let mut unit = PlainUnit::new(alloc);
     let mut check = Vec::from_slice(
         alloc,
         &[
@@ -50,14 +47,11 @@ fn a_unit_is_programmed(rt: HostRuntime) -> Result<(), Fail> {
         (&[0x3e, 0x00], &[0x7f, 0x3e, 0x11]),
     ];
     for (request, answer) in steps {
-        let said = hear(alloc, &mut unit, request)?;
+        let said = unit.answer(request)?;
         assert_eq!(rt; said.as_slice(), answer);
     }
-    let part = unit.memory.part(0x0fff, 1).is_none();
-    assert!(rt; part);
-    let bytes = unit.memory.part(0x1000, 4).ok_or("bytes")?;
-    assert_eq!(rt; bytes, [0x61, 0x62, 0x63, 0xff].as_slice());
-    assert_eq!(rt; unit.heard, 12);
+    assert!(rt; unit.region().len() == 0x1000);
+    assert!(rt; unit.region().starts_with(b"abc\xff"));
     Ok(())
 }
 
@@ -74,7 +68,8 @@ fn a_disk_is_written_and_read(rt: HostRuntime) -> Result<(), Fail> {
     shop.redial().map_err(|_| "redial")?;
     let quiet = shop.receive(&mut out).map_err(|_| "receive")?;
     assert_eq!(rt; quiet, Got::Quiet);
-    assert_eq!(rt; shop.starved(), 0);
+    assert_eq!(rt; shop.calls(), 7);
+    assert_eq!(rt; shop.left(rt.alloc())?.as_slice(), b"abxyz".as_slice());
     Ok(())
 }
 

@@ -51,20 +51,10 @@ returns-clause-shelf_too g c = λ tf order r words files.
     let same : order ≡ c.in-Some.order.now = same_order c.in-Some.order.now order _ c.in-Some.ensures words in
     c.run-status.ensures.shelf_too tf r (subst (λ (o : List ℕ). built (g.F.Shelf.contents c.args.shelf.now) o r) same files)
 
-pub returns-clause-sound : goal.returns-clause-sound
-returns-clause-sound g c = λ tf td tv order b words files.
-    let same : order ≡ c.in-Some.order.now = same_order c.in-Some.order.now order _ c.in-Some.ensures words in
-    c.run-status.ensures.sound tf td tv b (subst (λ (o : List ℕ). built (g.F.Shelf.contents c.args.shelf.now) o (Ok b)) same files)
-
 pub returns-clause-done : goal.returns-clause-done
 returns-clause-done g c = λ tf tk is order b words files.
     let same : order ≡ c.in-Some.order.now = same_order c.in-Some.order.now order _ c.in-Some.ensures words in
     c.run-status.ensures.done tf tk is b (subst (λ (o : List ℕ). built (g.F.Shelf.contents c.args.shelf.now) o (Ok b)) same files)
-
-pub returns-clause-complete : goal.returns-clause-complete
-returns-clause-complete g c = λ tf td tv tk order b words files.
-    let same : order ≡ c.in-Some.order.now = same_order c.in-Some.order.now order _ c.in-Some.ensures words in
-    c.run-status.ensures.complete tf td tv tk b (subst (λ (o : List ℕ). built (g.F.Shelf.contents c.args.shelf.now) o (Ok b)) same files)
 
 pub returns-clause-tester : goal.returns-clause-tester
 returns-clause-tester g c = λ tf tv order b words files.

@@ -1,18 +1,14 @@
-use Rattle.std.proofs.Common.{inl, ◌≡◌, ℕ, true, List, Result, Ok, Err, Some, subst, sym}
+use Rattle.std.proofs.Common.{◌≡◌, ℕ, List, Result, Ok, Err, Some, subst}
 use Rattle.flash_shelf.specs.Outside.{CameFrom}
 use Rattle.flash_shelf.specs.declared.shelf.ShelfFault.{ShelfFault}
 use Rattle.plan_build.specs.Building.{built}
 use Rattle.plan_build.specs.declared.built.Built.{Built}
 use Rattle.plan_build.specs.declared.fault.BuildFault.{BuildFault}
-use Rattle.run_model.specs.Matching.{Matches}
 use Rattle.shop_model.specs.History.{disk_now, vehicle_now}
-use Rattle.thin_engine.specs.Sounding.{KeepsSound}
-use Rattle.thin_engine.specs.Undisturbed.{none_recorded}
 use Rattle.flash_top.specs.Printing.{Says}
-use Rattle.flash_top.specs.Running.{Gave, is_served}
-use Rattle.flash_top.proofs.Answers.{input_too, shelf_too, input_refused, input_refused_told, shelf_refused_told, shelf_named, input_last, input_last_told, same_built, never_done, only_starved}
-use Rattle.flash_top.proofs.Closes.{IsTold, IsClosed}
-use Rattle.flash_top.proofs.Sounds.{sound_still}
+use Rattle.flash_top.specs.Running.{Gave}
+use Rattle.flash_top.proofs.Answers.{input_too, shelf_too, input_refused, input_refused_told, shelf_refused_told, shelf_named, input_last, input_last_told, same_built, never_done}
+use Rattle.flash_top.proofs.Closes.{IsTold}
 use Rattle.flash_top.proofs.running.run.Goals as goal
 
 -- ------ no plan
@@ -52,19 +48,11 @@ returns-in-Err-clause-shelf_too g c = λ tf.
     shelf_too c.files_give_one_answer.ensures (g.F.Shelf.contents c.args.shelf.now) c.args.order.now (g.F.Shelf.faults c.args.shelf.now) (g.F.Shelf.faults c.build.new.shelf)
     (Err c.in-Err.fault) c.refuse.result c.refuse.ensures.status (c.in-Err.ensures.told tf)
 
-pub returns-in-Err-clause-sound : goal.returns-in-Err-clause-sound
-returns-in-Err-clause-sound g c = λ tf td tv b files no_shelf. sound_still b.plan (g.S.Shop.history c.args.shop.now)
-
 pub returns-in-Err-clause-done : goal.returns-in-Err-clause-done
 returns-in-Err-clause-done g c = λ tf tk is. absurd (never_done c.in-Err.fault c.refuse.result c.refuse.ensures.status is)
 
 pub returns-in-Err-clause-tester : goal.returns-in-Err-clause-tester
-returns-in-Err-clause-tester g c = λ tf tv b files matches no_shelf untroubled plain is. absurd (never_done c.in-Err.fault c.refuse.result c.refuse.ensures.status is)
-
-pub returns-in-Err-clause-complete : goal.returns-in-Err-clause-complete
-returns-in-Err-clause-complete g c = λ tf td tv tk b files served empty matches no_shelf no_sink untroubled plain.
-    inl (only_starved (g.F.Shelf.faults c.args.shelf.now) (g.F.Shelf.faults c.build.new.shelf) c.in-Err.fault c.refuse.result c.refuse.ensures.status no_shelf
-    c.files_give_one_answer.ensures (g.F.Shelf.contents c.args.shelf.now) c.args.order.now b (c.in-Err.ensures.told tf) files)
+returns-in-Err-clause-tester g c = λ tf tv b files no_shelf calm is. absurd (never_done c.in-Err.fault c.refuse.result c.refuse.ensures.status is)
 
 -- ------ a plan
 pub returns-in-Ok-clause-input : goal.returns-in-Ok-clause-input
@@ -89,31 +77,14 @@ returns-in-Ok-clause-shelf_too g c = λ tf.
     shelf_too c.files_give_one_answer.ensures (g.F.Shelf.contents c.args.shelf.now) c.args.order.now (g.F.Shelf.faults c.args.shelf.now) (g.F.Shelf.faults c.build.new.shelf)
     (Ok c.in-Ok.built) c.run_built.result c.run_built.ensures.not_served (c.in-Ok.ensures.told tf)
 
-pub returns-in-Ok-clause-sound : goal.returns-in-Ok-clause-sound
-returns-in-Ok-clause-sound g c = λ tf td tv b files no_shelf.
-    let same : c.in-Ok.built ≡ b = same_built c.files_give_one_answer.ensures _ _ _ _ c.in-Ok.built b (c.in-Ok.ensures.told tf) files no_shelf in
-    subst (λ (x : Built). KeepsSound x.plan (g.S.Shop.history c.args.shop.now) (g.S.Shop.history c.run_built.new.shop)) same (c.run_built.ensures.sound td tv)
-
 pub returns-in-Ok-clause-done : goal.returns-in-Ok-clause-done
 returns-in-Ok-clause-done g c = λ tf tk is b files no_shelf no_sink.
     let same : c.in-Ok.built ≡ b = same_built c.files_give_one_answer.ensures _ _ _ _ c.in-Ok.built b (c.in-Ok.ensures.told tf) files no_shelf in
     subst (λ (x : Built). IsTold x.plan g.S.Shop.tells_disk (disk_now (g.S.Shop.history c.run_built.new.shop)) (g.K.Sink.written c.args.out.now) (g.K.Sink.written c.run_built.new.out)) same
     (c.run_built.ensures.done tk is no_sink)
 
-pub returns-in-Ok-clause-complete : goal.returns-in-Ok-clause-complete
-returns-in-Ok-clause-complete g c = λ tf td tv tk b files served empty matches no_shelf no_sink untroubled plain.
-    let v0 = vehicle_now (g.S.Shop.history c.args.shop.now) in
-    let v1 = vehicle_now (g.S.Shop.history c.run_built.new.shop) in
-    let same : c.in-Ok.built ≡ b = same_built c.files_give_one_answer.ensures _ _ _ _ c.in-Ok.built b (c.in-Ok.ensures.told tf) files no_shelf in
-    let fits = subst (λ (x : Built). Matches x.plan none_recorded v0) (sym same) matches in
-    let first = subst (λ (x : Built). is_served x ≡ true) (sym same) served in
-    subst (λ (x : Built). IsClosed x.plan v0 v1 (disk_now (g.S.Shop.history c.run_built.new.shop)) (g.K.Sink.written c.args.out.now) (g.K.Sink.written c.run_built.new.out) c.run_built.result) same
-    (c.run_built.ensures.complete td tv tk first empty fits no_sink untroubled plain)
-
 pub returns-in-Ok-clause-tester : goal.returns-in-Ok-clause-tester
-returns-in-Ok-clause-tester g c = λ tf tv b files matches no_shelf untroubled plain is.
-    let v0 = vehicle_now (g.S.Shop.history c.args.shop.now) in
+returns-in-Ok-clause-tester g c = λ tf tv b files no_shelf calm is.
     let v1 = vehicle_now (g.S.Shop.history c.run_built.new.shop) in
     let same : c.in-Ok.built ≡ b = same_built c.files_give_one_answer.ensures _ _ _ _ c.in-Ok.built b (c.in-Ok.ensures.told tf) files no_shelf in
-    let fits = subst (λ (x : Built). Matches x.plan none_recorded v0) (sym same) matches in
-    subst (λ (x : Built). v1.gateway.active ≡ Some x.order.tester) same (c.run_built.ensures.tester tv fits untroubled plain is)
+    subst (λ (x : Built). v1.gateway.active ≡ Some x.order.tester) same (c.run_built.ensures.tester tv calm is)

@@ -1,26 +1,15 @@
-use Rattle.std.proofs.Common.{◌≡◌, refl, sym, ◌∙◌}
+use Rattle.std.proofs.Common.{refl, sym, ◌∙◌}
 use Rattle.std.proofs.lemmas.Bool.{false≢true}
 use Rattle.shop_model.specs.History.{disk_now}
-use Rattle.journal_model.specs.Records.{label_of}
 use Rattle.flash_plan.specs.declared.outcome.Entry.TheVariants.{Complete}
 use Rattle.flash_journal.specs.Seen.{label}
-use Rattle.thin_engine.proofs.Openings.{opened_empty, opened_begins, opening_nothing, refused_bytes, refused_cause}
+use Rattle.thin_engine.proofs.Openings.{opened_empty, opened_begins, refused_bytes, refused_cause}
 use Rattle.thin_engine.proofs.driving.open_empty.Goals.{else-may_append-via-then-may_append+else-not-has, else-may_append-via-else-may_append}
 use Rattle.thin_engine.proofs.driving.open_empty.Goals as goal
 
 pub returns-then-not-has-clause-empty : goal.returns-then-not-has-clause-empty
 returns-then-not-has-clause-empty g c = λ told.
     opened_empty (label c.digest.result 1) (disk_now (g.S.Shop.history c.args.shop.now)).bytes c.in-Ok.journal (disk_now (g.S.Shop.history c.open.new.shop)) (c.requires.none told) (c.in-Ok.ensures.answer told)
-
-pub returns-then-not-has-clause-any_moment : goal.returns-then-not-has-clause-any_moment
-returns-then-not-has-clause-any_moment g c = λ told.
-    let same : label c.digest.result 1 ≡ label_of c.args.plan.now = λ i. record { digest = c.digest.ensures i; units = sym c.requires.first.count i } in
-    opening_nothing (label c.digest.result 1) (label_of c.args.plan.now) (g.S.Shop.history c.args.shop.now) (g.S.Shop.history c.open.new.shop) same (c.requires.none told) (c.open.ensures.any_moment told)
-
-pub returns-else-may_append-clause-any_moment : goal.returns-else-may_append-clause-any_moment
-returns-else-may_append-clause-any_moment g c = λ told.
-    let same : label c.digest.result 1 ≡ label_of c.args.plan.now = λ i. record { digest = c.digest.ensures i; units = sym c.requires.first.count i } in
-    opening_nothing (label c.digest.result 1) (label_of c.args.plan.now) (g.S.Shop.history c.args.shop.now) (g.S.Shop.history c.open.new.shop) same (c.requires.none told) (c.open.ensures.any_moment told)
 
 pub returns-else-may_append-clause-starved : goal.returns-else-may_append-clause-starved
 returns-else-may_append-clause-starved g c = λ told is.
@@ -30,11 +19,6 @@ returns-else-may_append-clause-starved g c = λ told is.
       | else-may_append-via-then-may_append+else-not-has w ↦ absurd (false≢true (sym (empty.none (Complete 0)) ∙ sym w.has.ensures ∙ w.if-not-has.false))
       | else-may_append-via-else-may_append w ↦ absurd (false≢true (sym w.if-may_append.false ∙ may))
     ]
-
-pub returns-in-Err-clause-any_moment : goal.returns-in-Err-clause-any_moment
-returns-in-Err-clause-any_moment g c = λ told.
-    let same : label c.digest.result 1 ≡ label_of c.args.plan.now = λ i. record { digest = c.digest.ensures i; units = sym c.requires.first.count i } in
-    opening_nothing (label c.digest.result 1) (label_of c.args.plan.now) (g.S.Shop.history c.args.shop.now) (g.S.Shop.history c.open.new.shop) same (c.requires.none told) (c.open.ensures.any_moment told)
 
 pub returns-in-Err-clause-disk : goal.returns-in-Err-clause-disk
 returns-in-Err-clause-disk g c = λ is. refused_cause (g.S.Shop.history c.args.shop.now) (g.S.Shop.history c.open.new.shop) c.in-Err.fault (c.refusal.ensures.disk is) c.in-Err.ensures.cause

@@ -1,9 +1,5 @@
-use Rattle.std.proofs.Common.{◌≡◌, ◌≤◌, drop}
-use Rattle.thin_engine.specs.Judging.{cap_after, cap_of}
+use Rattle.std.proofs.Common.{◌≤◌}
 use Rattle.thin_engine.proofs.judging.capped.Given as goal
 
 abbrev pub invariant-loop-b : goal.invariant-loop-b
-invariant-loop-b l = record {
-  small : l.n ≤ 65535;
-  is : cap_after l.n (drop l.b-index l.bytes) ≡ cap_of l.bytes;
-}
+invariant-loop-b l = l.n ≤ 65535
