@@ -187,7 +187,8 @@ impl UnitSession {
         requires { (talk_of_any self.old).number < 4294967295 }
         ensures talk { (u : UnitPlan) → talk_of u self.new ≡ settled (place_at u stage) (talk_of u self.old) }
         ensures begun { is_begun self.new ≡ is_begun self.old }
-        ensures of { (u : UnitPlan) → IsStage u stage → KnowsNext u (talk_of u self.old).marks stage → IsFewer u (place_at u stage) (talk_of u self.old).place → IsOf u self.old → IsOf u self.new }
+        ensures of { (u : UnitPlan) → IsStage u stage → KnowsNext u (talk_of u self.old).marks stage
+            → IsFewer u (place_at u stage) (talk_of u self.old).place → IsOf u self.old → IsOf u self.new }
     {
         self.stage = stage;
         self.number += 1;
@@ -245,11 +246,11 @@ impl UnitSession {
         }
     }
 
-    /// The link was lost: the attempt starts again with the marks that are recorded by then, unless
-    /// each answer came already and a mark or the end of the unit is to be recorded, or the
-    /// conversation is over. At Begin it is not called.
+    /// The link was lost: from Send or Wait the attempt starts again, with the marks that are recorded
+    /// by then. At Mark, at Done and behind the end nothing changes; at Begin it is not to be called.
     pub fn lost(&mut self)
-        ensures talk { (u : UnitPlan) → IsOf u self.old → (ask_of u (talk_of u self.old) ≡ Ask.Begin → ⊥) → talk_of u self.new ≡ talk_lost u (is_begun self.old) (talk_of u self.old) }
+        ensures talk { (u : UnitPlan) → IsOf u self.old → (ask_of u (talk_of u self.old) ≡ Ask.Begin → ⊥)
+            → talk_of u self.new ≡ talk_lost u (is_begun self.old) (talk_of u self.old) }
         ensures begun { is_begun self.new ≡ is_begun self.old }
         ensures of { (u : UnitPlan) → IsAcceptedUnit u → IsOf u self.old → IsOf u self.new }
     {
@@ -278,9 +279,12 @@ impl UnitSession {
         *self = UnitSession::new(true, self.marks);
     }
 
-    /// It was recorded that the segment is marked that stands to be: the next one that is not follows.
+    /// It was recorded that the segment is marked which `next` names. The first one behind it that is
+    /// not marked follows, or else the check of all.
     pub fn marked(&mut self)
-        ensures talk { (u : UnitPlan) (segment : ℕ) → IsAcceptedUnit u → IsOf u self.old → ask_of u (talk_of u self.old) ≡ Ask.Mark segment → talk_of u self.new ≡ talk_marked segment (talk_of u self.old) }
+        ensures talk { (u : UnitPlan) (segment : ℕ) → IsAcceptedUnit u → IsOf u self.old
+            → ask_of u (talk_of u self.old) ≡ Ask.Mark segment
+            → talk_of u self.new ≡ talk_marked segment (talk_of u self.old) }
         ensures begun { is_begun self.new ≡ is_begun self.old }
         ensures of { (u : UnitPlan) → IsAcceptedUnit u → IsOf u self.old → IsOf u self.new }
     {
