@@ -72,7 +72,8 @@ NO_XML = "bad.odx-f, line {}: no XML: {}"
 ENCODING = "bad.odx-f, line 1: the encoding is {}, and only UTF-8 and UTF-16 are read"
 DEEP = "bad.odx-f, line {}, element G: elements nest more than 63 deep"
 MARKUP = "bad.odx-f, line 1: a tag, a comment or an instruction has more than 1048576 bytes"
-LEAVES = "bad.odx-f, line 4, element DATAFILE: a path that leaves the folder is refused: {}"
+NAMED = "bad.odx-f, line 4, element DATAFILE: {}"
+LEAVES = NAMED.format("a path that leaves the folder is refused: {}")
 
 BAD_DOCUMENTS = {
     "a bomb of entities": (document("&l9;", f'<!DOCTYPE ODX [<!ENTITY l0 "ha">\n{LAUGHS}]>\n'), DTD.format(2, "ODX")),
@@ -108,10 +109,10 @@ BAD_DOCUMENTS = {
     "a data file of a drive": (naming("c:a.bin"), LEAVES.format("c:a.bin")),
     "a data file of a share": (naming("\\\\host\\a.bin"), LEAVES.format("\\\\host\\a.bin")),
     "a data file of an address": (naming("file:///etc/passwd"), LEAVES.format("file:///etc/passwd")),
-    "a data file by a link": (naming("link.bin"), "bad.odx-f, line 4, element DATAFILE: link.bin: a link that leaves the folder is refused"),
-    "a data file by a folder's link": (naming("above/a.bin"), "bad.odx-f, line 4, element DATAFILE: above/a.bin: a link that leaves the folder is refused"),
-    "a folder as a data file": (naming("folder"), "bad.odx-f, line 4, element DATAFILE: folder: no plain file"),
-    "a data file of 64 MiB and a byte": (naming("large.bin"), "bad.odx-f, line 4, element DATAFILE: large.bin: more than 67108864 bytes"),
+    "a data file by a link": (naming("link.bin"), NAMED.format("link.bin: a link that leaves the folder is refused")),
+    "a data file by a folder's link": (naming("above/a.bin"), NAMED.format("above/a.bin: a link that leaves the folder is refused")),
+    "a folder as a data file": (naming("folder"), NAMED.format("folder: no plain file")),
+    "a data file of 64 MiB and a byte": (naming("large.bin"), NAMED.format("large.bin: more than 67108864 bytes")),
 }
 
 
@@ -188,15 +189,15 @@ IN_INDEX = "bad.pdx, index.xml, line {}, element {}: {}"
 BOMB = zipped({**GOOD, "app.bin": bytes(65 * MEBIBYTE)})
 
 BAD_PACKAGES = {
-    "no zip": (b"flash", "bad.pdx: no sound zip: File is not a zip file"),
-    "a zip cut off": (zipped(GOOD)[:-30], "bad.pdx: no sound zip: File is not a zip file"),
+    "no zip": (b"flash", "bad.pdx: the zip cannot be read: File is not a zip file"),
+    "a zip cut off": (zipped(GOOD)[:-30], "bad.pdx: the zip cannot be read: File is not a zip file"),
     "a bomb that says its size": (BOMB, "bad.pdx, app.bin: more than 67108864 bytes"),
     "a bomb that hides its size": (with_size(BOMB, "app.bin", 3),
-                                   DOCUMENT.format("bad.pdx, app.bin: no sound zip: Bad CRC-32 for file 'app.bin'")),
+                                   DOCUMENT.format("bad.pdx, app.bin: the zip cannot be read: Bad CRC-32 for file 'app.bin'")),
     "over 1 GiB": (of_many(17), "bad.pdx, 16.bin: the package has more than 1073741824 bytes up to here"),
-    "too many members": (crowded(100_000), "bad.pdx: no sound zip: the list of members has more than 4194304 bytes"),
+    "too many members": (crowded(100_000), "bad.pdx: the zip cannot be read: the list of members has more than 4194304 bytes"),
     "a wrong sum": (patched(zipped(GOOD), "app.bin", 16, b"none"),
-                    DOCUMENT.format("bad.pdx, app.bin: no sound zip: Bad CRC-32 for file 'app.bin'")),
+                    DOCUMENT.format("bad.pdx, app.bin: the zip cannot be read: Bad CRC-32 for file 'app.bin'")),
     "an encrypted member": (patched(zipped(GOOD), "app.bin", 8, b"\1\0"), DOCUMENT.format("bad.pdx, app.bin: encrypted")),
     "a member of bzip2": (zipped(GOOD, zipfile.ZIP_BZIP2), "bad.pdx, index.xml: packed by method 12, and only deflate is read"),
     "a member above": (zipped({**GOOD, "../a.bin": b""}), MEMBER.format("../a.bin")),
@@ -254,7 +255,7 @@ def folders():
     os.mkdir("full")
     pathlib.Path("full/kept").write_bytes(b"kept")
     os.mkdir("empty")
-    refused("a file as the folder", ["a.pdx", "file"], "file: no folder")
+    refused("a file as the folder", ["a.pdx", "file"], "file: it is no folder")
     refused("a folder that is not empty", ["a.pdx", "full"], "full: the folder is not empty")
     refused("a folder in none", ["a.pdx", "none/out"], "none/out: it could not be written: No such file or directory")
     line = "{}: it could not be written: File too large"

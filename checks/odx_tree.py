@@ -10,9 +10,11 @@ import hashlib
 import json
 import os
 import pathlib
+import re
 import subprocess
 import sys
 import tempfile
+import textwrap
 import zipfile
 
 TOP = pathlib.Path(__file__).resolve().parent.parent
@@ -316,6 +318,12 @@ WHOLE = """<?xml version="1.0"?>
 </o:ODX>
 """
 
+WHOLE_TREE = r"""{"tag":"ODX","attrs":{"xsi:type":"PLAIN"},"kids":[
+{"tag":"ECU-MEM","attrs":{"ID":"E \"1\""},"text":"one  <three>  five ä","kids":[
+{"tag":"P","text":"two"},
+{"tag":"P","attrs":{"b":" x ","a":"ä"},"text":"<four> & \\"}]}]}
+"""
+
 
 def whole():
     """A whole catalogue, without name spaces, with text that stands around kids; no session, and parts that are not read."""
@@ -326,11 +334,7 @@ wrote Whole_tree-order.json: order, tasks: 0
 look at Whole_tree-order.json: there is no session, and so no task
 fill in Whole_tree-order.json: tester (0E80 stands there)
 """)
-    same("whole: catalogue", pathlib.Path("out/Whole_tree.json").read_text(encoding="utf-8"), r"""{"tag":"ODX","attrs":{"xsi:type":"PLAIN"},"kids":[
-{"tag":"ECU-MEM","attrs":{"ID":"E \"1\""},"text":"one  <three>  five ä","kids":[
-{"tag":"P","text":"two"},
-{"tag":"P","attrs":{"b":" x ","a":"ä"},"text":"<four> & \\"}]}]}
-""")
+    same("whole: catalogue", pathlib.Path("out/Whole_tree.json").read_text(encoding="utf-8"), WHOLE_TREE)
     same("whole: check", program("check", "Whole_tree-order.json"), (2, "input Whole_tree.json missing /0 MEM\n"))
 
 
@@ -399,16 +403,40 @@ units 1 bytes 14680064
     same("large: file", sha(pathlib.Path("outside/app.hex").read_bytes()), sha(text.encode()))
 
 
-CASES = {case.__name__: case for case in [formats, parts, refused, shared, package, whole, unread, deep, large]}
+def documented():
+    """The five commands of docs/FORMATS.md, on a package of the example document, print what is said there."""
+    docs = (TOP / "docs/FORMATS.md").read_text(encoding="utf-8")
+    section = docs.split("## From ODX-F documents and PDX packages\n")[1].split("\n## ")[0]
+    blocks = [textwrap.dedent(block) for block in re.findall(r"(?:^    .*\n)+", section, re.M)]
+    commands, converted, checked, imaged = blocks
+    words = [command.split() for command in commands.splitlines()]
+    files = "".join(f"<FILE>{name}</FILE>" for name in ["motor.odx-f", "application.hex"])
+    with zipfile.ZipFile("motor.pdx", "w") as archive:
+        archive.writestr("index.xml", f"<CATALOG><ABLOCKS><ABLOCK><FILES>{files}</FILES></ABLOCK></ABLOCKS></CATALOG>")
+        for name in ["motor.odx-f", "application.hex"]:
+            archive.write(TOP / "examples" / name, name)
+    same("documented: words", [words[0][:2], words[1][0], words[3][0], words[4][0]],
+         [["python3", "tools/odx_tree.py"], "cd", "flash_top", "flash_top"])
+    same("documented: lines", convert(*words[0][2:]), converted)
+    fill_in(words[2][1], {"application": {"HWNR": "F191"}}, words[1][1])
+    os.replace(f"{words[1][1]}/order.json", f"{words[1][1]}/{words[2][1]}")
+    same("documented: check", program(*words[3][1:], folder=words[1][1]), (0, checked))
+    same("documented: image", program(*words[4][1:], folder=words[1][1]), (0, imaged))
+    os.remove("motor.pdx")
+    same("documented: example", convert(str(TOP / "examples/motor.odx-f"), "example"), converted)
+
+
+CASES = [formats, parts, refused, shared, package, whole, unread, deep, large, documented]
 
 
 def main():
     ast.parse(SCRIPT.read_text(encoding="utf-8"), feature_version=(3, 8))
-    for name in sys.argv[2:] or CASES:
-        with tempfile.TemporaryDirectory() as folder:
-            os.chdir(folder)
-            CASES[name]()
-            os.chdir(TOP)
+    for case in CASES:
+        if case.__name__ in (sys.argv[2:] or [case.__name__]):
+            with tempfile.TemporaryDirectory() as folder:
+                os.chdir(folder)
+                case()
+                os.chdir(TOP)
     print(f"documents and packages: {counts['compared']} comparisons, {counts['wrong']} wrong")
     sys.exit(counts["wrong"] > 0)
 

@@ -10,5 +10,7 @@ program=${1:-$here/crates/flash_top/out/flash_top}
 python=${PYTHON:-python3}
 [ -x "$program" ] || { echo "skipped: no $program"; exit 0; }
 command -v "$python" > /dev/null || { echo "skipped: no $python"; exit 0; }
-"$python" "$here/checks/odx_tree.py" "$(cd "$(dirname "$program")" && pwd)/$(basename "$program")" || exit 1
-exec "$python" "$here/checks/odx_hostile.py"
+wrong=0
+"$python" "$here/checks/odx_tree.py" "$(cd "$(dirname "$program")" && pwd)/$(basename "$program")" || wrong=1
+"$python" "$here/checks/odx_hostile.py" || wrong=1
+exit "$wrong"

@@ -144,10 +144,12 @@ class DocumentReader:
         return self.builder.close()
 
     def refusal(self, text, element=None):
+        """A refusal at the place that is read, of the innermost open element where no other is named."""
         innermost = self.open_tags[-1] if self.open_tags else None
         return Refusal(text, self.file, self.parser.CurrentLineNumber, element or innermost)
 
     def start(self, name, attributes):
+        """A start tag, once the number of levels and of elements is within its bound."""
         self.since_event = 0
         self.elements += 1
         self.open_tags.append(local_name(name))
@@ -170,6 +172,7 @@ class DocumentReader:
         self.since_event = 0
 
     def declaration(self, _version, encoding, _standalone):
+        """The XML declaration. Without one, or without an encoding, the document is UTF-8, or UTF-16 by its first bytes."""
         self.since_event = 0
         if encoding is not None and encoding.upper() not in ("UTF-8", "UTF-16"):
             raise self.refusal(f"the encoding is {shown(encoding)}, and only UTF-8 and UTF-16 are read")
@@ -209,6 +212,7 @@ def short_name(element):
 # Catalogues: the tree to JSON.
 
 
+# The JSON text of a text, or of an object of texts.
 json_text = json.JSONEncoder(ensure_ascii=False, separators=(",", ":")).encode
 
 
@@ -351,7 +355,8 @@ class Names:
         return self.take(said[: len(said) - len(ending)], [ending]) + ending
 
 
-# Where documents and data files are read from.
+# Where documents and data files are read from: a document with files beside it, or a package. Either has the paths of its
+# documents, lines about itself, and a way to find a data file and to read a file in pieces.
 
 
 def leaves(said):
@@ -372,13 +377,22 @@ def is_document(path, media_type=""):
 
 @contextlib.contextmanager
 def reading(file):
-    """Makes a refusal of what goes wrong while a file is read."""
+    """Makes a refusal of what goes wrong while a file or a folder is read."""
     try:
         yield
     except OSError as error:
-        raise Refusal(error.strerror or str(error), file) from None
+        raise Refusal(f"it cannot be read: {error.strerror or error}", file) from None
+
+
+@contextlib.contextmanager
+def unpacking(file):
+    """Makes a refusal of what goes wrong while a package is read, for which zipfile has many words."""
+    try:
+        yield
+    except OSError as error:
+        raise Refusal(f"the zip cannot be read: {error.strerror or error}", file) from None
     except (zipfile.BadZipFile, zlib.error, EOFError, RuntimeError, ValueError, OverflowError, struct.error) as error:
-        raise Refusal(f"no sound zip: {shown(str(error))}", file) from None
+        raise Refusal(f"the zip cannot be read: {shown(str(error)) or 'it ends early'}", file) from None
 
 
 def pieces_of(stream, file):
@@ -402,6 +416,7 @@ class SingleDocument:
         self.place = f"not beside {shown(self.documents[0])}"
 
     def label(self, path):
+        """How a file is named in a refusal, and where it lies."""
         return os.path.join(self.folder, path)
 
     def find(self, _document, path):
@@ -418,6 +433,7 @@ class SingleDocument:
         return path
 
     def pieces(self, path):
+        """The bytes of a file."""
         file = self.label(path)
         with reading(file), open(file, "rb") as stream:
             yield from pieces_of(stream, file)
@@ -456,7 +472,7 @@ class Package:
         self.file = file
         self.lines = []
         self.place = f"not in {shown(os.path.basename(file))}"
-        with reading(file):
+        with unpacking(file):
             self.stream = PackageFile(io.FileIO(file))
             self.archive = zipfile.ZipFile(self.stream)
         self.members = self.sound_members()
@@ -467,6 +483,7 @@ class Package:
                 self.lines.append(f"look at {shown(path)}: {INDEX} does not list it")
 
     def label(self, path):
+        """How a member is named in a refusal."""
         return f"{self.file}, {shown(path)}"
 
     def sound_members(self):
@@ -520,13 +537,14 @@ class Package:
         return next((found for found in (beside, path) if found in self.members), None)
 
     def pieces(self, path):
+        """The bytes of a member, unpacked; a member whose sum or size is not as said is refused at its end."""
         member = self.members[path]
         file = self.label(path)
         if member.flag_bits & 1:
             raise Refusal("encrypted", file)
         if member.compress_type not in (zipfile.ZIP_STORED, zipfile.ZIP_DEFLATED):
             raise Refusal(f"packed by method {member.compress_type}, and only deflate is read", file)
-        with reading(file), self.archive.open(member) as stream:
+        with unpacking(file), self.archive.open(member) as stream:
             yield from pieces_of(stream, file)
 
     def close(self):
@@ -664,7 +682,7 @@ class Conversion:
 def refuse_folder(folder):
     """Refuses a folder that is neither new nor empty."""
     if os.path.lexists(folder) and not os.path.isdir(folder):
-        raise Refusal("no folder", folder)
+        raise Refusal("it is no folder", folder)
     with reading(folder):
         if os.path.isdir(folder) and os.listdir(folder):
             raise Refusal("the folder is not empty", folder)
