@@ -1,18 +1,19 @@
 -- The unit that the board gives is the one that may be claimed.
-use Rattle.std.proofs.Common.{◌≡◌, ◌≢◌, inl, inr, ℕ, zero, suc, ◌<◌, true, false, List, [], ◌∷◌, length, None, refl, sym, ◌∙◌, ap, subst, arith}
-use Rattle.std.specs.Prelude.{Bool, ◌==◌, ◌&&◌, not, nat_lt, is_none}
+use Rattle.std.proofs.Common.{◌≡◌, ◌≢◌, inl, inr, ℕ, zero, suc, ◌<◌, true, false, List, [], ◌∷◌, length, Some, None, refl, sym, ◌∙◌, ap, subst, arith}
+use Rattle.std.specs.Prelude.{Bool, Option, ◌==◌, ◌&&◌, not, nat_lt, is_none}
 use Rattle.std.proofs.lemmas.Bool.{cases_Bool, cases_lt, false≢true, and_parts, and_from, and_left, and_right, lt-ltb, le-ltb, eqb-true, eq-eqb}
 use Rattle.flash_base.specs.Lists.{Each, all_of}
 use Rattle.flash_base.specs.Numbers.{each_below}
-use Rattle.barrier_board.specs.Board.{post_of, says_complete, is_complete, is_free_at, IsFirstFree, IsNone}
+use Rattle.barrier_board.specs.Board.{post_of, says_complete, is_complete, is_free_at, IsFirstFree, IsNextFree}
 use Rattle.barrier_board.specs.declared.post.Post.{Post}
-use Rattle.bay_core.specs.Legal.{is_allowed, is_ready}
-use Rattle.bay_core.specs.declared.event.Event.TheVariants.{Claimed}
+use Rattle.bay_core.proofs.Allowed.{claim_facts}
+use Rattle.bay_core.specs.Legal.{is_ready, may_claim}
 use Rattle.flash_plan.specs.declared.outcome.Entry.TheVariants.{Complete}
+use Rattle.flash_plan.specs.declared.outcome.Outcome.{Outcome}
 use Rattle.flash_plan.specs.declared.unit.UnitPlan.{UnitPlan}
 use Rattle.flash_plan.specs.Plan.{plan_of, count_of, IsAccepted}
 use Rattle.bay_replay.specs.declared.state.Core as kept
-use Rattle.bay_replay.specs.Held.{Told, HoldsSlot, HoldsBody}
+use Rattle.bay_replay.specs.Held.{Told, HoldsSlot, HoldsBody, names}
 
 -- ------ of each number below another
 below_at : (n k : ℕ) (p : ℕ → Bool) → each_below n p ≡ true → k < n → p k ≡ true
@@ -55,15 +56,15 @@ module _ (P : List UnitPlan) (k : kept.Core) (t : Told) (b : HoldsBody P k t) (o
     | inr le ↦ (let e : nat_lt u (count_of P) ≡ false = le-ltb _ _ le in rw e refl)
   ]
 
-  not_claimed : (u : ℕ) → is_ready P t.core u ≡ false → is_allowed P t.core (Claimed u) ≡ false
+  not_claimed : (u : ℕ) → is_ready P t.core u ≡ false → may_claim P t.core u ≡ false
   not_claimed u is = and_left _ _ (and_right _ _ is)
 
   -- none is free
-  pub none_claimed : (u : ℕ) (new : List Post) → IsNone k.board new → is_allowed P t.core (Claimed u) ≡ false
-  none_claimed u new none = not_claimed u (not_ready u (λ lt. false_of _ (below_at (length k.board) u (λ w. not (is_free_at k.board w)) none.none (omega (arith, lt, b.posts)))))
+  none_claimed : (u : ℕ) → each_below (length k.board) (λ w. not (is_free_at k.board w)) ≡ true → may_claim P t.core u ≡ false
+  none_claimed u none = not_claimed u (not_ready u (λ lt. false_of _ (below_at (length k.board) u (λ w. not (is_free_at k.board w)) none (omega (arith, lt, b.posts)))))
 
   -- another is the first
-  pub other_claimed : (u n : ℕ) → IsFirstFree k.board n → n ≢ u → is_allowed P t.core (Claimed u) ≡ false
+  other_claimed : (u n : ℕ) → IsFirstFree k.board n → n ≢ u → may_claim P t.core u ≡ false
   other_claimed u n first ne = elim (cases_lt u n) [
     | inl lt ↦ not_claimed u (not_ready u (λ within. false_of _ (below_at n u (λ w. not (is_free_at k.board w)) first.lowest lt)))
     | inr le ↦ and_right _ _ (none_below (each_below u (λ w. not (is_ready P t.core w))) refl (omega (arith, le, ne)))
@@ -73,11 +74,31 @@ module _ (P : List UnitPlan) (k : kept.Core) (t : Told) (b : HoldsBody P k t) (o
       none_below false is lt = is
       none_below true is lt = absurd (true_not _ (sym (free_is n (omega (arith, first.within, b.posts))) ∙ first.free) (below_at u n (λ w. not (is_ready P t.core w)) is lt))
 
+  below_is : (u : ℕ) → u < count_of P → each_below u (λ w. not (is_free_at k.board w)) ≡ each_below u (λ w. not (is_ready P t.core w))
+  below_is u lt = below_same u (λ w. not (is_free_at k.board w)) (λ w. not (is_ready P t.core w)) (λ w less. ap not (free_is w (omega (arith, less, lt))))
+
   -- it is the first
-  pub first_claimed : (u : ℕ) → t.core.stop ≡ None → IsFirstFree k.board u → is_allowed P t.core (Claimed u) ≡ true
+  first_claimed : (u : ℕ) → t.core.halt.stop ≡ None → IsFirstFree k.board u → may_claim P t.core u ≡ true
   first_claimed u running first =
       let lt : u < count_of P = omega (arith, first.within, b.posts) in
       let ready : is_ready P t.core u ≡ true = sym (free_is u lt) ∙ first.free in
-      let below : each_below u (λ w. not (is_ready P t.core w)) ≡ true =
-      sym (below_same u (λ w. not (is_free_at k.board w)) (λ w. not (is_ready P t.core w)) (λ w less. ap not (free_is w (omega (arith, less, lt))))) ∙ first.lowest in
-      and_from _ _ (and_from _ _ (ap is_none running) ready) below
+      and_from _ _ (and_from _ _ (ap is_none running) ready) (sym (below_is u lt) ∙ first.lowest)
+
+  -- the unit that may be claimed is the one that the board names
+  pub next_claims : (next : Option ℕ) → t.core.halt.stop ≡ None → IsNextFree k.board next → (u : ℕ) → names next u ≡ may_claim P t.core u
+  next_claims None running none u = sym (none_claimed u none)
+  next_claims (Some n) running first u = elim (cases_Bool (n == u)) [
+    | inl e ↦ e ∙ sym (first_claimed u running (subst (IsFirstFree k.board) (eqb-true n u e) first))
+    | inr e ↦ e ∙ sym (other_claimed u n first (λ is. false≢true (sym e ∙ eq-eqb n u is)))
+  ]
+
+  -- a run that is stopped claims none
+  pub stopped_claims : (o : Outcome) → t.core.halt.stop ≡ Some o → (u : ℕ) → false ≡ may_claim P t.core u
+  stopped_claims o stopped u = sym (and_left _ _ (and_left _ _ (ap is_none stopped)))
+
+  -- one that may be claimed is the first that is free, and was not claimed
+  pub claims_first : (u : ℕ) → may_claim P t.core u ≡ true → IsFirstFree k.board u
+  claims_first u may =
+      let ready : is_ready P t.core u ≡ true = (and_parts _ _ (and_parts _ _ may).0).1 in
+      let lt : u < count_of P = (claim_facts P t.core u ready).below in
+      record { within = omega (arith, lt, b.posts); free = free_is u lt ∙ ready; lowest = below_is u lt ∙ (and_parts _ _ may).1 }

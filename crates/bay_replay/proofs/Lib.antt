@@ -3,6 +3,7 @@ pub mod Bodies
 pub mod Claiming
 pub mod Endings
 pub mod Lists
+pub mod Marks
 pub mod OneAnswer
 pub mod Settling
 pub mod Slots

@@ -1,12 +1,12 @@
 -- A list of events, one event after another.
 use Rattle.std.proofs.Common.{◌≡◌, inl, inr, ℕ, zero, suc, ◌+◌, ◌<◌, ◌≤◌, true, false, List, [], ◌∷◌, length, take, slice_get, Some, Result, Ok, Err, refl, sym, ◌∙◌, ap, subst, arith, add-one}
-use Rattle.std.specs.Prelude.{Bool, ◌&&◌, IfOk}
+use Rattle.std.specs.Prelude.{Bool, ◌&&◌, IfOk, OnErr}
 use Rattle.std.proofs.lemmas.Bool.{cases_Bool, and_from, and_left, and_right}
 use Rattle.barrier_board.specs.Board.{has_entry}
 use Rattle.bay_core.specs.Core.{Core, core_after, core_of, core_start, link_after, heard_link, taken_link}
 use Rattle.bay_core.specs.Legal.{is_allowed, is_legal}
 use Rattle.bay_core.specs.declared.event.Event.{Event}
-use Rattle.bay_core.specs.declared.event.Event.TheVariants.{Claimed, Began, Sent, Collected, Tended, Completed, DiskFailed, Ended}
+use Rattle.bay_core.specs.declared.event.Event.TheVariants.{Claimed, Began, Sent, Collected, Tended, Marked, Completed, DiskFailed, Ended}
 use Rattle.bay_core.specs.declared.event.Heard.{Heard}
 use Rattle.bay_core.specs.declared.event.Heard.TheVariants.{Kept, Quiet, Piece, Lost}
 use Rattle.bay_core.specs.declared.event.Tend.TheVariants.{Dialed, Asked, Said, Polled}
@@ -97,6 +97,7 @@ event_ticks rules P (Tended (Dialed lost)) l = omega (arith, lost_ticks lost l (
 event_ticks rules P (Tended (Asked lost)) l = omega (arith, lost_ticks lost l (record l { phase = Waits; asked = l.ticks }) refl)
 event_ticks rules P (Tended (Said lost)) l = omega (arith, lost_ticks lost l (record l { owes = false }) refl)
 event_ticks rules P (Tended (Polled h)) l = heard_ticks rules P h l
+event_ticks rules P (Marked u s) l = omega arith
 event_ticks rules P (Completed u) l = omega arith
 event_ticks rules P (DiskFailed u entry) l = omega arith
 event_ticks rules P (Ended u why) l = omega arith
@@ -112,9 +113,13 @@ pub if_ok : {T E : Type 0} (r : Result T E) (A B : T → Type 0) → ((x : T) �
 if_ok {T} {E} (Ok x) A B f a = f x a
 if_ok {T} {E} (Err e) A B f a = tt
 
-pub takes_at : (rules : LinkRules) (P : List UnitPlan) (found : List Entry) (es : List Event) (i : ℕ) (e : Event) (t : Told) (ok : Bool) (k : kept.Core) → t ≡ told_by rules P found (take i es) → slice_get es i ≡ Some e
-    → Takes P e t ok k → TakesAt rules P found es i ok k
-takes_at rules P found es i e t ok k is here h = record {
+pub on_err : {T E : Type 0} (r : Result T E) (A : Type 0) → A → OnErr r A
+on_err {T} {E} (Ok x) A a = tt
+on_err {T} {E} (Err e) A a = a
+
+pub takes_at : (rules : LinkRules) (P : List UnitPlan) (found : List Entry) (es : List Event) (i : ℕ) (e : Event) (t : Told) (old : kept.Core) (ok : Bool) (k : kept.Core) → t ≡ told_by rules P found (take i es) → slice_get es i ≡ Some e
+    → Takes P e t old ok k → TakesAt rules P found es i ok k
+takes_at rules P found es i e t old ok k is here h = record {
   allowed = λ x there. h.allowed ∙ (λ j. is_allowed P (is j).core (some_is e x (sym here ∙ there) j));
   holds = λ taken. subst (Holds P k) ((λ j. told_after P e (is j)) ∙ (λ j. record { rules = rules; core = sym (core_more rules P es i e (core_start P (has_entry found)) here) j })) (h.holds taken);
 }

@@ -1,5 +1,5 @@
 -- A conversation ends with an outcome of its own, and a run stops with one of its link or its disk.
-use Rattle.std.proofs.Common.{◌≡◌, ◌⊎◌, inl, inr, ℕ, ◌+◌, ◌<◌, true, false, List, [], ◌∷◌, Some, None, refl, subst}
+use Rattle.std.proofs.Common.{◌≡◌, ◌⊎◌, inl, inr, ℕ, ◌+◌, ◌<◌, true, false, List, [], ◌∷◌, ◌++◌, length, Some, None, refl, subst}
 use Rattle.std.specs.Prelude.{Bool, Option, ◌==◌, ◌&&◌, ◌||◌, nat_le, if◌then◌else◌}
 use Rattle.std.proofs.lemmas.Bool.{cases_Bool, false≢true, and_parts, eqb-true}
 use Rattle.bay_core.specs.Core.{Core}
@@ -8,12 +8,14 @@ use Rattle.flash_base.specs.Lists.{Each}
 use Rattle.flash_plan.specs.declared.outcome.Entry.TheVariants as entry
 use Rattle.flash_plan.specs.declared.outcome.Outcome.{Outcome}
 use Rattle.flash_plan.specs.declared.outcome.Outcome.TheVariants.{Complete, Blocked, DiskFault, NoMemory}
+use Rattle.flash_plan.specs.declared.unit.Segment.{Segment}
 use Rattle.flash_plan.specs.declared.unit.UnitPlan.{UnitPlan}
 use Rattle.flash_plan.specs.Outcomes.{same_outcome}
 use Rattle.flash_plan.specs.Plan.{plan_of, count_of}
 use Rattle.run_model.specs.Places.{is_ended, needs_request}
-use Rattle.run_model.specs.Script.{Place, AtEnd, start_place, idents_from}
-use Rattle.run_model.specs.Talk.{Talk, talk_lost, talk_hears, talk_takes, talk_quiet, keeps_on_loss}
+use Rattle.run_model.specs.Script.{Place, AtMark, AtEnd, start_place, idents_from, segments_from, place_marked}
+use Rattle.run_model.specs.Entries.{with_mark}
+use Rattle.run_model.specs.Talk.{Talk, talk_marked, talk_lost, talk_hears, talk_takes, talk_quiet, keeps_on_loss}
 use Rattle.run_model.specs.Ways.{Spoken, Reply, Unheard}
 use Rattle.unit_session.specs.Ends.{AnswerEnds}
 use Rattle.unit_session.proofs.Ends.{ends_are_caused}
@@ -34,6 +36,17 @@ lost_right plan begun t right = elim (cases_Bool (keeps_on_loss t.place)) [
   | inl e ↦ rw e right
   | inr e ↦ rw e (start_right plan begun)
 ]
+
+segments_right : (skipped : ℕ → Bool) (done ss : List Segment) → EndsRightly (segments_from skipped done ss)
+segments_right skipped done [] = tt
+segments_right skipped done (s ∷ ss) = elim (cases_Bool (skipped (length done))) [ inl e ↦ rw e (segments_right skipped (done ++ (s ∷ [])) ss) | inr e ↦ rw e tt ]
+
+pub marked_right : (s : ℕ) (t : Talk) → EndsRightly t.place → EndsRightly (talk_marked s t).place
+marked_right s t right = place_right t.place right
+  where
+    place_right : (place : Place) → EndsRightly place → EndsRightly (place_marked (with_mark s t.marks) place)
+    place_right (AtMark c) ends = segments_right (with_mark s t.marks) (c.done ++ (c.now ∷ [])) c.left
+    place_right place ends = ends
 
 -- what a place says where it is an end with each outcome that it may have
 ends_so : (place : Place) → ((outcome : Outcome) → place ≡ AtEnd outcome → IsVerdict outcome) → EndsRightly place
@@ -107,17 +120,17 @@ by_stop : (faulted : Bool) (stop : Option Outcome) (o : Outcome) → StopsRightl
 by_stop true stop o right is = same_right DiskFault o tt is
 by_stop false stop o right is = stopped_right stop o right is
 
-pub end_other : (P : List UnitPlan) (c : Core) (u : ℕ) (o : Outcome) → Each (λ w. w < count_of P) (plan_of P u).after → EndsRightly (c.slots u).talk.place → StopsRightly c.stop → may_end P c u o ≡ true → IsOther (count_of P) o
+pub end_other : (P : List UnitPlan) (c : Core) (u : ℕ) (o : Outcome) → Each (λ w. w < count_of P) (plan_of P u).after → EndsRightly (c.slots u).talk.place → StopsRightly c.halt.stop → may_end P c u o ≡ true → IsOther (count_of P) o
 end_other P c u o within ends stops is = first (or_parts _ _ (and_parts _ _ is).1)
   where
-    third : (((c.slots u).claimed && is_end (c.slots u).talk.place o) ≡ true) ⊎ ((if (c.slots u).faulted then same_outcome DiskFault o else is_stop c.stop o) ≡ true) → IsOther (count_of P) o
+    third : (((c.slots u).claimed && is_end (c.slots u).talk.place o) ≡ true) ⊎ ((if (c.slots u).faulted then same_outcome DiskFault o else is_stop c.halt.stop o) ≡ true) → IsOther (count_of P) o
     third (inl e) = verdict_other (count_of P) o (end_right (c.slots u).talk.place o ends (and_parts _ _ e).1)
-    third (inr e) = verdict_other (count_of P) o (by_stop (c.slots u).faulted c.stop o stops e)
+    third (inr e) = verdict_other (count_of P) o (by_stop (c.slots u).faulted c.halt.stop o stops e)
 
-    second : ((((c.slots u).claimed && is_end (c.slots u).talk.place o) || (if (c.slots u).faulted then same_outcome DiskFault o else is_stop c.stop o)) ≡ true) ⊎ (is_memory o ≡ true) → IsOther (count_of P) o
+    second : ((((c.slots u).claimed && is_end (c.slots u).talk.place o) || (if (c.slots u).faulted then same_outcome DiskFault o else is_stop c.halt.stop o)) ≡ true) ⊎ (is_memory o ≡ true) → IsOther (count_of P) o
     second (inl e) = third (or_parts _ _ e)
     second (inr e) = verdict_other (count_of P) o (memory_right o e)
 
-    first : (((((c.slots u).claimed && is_end (c.slots u).talk.place o) || (if (c.slots u).faulted then same_outcome DiskFault o else is_stop c.stop o)) || is_memory o) ≡ true) ⊎ (is_blocked P c u o ≡ true) → IsOther (count_of P) o
+    first : (((((c.slots u).claimed && is_end (c.slots u).talk.place o) || (if (c.slots u).faulted then same_outcome DiskFault o else is_stop c.halt.stop o)) || is_memory o) ≡ true) ⊎ (is_blocked P c u o ≡ true) → IsOther (count_of P) o
     first (inl e) = second (or_parts _ _ e)
     first (inr e) = blocked_other P c u o within e

@@ -9,8 +9,7 @@ use Rattle.run_model.specs.Link.{take_word, first_word}
 use Rattle.run_model.specs.Talk.{talk_hears, talk_takes}
 use Rattle.flash_plan.specs.Plan.{plan_of}
 use Rattle.bay_core.specs.Core.{with_slot, with_talk}
-use Rattle.bay_core.specs.Legal.{has_word}
-use Rattle.bay_replay.specs.Held.{Told, HoldsBody}
+use Rattle.bay_replay.specs.Held.{Told}
 use Rattle.unit_session.specs.Session.{IsOf, talk_of, is_begun}
 use Rattle.unit_session.specs.declared.session.UnitSession.{UnitSession}
 use Rattle.bay_replay.specs.declared.state.Core as kept
@@ -27,8 +26,8 @@ pub record KeepsSession (n : ℕ) (said : UnitSession) (old new : kept.Core) : T
   pub board : new.board ≡ old.board
   pub units : new.units ≡ set old.units n (record (unit_of old.units n) { session = said })
   pub link : new.link ≡ old.link
-  pub doubted : new.doubted ≡ old.doubted
-  pub stop : new.stop ≡ old.stop
+  pub halt : new.halt ≡ old.halt
+  pub before : new.before ≡ old.before
 
 -- the oldest message of a unit was taken, and the unit has heard it
 abbrev pub told_heard : List UnitPlan → ℕ → Told → Told
@@ -38,10 +37,6 @@ told_heard P u t = record t {
     slots = with_slot u (with_talk (talk_takes (plan_of P u) t.core.link.ticks (first_word (plan_of P u).address t.core.link.inbox)) (t.core.slots u)) t.core.slots;
   };
 }
-
-pub record HearsFirst (P : List UnitPlan) (u : ℕ) (t : Told) (ok : Bool) (k : kept.Core) : Type 0 where
-  pub there : ok ≡ has_word P t.core u
-  pub heard : HoldsBody P k (told_heard P u t)
 
 -- the first of the units that is not complete is that one, and has an outcome
 abbrev pub blocker : List Post → List ℕ → ℕ → Bool

@@ -1,3 +1,4 @@
+pub mod Bytes
 pub mod Held
 pub mod Hears
 pub mod Replays

@@ -1,18 +1,26 @@
 -- What is kept of each unit beside the board.
-use Rattle.std.specs.Prelude.{◌≡◌, ◌≢◌, ℕ, ◌<◌, false, List, length, slice_index_or}
+use Rattle.std.specs.Prelude.{◌≡◌, ◌≢◌, ℕ, ◌<◌, Bool, false, ◌&&◌, nat_lt, List, [], ◌∷◌, length, slice_index_or}
 use Rattle.flash_plan.specs.declared.outcome.Entry.{Entry}
 use Rattle.flash_plan.specs.declared.outcome.Entry.TheVariants.{Begun}
 use Rattle.flash_plan.specs.declared.unit.UnitPlan.{UnitPlan}
 use Rattle.flash_plan.specs.Plan.{plan_of, count_of}
 use Rattle.barrier_board.specs.Board.{has_entry}
-use Rattle.run_model.specs.Talk.{talk_start, talk_lost}
+use Rattle.run_model.specs.Entries.{marks_of}
+use Rattle.run_model.specs.Talk.{Talk, talk_start, talk_lost}
 use Rattle.unit_session.specs.Session.{IsOf, talk_of, is_begun}
 use Rattle.unit_session.specs.declared.session.UnitSession.{UnitSession}
 use Rattle.unit_session.specs.declared.stage.Stage.TheVariants.{Done}
 use Rattle.bay_replay.specs.declared.units.Unit.{Unit as Kept}
 
 abbrev pub no_session : UnitSession
-no_session = record { stage = Done; begun = false; awaiting = false; number = 0; since = 0; pendings = 0; busies = 0 }
+no_session = record { stage = Done; begun = false; marks = record { bits = 0 ∷ 0 ∷ 0 ∷ 0 ∷ [] }; awaiting = false; number = 0; since = 0; pendings = 0; busies = 0 }
+
+-- of its marks a conversation keeps those below 256: a unit has no more segments
+abbrev pub low_marks : (ℕ → Bool) → ℕ → Bool
+low_marks marks s = nat_lt s 256 && marks s
+
+abbrev pub kept_talk : Talk → Talk
+kept_talk t = record t { marks = low_marks t.marks }
 
 -- of no unit
 abbrev pub no_unit : Kept
@@ -28,7 +36,7 @@ pub record IsFresh (plan : UnitPlan) (found : List Entry) (n : ℕ) (u : Kept) :
   pub faulted : u.faulted ≡ false
   pub begun : u.begun ≡ has_entry found (Begun n)
   pub known : is_begun u.session ≡ has_entry found (Begun n)
-  pub talk : talk_of plan u.session ≡ talk_start plan (has_entry found (Begun n))
+  pub talk : talk_of plan u.session ≡ talk_start plan (has_entry found (Begun n)) (low_marks (marks_of (has_entry found) n))
   pub fits : IsOf plan u.session
 
 pub record AreFresh (P : List UnitPlan) (found : List Entry) (units : List Kept) : Type 0 where

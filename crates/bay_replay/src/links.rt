@@ -98,6 +98,7 @@ pub fn stop_by(link: &LinkState, rules: &LinkRules, event: &Event) -> Option<Out
         | Event::Sent { .. }
         | Event::Collected { .. }
         | Event::Tended { .. }
+        | Event::Marked { .. }
         | Event::Completed { .. }
         | Event::Ended { .. } => cause(link, rules),
     }

@@ -1,5 +1,5 @@
 ghost use Rattle.std.specs.Prelude.{◌≡◌, is_some};
-ghost use Rattle.bay_core.specs.Legal.{is_begin, is_done, is_end, is_memory};
+ghost use Rattle.bay_core.specs.Legal.{is_begin, is_mark, is_done, is_end, is_memory};
 ghost use Rattle.flash_plan.specs.Outcomes.{same_outcome};
 ghost use Rattle.flash_plan.specs.Plan.{IsAcceptedUnit};
 ghost use Rattle.run_model.specs.Script.{request_at};
@@ -32,7 +32,18 @@ pub fn is_at_begin(session: &UnitSession, unit: &UnitPlan) -> bool
 {
     match session.next(unit) {
         Ask::Begin => true,
-        Ask::Send | Ask::Wait | Ask::Done | Ask::Ended(_) => false,
+        Ask::Send | Ask::Wait | Ask::Mark { .. } | Ask::Done | Ask::Ended(_) => false,
+    }
+}
+
+/// Whether it stands where that this segment is marked is to be recorded.
+pub fn is_at_mark(session: &UnitSession, unit: &UnitPlan, segment: u16) -> bool
+    requires { IsOf unit.now session.now }
+    ensures { result ≡ is_mark segment (talk_of unit.now session.now).place }
+{
+    match session.next(unit) {
+        Ask::Mark { segment: said } => said == segment,
+        Ask::Begin | Ask::Send | Ask::Wait | Ask::Done | Ask::Ended(_) => false,
     }
 }
 
@@ -43,7 +54,7 @@ pub fn is_at_done(session: &UnitSession, unit: &UnitPlan) -> bool
 {
     match session.next(unit) {
         Ask::Done => true,
-        Ask::Begin | Ask::Send | Ask::Wait | Ask::Ended(_) => false,
+        Ask::Begin | Ask::Send | Ask::Wait | Ask::Mark { .. } | Ask::Ended(_) => false,
     }
 }
 
@@ -54,7 +65,7 @@ pub fn is_at_end(session: &UnitSession, unit: &UnitPlan, outcome: Outcome) -> bo
 {
     match session.next(unit) {
         Ask::Ended(said) => same(said, outcome),
-        Ask::Begin | Ask::Send | Ask::Wait | Ask::Done => false,
+        Ask::Begin | Ask::Send | Ask::Wait | Ask::Mark { .. } | Ask::Done => false,
     }
 }
 
@@ -65,17 +76,18 @@ pub fn has_request(session: &UnitSession, unit: &UnitPlan) -> bool
 {
     match session.next(unit) {
         Ask::Send | Ask::Wait => true,
-        Ask::Begin | Ask::Done | Ask::Ended(_) => false,
+        Ask::Begin | Ask::Mark { .. } | Ask::Done | Ask::Ended(_) => false,
     }
 }
 
 /// Whether an answer is awaited.
 pub fn is_waiting(session: &UnitSession, unit: &UnitPlan) -> bool
+    requires { IsOf unit.now session.now }
     ensures { result ≡ (talk_of unit.now session.now).awaiting }
 {
     match session.next(unit) {
         Ask::Wait => true,
-        Ask::Begin | Ask::Send | Ask::Done | Ask::Ended(_) => false,
+        Ask::Begin | Ask::Send | Ask::Mark { .. } | Ask::Done | Ask::Ended(_) => false,
     }
 }
 
@@ -94,8 +106,8 @@ pub fn heard(session: UnitSession, unit: &UnitPlan, message: &Message, tick: u64
     session
 }
 
-/// The conversation once the link was lost: behind Begin, Done and its end it stays, and else the
-/// attempt starts again.
+/// The conversation once the link was lost: at Begin, at a mark, at Done and behind its end it stays, and else
+/// the attempt starts again.
 pub fn lost(session: UnitSession, unit: &UnitPlan) -> UnitSession
     requires accepted { IsAcceptedUnit unit.now }
     requires of { IsOf unit.now session }
@@ -103,8 +115,8 @@ pub fn lost(session: UnitSession, unit: &UnitPlan) -> UnitSession
 {
     let mut session = session;
     match session.next(unit) {
-        Ask::Send | Ask::Wait => session.lost(),
-        Ask::Begin | Ask::Done | Ask::Ended(_) => {}
+        Ask::Begin => {}
+        Ask::Send | Ask::Wait | Ask::Mark { .. } | Ask::Done | Ask::Ended(_) => session.lost(),
     }
     session
 }

@@ -3,29 +3,43 @@ ghost use Rattle.std.specs.Prelude.{◌<◌, length};
 use crate::{ReplayFault, replay};
 use bay_core::{Event, Events, Heard, Tend};
 use flash_base::{Bytes, Items, KeyRule, Names, NoMemory, Text, Width};
-use flash_plan::{Draft, Entries, LinkRules, Outcome, Plan, Segment, accept};
+use flash_plan::{Draft, Entries, Entry, LinkRules, Outcome, Plan, Segment, accept};
 use std::alloc::Global;
 use std::process::Abort;
 use std::test::Fail;
 
-/// The plan of unit 1001 with the bytes `abc` at 1000, without key rule.
-fn smallest(alloc: Global) -> Result<Plan, Fail> {
+/// A unit with this name and address and the bytes `abc` at 1000, without key rule.
+fn draft(alloc: Global, name: &str, address: u16) -> Result<Draft, NoMemory> {
     let mut segments = Items::new(alloc);
     segments.push(Segment {
         at: 0x1000,
         body: Bytes::from_slice(alloc, b"abc")?,
     })?;
-    let mut drafts = Items::new(alloc);
-    drafts.push(Draft {
-        name: Text::from_str(alloc, "A")?,
-        address: 0x1001,
+    Ok(Draft {
+        name: Text::from_str(alloc, name)?,
+        address,
         width: Width { size: 4, at: 4 },
         check: 0x0202,
         key: KeyRule::Free,
         idents: Items::new(alloc),
         after: Names::new(alloc),
         segments,
-    })?;
+    })
+}
+
+/// The plan of unit 1001 alone.
+fn smallest(alloc: Global) -> Result<Plan, Fail> {
+    let mut drafts = Items::new(alloc);
+    drafts.push(draft(alloc, "A", 0x1001)?)?;
+    Ok(accept(alloc, drafts)?)
+}
+
+/// The plan of the units 1001, 1002 and 1003, none of which waits for another.
+fn three(alloc: Global) -> Result<Plan, Fail> {
+    let mut drafts = Items::new(alloc);
+    drafts.push(draft(alloc, "A", 0x1001)?)?;
+    drafts.push(draft(alloc, "B", 0x1002)?)?;
+    drafts.push(draft(alloc, "C", 0x1003)?)?;
     Ok(accept(alloc, drafts)?)
 }
 
@@ -55,17 +69,18 @@ const PENDING: &[u8] = b"\x03\xFC\x80\x01\x00\x00\x00\x07\x10\x01\x0E\x80\x7F\x3
 
 const BUSY: &[u8] = b"\x03\xFC\x80\x01\x00\x00\x00\x07\x10\x01\x0E\x80\x7F\x36\x21";
 
-/// The eight requests of the smallest run by their numbers, and their answers.
-const SMALLEST: &[(u32, &[u8])] = &[
+/// The eight requests of the smallest run by their numbers, and their answers: up to the check of its segment,
+/// and behind the mark.
+const TO_MARK: &[(u32, &[u8])] = &[
     (0, PROGRAMMING),
     (1, ERASED),
     (2, ROOM),
     (3, TAKEN),
     (4, EXITED),
     (5, CHECKED),
-    (6, FINISHED),
-    (7, RESTARTED),
 ];
+
+const TO_DONE: &[(u32, &[u8])] = &[(6, FINISHED), (7, RESTARTED)];
 
 /// The unit is claimed, or the link was lost; then the connection is made and activated: three events.
 fn connect(alloc: Global, log: &mut Events) -> Result<(), NoMemory> {
@@ -114,6 +129,16 @@ fn exchange(alloc: Global, log: &mut Events, steps: &[(u32, &[u8])]) -> Result<(
     Ok(())
 }
 
+/// The eight requests of the smallest run, and the mark of its segment: 17 events.
+fn programmed(alloc: Global, log: &mut Events) -> Result<(), NoMemory> {
+    exchange(alloc, log, TO_MARK)?;
+    log.push(Event::Marked {
+        unit: 0,
+        segment: 0,
+    })?;
+    exchange(alloc, log, TO_DONE)
+}
+
 /// What a replay answers: the place of the first event that is not allowed, or unit 0's outcome and
 /// what stopped the run.
 #[derive(Clone, Copy, Debug, PartialEq, Eq)]
@@ -123,12 +148,22 @@ enum Said {
 }
 
 fn answered(alloc: Global, plan: &Plan, relinks: u8, log: &Events) -> Result<Said, NoMemory> {
+    let found: Entries = Items::new(alloc);
+    replayed(alloc, plan, relinks, &found, log)
+}
+
+fn replayed(
+    alloc: Global,
+    plan: &Plan,
+    relinks: u8,
+    found: &Entries,
+    log: &Events,
+) -> Result<Said, NoMemory> {
     let rules = LinkRules {
         tester: 0x0E80,
         relinks,
     };
-    let found: Entries = Items::new(alloc);
-    match replay(alloc, plan, &rules, &found, log) {
+    match replay(alloc, plan, &rules, found, log) {
         Ok(core) => {
             if plan.units() == 0 {
                 return Err(NoMemory);
@@ -147,15 +182,37 @@ fn smallest_run(rt: HostRuntime) -> Result<(), Fail> {
     let plan = smallest(alloc)?;
     let mut log = opened(alloc)?;
     log.push(Event::Began { unit: 0 })?;
-    exchange(alloc, &mut log, SMALLEST)?;
+    programmed(alloc, &mut log)?;
     log.push(Event::Completed { unit: 0 })?;
     assert_eq!(rt;
         answered(alloc, &plan, 0, &log)?,
         Said::Good(Some(Outcome::Complete), None)
     );
     let mut without = opened(alloc)?;
-    exchange(alloc, &mut without, SMALLEST)?;
+    programmed(alloc, &mut without)?;
     assert_eq!(rt; answered(alloc, &plan, 0, &without)?, Said::Bad(4));
+    Ok(())
+}
+
+/// Without its mark the request behind the check is the first that is not allowed, with that of another segment
+/// the mark.
+#[test]
+fn marks(rt: HostRuntime) -> Result<(), Fail> {
+    let alloc = rt.alloc();
+    let plan = smallest(alloc)?;
+    let mut without = opened(alloc)?;
+    without.push(Event::Began { unit: 0 })?;
+    exchange(alloc, &mut without, TO_MARK)?;
+    exchange(alloc, &mut without, TO_DONE)?;
+    assert_eq!(rt; answered(alloc, &plan, 0, &without)?, Said::Bad(17));
+    let mut other = opened(alloc)?;
+    other.push(Event::Began { unit: 0 })?;
+    exchange(alloc, &mut other, TO_MARK)?;
+    other.push(Event::Marked {
+        unit: 0,
+        segment: 1,
+    })?;
+    assert_eq!(rt; answered(alloc, &plan, 0, &other)?, Said::Bad(17));
     Ok(())
 }
 
@@ -175,7 +232,7 @@ fn relinked(rt: HostRuntime) -> Result<(), Fail> {
     let plan = smallest(alloc)?;
     let mut log = lost(alloc)?;
     connect(alloc, &mut log)?;
-    exchange(alloc, &mut log, SMALLEST)?;
+    programmed(alloc, &mut log)?;
     log.push(Event::Completed { unit: 0 })?;
     let complete = Said::Good(Some(Outcome::Complete), None);
     assert_eq!(rt; answered(alloc, &plan, 1, &log)?, complete);
@@ -263,5 +320,111 @@ fn limits_of_patience(rt: HostRuntime) -> Result<(), Fail> {
     limit(&rt, alloc, &plan, log, Said::Good(Some(silent), None))?;
     let log = waiting(alloc, 999, None, false, silent)?;
     limit(&rt, alloc, &plan, log, Said::Bad(1011))?;
+    Ok(())
+}
+
+/// Three units that stand at Begin, and what of their group failed.
+fn group(alloc: Global, failed: &[(u16, Entry)]) -> Result<Events, NoMemory> {
+    let mut log = Items::new(alloc);
+    for unit in 0..3 {
+        log.push(Event::Claimed { unit })?;
+    }
+    connect(alloc, &mut log)?;
+    for (unit, entry) in failed {
+        log.push(Event::DiskFailed {
+            unit: *unit,
+            entry: *entry,
+        })?;
+    }
+    Ok(log)
+}
+
+fn end(log: &mut Events, unit: u16) -> Result<(), NoMemory> {
+    log.push(Event::Ended {
+        unit,
+        outcome: Outcome::DiskFault,
+    })
+}
+
+/// The appends of three units that stand at Begin fail together, and each unit ends so. Nothing is recorded behind
+/// a failed append, no append fails behind another event, and none of an entry that the unit does not stand at.
+#[test]
+fn failed_groups(rt: HostRuntime) -> Result<(), Fail> {
+    let alloc = rt.alloc();
+    let plan = three(alloc)?;
+    let all = [
+        (0, Entry::Begun(0)),
+        (1, Entry::Begun(1)),
+        (2, Entry::Begun(2)),
+    ];
+    let mut log = group(alloc, &all)?;
+    for unit in 0..3 {
+        end(&mut log, unit)?;
+    }
+    let failed = Said::Good(Some(Outcome::DiskFault), Some(Outcome::DiskFault));
+    assert_eq!(rt; answered(alloc, &plan, 0, &log)?, failed);
+    let mut behind = group(alloc, &all[..1])?;
+    behind.push(Event::Began { unit: 1 })?;
+    assert_eq!(rt; answered(alloc, &plan, 0, &behind)?, Said::Bad(7));
+    let mut parted = group(alloc, &all[..1])?;
+    end(&mut parted, 0)?;
+    parted.push(Event::DiskFailed {
+        unit: 1,
+        entry: Entry::Begun(1),
+    })?;
+    assert_eq!(rt; answered(alloc, &plan, 0, &parted)?, Said::Bad(8));
+    let other = group(alloc, &[(0, Entry::Begun(0)), (1, Entry::Complete(1))])?;
+    assert_eq!(rt; answered(alloc, &plan, 0, &other)?, Said::Bad(7));
+    Ok(())
+}
+
+/// An append of a mark fails: the unit ends so, and no mark comes behind it.
+#[test]
+fn failed_mark(rt: HostRuntime) -> Result<(), Fail> {
+    let alloc = rt.alloc();
+    let plan = smallest(alloc)?;
+    let mut log = opened(alloc)?;
+    log.push(Event::Began { unit: 0 })?;
+    exchange(alloc, &mut log, TO_MARK)?;
+    let entry = Entry::Marked {
+        unit: 0,
+        segment: 0,
+    };
+    log.push(Event::DiskFailed { unit: 0, entry })?;
+    end(&mut log, 0)?;
+    let failed = Said::Good(Some(Outcome::DiskFault), Some(Outcome::DiskFault));
+    assert_eq!(rt; answered(alloc, &plan, 0, &log)?, failed);
+    let mut again = opened(alloc)?;
+    again.push(Event::Began { unit: 0 })?;
+    exchange(alloc, &mut again, TO_MARK)?;
+    again.push(Event::DiskFailed { unit: 0, entry })?;
+    again.push(Event::Marked {
+        unit: 0,
+        segment: 0,
+    })?;
+    assert_eq!(rt; answered(alloc, &plan, 0, &again)?, Said::Bad(18));
+    Ok(())
+}
+
+/// A unit that was found begun with its segment marked goes from `10 02` to `31 01 FF 01`.
+#[test]
+fn found_marked(rt: HostRuntime) -> Result<(), Fail> {
+    let alloc = rt.alloc();
+    let plan = smallest(alloc)?;
+    let mut found = Items::new(alloc);
+    found.push(Entry::Begun(0))?;
+    found.push(Entry::Marked {
+        unit: 0,
+        segment: 0,
+    })?;
+    let mut log = opened(alloc)?;
+    exchange(
+        alloc,
+        &mut log,
+        &[(0, PROGRAMMING), (1, FINISHED), (2, RESTARTED)],
+    )?;
+    log.push(Event::Completed { unit: 0 })?;
+    let complete = Said::Good(Some(Outcome::Complete), None);
+    assert_eq!(rt; replayed(alloc, &plan, 0, &found, &log)?, complete);
     Ok(())
 }

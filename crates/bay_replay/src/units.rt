@@ -1,15 +1,16 @@
-ghost use Rattle.std.specs.Prelude.{◌≡◌, ◌<◌, length, set, IfOk};
+ghost use Rattle.std.specs.Prelude.{◌≡◌, ◌<◌, ℕ, length, set, IfOk};
 ghost use Rattle.barrier_board.specs.Board.{has_entry};
 ghost use Rattle.flash_plan.specs.Plan.{count_of, plan_of};
-ghost use Rattle.unit_session.specs.Session.{IsOf};
-ghost use Rattle.bay_replay.specs.Units.{unit_of, AreFresh, AreOf, AreLost, IsLostAt};
+ghost use Rattle.unit_session.specs.Session.{IsOf, has_mark};
+ghost use Rattle.run_model.specs.Entries.{marks_of};
+ghost use Rattle.bay_replay.specs.Units.{unit_of, low_marks, AreFresh, AreOf, AreLost, IsLostAt};
 
 use crate::sessions::lost;
 use flash_base::NoMemory;
 use flash_plan::{Entries, Entry, Plan};
 use std::alloc::Global;
 use std::marker::Model;
-use unit_session::UnitSession;
+use unit_session::{Marks, UnitSession};
 
 /// What is kept of one unit beside the board.
 #[derive(Clone, Copy, Debug, PartialEq, Eq)]
@@ -51,6 +52,21 @@ fn has(entries: &[Entry], entry: Entry) -> bool
     false
 }
 
+/// The segments of a unit that the entries mark; of those only the numbers below 256, as many as a unit has.
+fn marks_in(entries: &[Entry], unit: u16) -> Marks
+    ensures { (k : ℕ) → has_mark result k ≡ low_marks (marks_of (has_entry entries.now) unit) k }
+{
+    let mut marks = Marks::none();
+    for e in entries {
+        if let Entry::Marked { unit: n, segment } = e {
+            if *n == unit {
+                marks = marks.with(*segment);
+            }
+        }
+    }
+    marks
+}
+
 impl Units {
     /// The units of a plan before any event.
     pub fn new(alloc: Global, plan: &Plan, found: &Entries) -> Result<Units, NoMemory>
@@ -60,8 +76,9 @@ impl Units {
         let mut items = Vec::new(alloc);
         for n in 0..plan.units() {
             let begun = has(found.as_slice(), Entry::Begun(n));
+            let marks = marks_in(found.as_slice(), n);
             items.push(Unit {
-                session: UnitSession::new(begun),
+                session: UnitSession::new(begun, marks),
                 claimed: false,
                 begun,
                 faulted: false,

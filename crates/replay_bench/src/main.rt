@@ -55,6 +55,21 @@ fn exchange(alloc: Global, log: &mut Events, place: u32, answer: &[u8]) -> Resul
     })
 }
 
+/// Requests from this number on, with these answers.
+fn exchanges(
+    alloc: Global,
+    log: &mut Events,
+    place: u32,
+    answers: &[&[u8]],
+) -> Result<(), NoMemory> {
+    let mut place = place;
+    for answer in answers {
+        exchange(alloc, log, place, answer)?;
+        place = place.wrapping_add(1);
+    }
+    Ok(())
+}
+
 /// The events up to the answer of the download: blocks of one byte.
 fn opening(alloc: Global, log: &mut Events) -> Result<(), NoMemory> {
     log.push(Event::Claimed { unit: 0 })?;
@@ -75,7 +90,7 @@ fn opening(alloc: Global, log: &mut Events) -> Result<(), NoMemory> {
     exchange(alloc, log, 2, b"\x74\x10\x03")
 }
 
-/// The log of a run with so many blocks: 20 events, and two for each block.
+/// The log of a run with so many blocks: 21 events, and two for each block.
 fn log_of(alloc: Global, blocks: u32) -> Result<Events, NoMemory> {
     let mut log = Items::new(alloc);
     opening(alloc, &mut log)?;
@@ -86,15 +101,14 @@ fn log_of(alloc: Global, blocks: u32) -> Result<Events, NoMemory> {
         place = place.wrapping_add(1);
         counter = counter.wrapping_add(1);
     }
-    for answer in [
-        b"\x77".as_slice(),
-        b"\x71\x01\x02\x02\x00",
-        b"\x71\x01\xFF\x01\x00",
-        b"\x51\x01",
-    ] {
-        exchange(alloc, &mut log, place, answer)?;
-        place = place.wrapping_add(1);
-    }
+    let checked = [b"\x77".as_slice(), b"\x71\x01\x02\x02\x00"];
+    exchanges(alloc, &mut log, place, &checked)?;
+    log.push(Event::Marked {
+        unit: 0,
+        segment: 0,
+    })?;
+    let finished = [b"\x71\x01\xFF\x01\x00".as_slice(), b"\x51\x01"];
+    exchanges(alloc, &mut log, place.wrapping_add(2), &finished)?;
     log.push(Event::Completed { unit: 0 })?;
     Ok(log)
 }

@@ -1,7 +1,4 @@
 use Rattle.bay_replay.proofs.state.Core.may_begin.Given as goal
 
-abbrev pub ghost-is_open : goal.ghost-is_open
-ghost-is_open g a = g.told
-
-abbrev pub ghost-is_clear : goal.ghost-is_clear
-ghost-is_clear g a = g.told
+abbrev pub ghost-may_begin_at : goal.ghost-may_begin_at
+ghost-may_begin_at g a = g.told

@@ -5,3 +5,6 @@ ghost-is_open g a = g.told
 
 abbrev pub ghost-is_clear : goal.ghost-is_clear
 ghost-is_clear g a = g.told
+
+abbrev pub ghost-has_word : goal.ghost-has_word
+ghost-has_word g a = g.told

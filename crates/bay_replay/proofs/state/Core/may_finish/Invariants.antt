@@ -1,4 +1,4 @@
 use Rattle.bay_replay.proofs.state.Core.may_finish.Given as goal
 
-abbrev pub ghost-is_open : goal.ghost-is_open
-ghost-is_open g a = g.told
+abbrev pub ghost-may_finish_at : goal.ghost-may_finish_at
+ghost-may_finish_at g a = g.told

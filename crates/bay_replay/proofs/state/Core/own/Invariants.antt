@@ -1,7 +1,7 @@
 use Rattle.bay_replay.proofs.state.Core.own.Given as goal
 
-abbrev pub ghost-claim : goal.ghost-claim
-ghost-claim g a = g.told
+abbrev pub ghost-take_up : goal.ghost-take_up
+ghost-take_up g a = g.told
 
 abbrev pub ghost-begin : goal.ghost-begin
 ghost-begin g a = g.told
@@ -14,6 +14,9 @@ ghost-collect g a = g.told
 
 abbrev pub ghost-tend : goal.ghost-tend
 ghost-tend g a = g.told
+
+abbrev pub ghost-mark : goal.ghost-mark
+ghost-mark g a = g.told
 
 abbrev pub ghost-finish : goal.ghost-finish
 ghost-finish g a = g.told

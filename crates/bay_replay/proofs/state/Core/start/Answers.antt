@@ -17,8 +17,8 @@ returns c =
         slots = λ n lt. start_slot c.args.plan.now c.args.found.now c.in_ok-new.field-0 c.in_ok-new-2.field-0 n (c.in_ok-new-2.ensures.each n lt) (c.in_ok-new.ensures.each n lt);
         link = c.in_ok-new-3.ensures.shows;
         labels = subst (λ (xs : List ℕ). IsOf c.args.rules.tester xs c.in_ok-new-3.field-0) (c.as_slice.ensures.value ∙ c.in_ok-all.ensures) c.in_ok-new-3.ensures.of;
-        doubt = refl;
-        stop = refl;
+        halt = c.none.ensures;
+        before = c.none-2.ensures;
         right = tt;
       };
       byte = byte;

@@ -1,8 +1,7 @@
-use Rattle.bay_replay.specs.Held.{told_own}
 use Rattle.bay_replay.proofs.state.Core.step.Given as goal
 
-abbrev pub ghost-own : goal.ghost-own
-ghost-own g a = g.told
+abbrev pub ghost-may_take : goal.ghost-may_take
+ghost-may_take g a = g.told
 
-abbrev pub ghost-settle : goal.ghost-settle
-ghost-settle g a = told_own a.plan.now a.event.now g.told
+abbrev pub ghost-take : goal.ghost-take
+ghost-take g a = g.told

@@ -18,6 +18,6 @@ step-requires g c =
 
 pub returns : goal.returns
 returns g c =
-    if_ok c.step.result (λ (ok : Bool). Takes c.args.plan.now c.at.result.now g.told ok c.step.new.self)
+    if_ok c.step.result (λ (ok : Bool). Takes c.args.plan.now c.at.result.now g.told c.args.self.now ok c.step.new.self)
     (λ (ok : Bool). TakesAt c.args.rules.now c.args.plan.now c.args.found.now c.args.events.now c.args.i ok c.step.new.self)
-    (λ ok took. takes_at c.args.rules.now c.args.plan.now c.args.found.now c.args.events.now c.args.i c.at.result.now g.told ok c.step.new.self c.requires.1.1.0 c.at.ensures took) c.step.ensures
+    (λ ok took. takes_at c.args.rules.now c.args.plan.now c.args.found.now c.args.events.now c.args.i c.at.result.now g.told c.args.self.now ok c.step.new.self c.requires.1.1.0 c.at.ensures took) c.step.ensures.takes
