@@ -23,7 +23,7 @@ fn show<R: Print + Alloc<A = Global>>(rt: &R, bytes: &[u8]) -> io::Result<()> {
 
 /// A positive answer of each service, and a negative one of each code of the table.
 pub fn show_all<R: Print + Alloc<A = Global>>(rt: &R) -> io::Result<()> {
-    let answers: [&[u8]; 9] = [
+    let answers: [&[u8]; 13] = [
         b"\x50\x02\x00\x32\x01\xf4",
         b"\x51\x01",
         b"\x62\xf1\x95\x41\x42",
@@ -31,8 +31,12 @@ pub fn show_all<R: Print + Alloc<A = Global>>(rt: &R) -> io::Result<()> {
         b"\x67\x02",
         b"\x71\x01\xff\x00\x00",
         b"\x74\x20\x0f\xff",
+        b"\x75\x20\x0f\xff",
         b"\x76\x01",
+        b"\x76\x01abc",
         b"\x77",
+        b"\xc5\x02",
+        b"\x68\x03",
     ];
     for bytes in answers.iter() {
         show(rt, bytes)?;

@@ -35,11 +35,20 @@ fn show<R: Print + Alloc<A = Global>>(rt: &R, request: &Request) -> io::Result<(
                 "request download size_width={size_width} at_width={at_width} at={at} size={size} bytes={bytes}"
             )?;
         }
+        Request::Upload { width, at, size } => {
+            let (size_width, at_width) = (width.size, width.at);
+            println!(rt;
+                "request upload size_width={size_width} at_width={at_width} at={at} size={size} bytes={bytes}"
+            )?;
+        }
         Request::Transfer { counter, body } => {
             let body = digits(alloc, body.as_slice())?;
             println!(rt; "request transfer counter={counter} body={body} bytes={bytes}")?;
         }
+        Request::Pull { counter } => println!(rt; "request pull counter={counter} bytes={bytes}")?,
         Request::Exit => println!(rt; "request exit bytes={bytes}")?,
+        Request::Setting { off } => println!(rt; "request setting off={off} bytes={bytes}")?,
+        Request::Messages { off } => println!(rt; "request messages off={off} bytes={bytes}")?,
     }
     Ok(())
 }
@@ -47,7 +56,7 @@ fn show<R: Print + Alloc<A = Global>>(rt: &R, request: &Request) -> io::Result<(
 /// A number of so many bytes, of which no two are equal.
 fn number(width: u8) -> u64
     requires some { 1 ≤ width }
-    requires few { width ≤ 4 }
+    requires few { width ≤ 5 }
     ensures { result < pow256 width }
 {
     match width {
@@ -55,26 +64,44 @@ fn number(width: u8) -> u64
         2 => 0xfedc,
         3 => 0xfe_dcba,
         4 => 0xfedc_ba98,
+        5 => 0xfe_dcba_9876,
         _ => 0,
     }
 }
 
-/// A download at each pair of widths.
-fn show_downloads<R: Print + Alloc<A = Global>>(rt: &R) -> io::Result<()> {
+/// A download and an upload of these widths.
+fn show_area<R: Print + Alloc<A = Global>>(rt: &R, size_width: u8, at_width: u8) -> io::Result<()>
+    requires some_size { 1 ≤ size_width }
+    requires few_size { size_width ≤ 4 }
+    requires some_at { 1 ≤ at_width }
+    requires few_at { at_width ≤ 5 }
+{
+    let width = Width {
+        size: size_width,
+        at: at_width,
+    };
+    let at = number(at_width);
+    let size = number(size_width) / 2;
+    show(rt, &Request::Download { width, at, size })?;
+    show(rt, &Request::Upload { width, at, size })
+}
+
+/// Downloads and uploads at each pair of widths.
+fn show_areas<R: Print + Alloc<A = Global>>(rt: &R) -> io::Result<()> {
     for size_width in 1..5u8 {
-        for at_width in 1..5u8 {
-            let request = Request::Download {
-                width: Width {
-                    size: size_width,
-                    at: at_width,
-                },
-                at: number(at_width),
-                size: number(size_width) / 2,
-            };
-            show(rt, &request)?;
+        for at_width in 1..6u8 {
+            show_area(rt, size_width, at_width)?;
         }
     }
     Ok(())
+}
+
+/// Trouble codes and normal messages, off and on.
+fn show_settings<R: Print + Alloc<A = Global>>(rt: &R) -> io::Result<()> {
+    show(rt, &Request::Setting { off: true })?;
+    show(rt, &Request::Messages { off: true })?;
+    show(rt, &Request::Setting { off: false })?;
+    show(rt, &Request::Messages { off: false })
 }
 
 /// Requests with a key, an option or a block.
@@ -105,8 +132,8 @@ fn show_bodies<R: Print + Alloc<A = Global>>(rt: &R) -> io::Result<()> {
     Ok(())
 }
 
-/// Prints each request with its bytes, one to a line.
-pub fn show_all<R: Print + Alloc<A = Global>>(rt: &R) -> io::Result<()> {
+/// Requests of a few bytes.
+fn show_short<R: Print + Alloc<A = Global>>(rt: &R) -> io::Result<()> {
     for kind in 1..4u8 {
         show(rt, &Request::Session { kind })?;
     }
@@ -115,8 +142,21 @@ pub fn show_all<R: Print + Alloc<A = Global>>(rt: &R) -> io::Result<()> {
         show(rt, &Request::ReadId { did })?;
     }
     show(rt, &Request::Seed { level: 1 })?;
-    show(rt, &Request::Seed { level: 0x7d })?;
-    show_bodies(rt)?;
-    show_downloads(rt)?;
+    show(rt, &Request::Seed { level: 0x7d })
+}
+
+/// Requests of a transfer's end, and for its blocks.
+fn show_transfer<R: Print + Alloc<A = Global>>(rt: &R) -> io::Result<()> {
+    show(rt, &Request::Pull { counter: 1 })?;
+    show(rt, &Request::Pull { counter: 0xff })?;
     show(rt, &Request::Exit)
+}
+
+/// Prints each request with its bytes, one to a line.
+pub fn show_all<R: Print + Alloc<A = Global>>(rt: &R) -> io::Result<()> {
+    show_short(rt)?;
+    show_bodies(rt)?;
+    show_areas(rt)?;
+    show_transfer(rt)?;
+    show_settings(rt)
 }
