@@ -251,7 +251,7 @@ def package():
     """A package: names that are changed, a file that comes later, documents that are none of flash data."""
     files = {
         "Motor Teil 1.bin": b"1", "motor_teil_1.bin": b"22", "data/Motor Teil 1.bin": b"333", ".hidden": b"4444",
-        "Prüf.bin": b"55555", "kit.json": b"666666", "second/app.bin": b"APP", "diagnosis.odx-d": b"<ODX/>",
+        "Prüf.bin": b"55555", "Kit-Order.json": b"666666", "second/app.bin": b"APP", "diagnosis.odx-d": b"<ODX/>",
         "connectors.odx-f": b"<ODX><FLASH><ECU-MEM-CONNECTORS/></FLASH></ODX>",
         "index.xml": (DOCUMENTS / "index.xml").read_bytes(), "kit.odx-f": (DOCUMENTS / "kit.odx-f").read_bytes(),
         "second/kit.xml": (DOCUMENTS / "second.odx-f").read_bytes(),
@@ -267,7 +267,7 @@ wrote motor_teil_1-2.bin: data of FD.2
 wrote data_Motor_Teil_1.bin: data of FD.3
 wrote _.hidden: data of FD.4
 wrote Pr_f.bin: data of FD.5
-wrote kit-3.json: data of FD.6
+wrote Kit-Order-2.json: data of FD.6
 wrote app.bin: data of FD.SECOND
 wrote kit.json: catalogue of kit.odx-f
 wrote kit-2.json: catalogue of second/kit.xml
@@ -278,7 +278,7 @@ renamed motor_teil_1.bin to motor_teil_1-2.bin
 renamed data/Motor Teil 1.bin to data_Motor_Teil_1.bin
 renamed .hidden to _.hidden
 renamed Prüf.bin to Pr_f.bin
-renamed kit.json to kit-3.json
+renamed Kit-Order.json to Kit-Order-2.json
 missing late.bin: data of FD.LATE, not in kit.pdx
 renamed second/app.bin to app.bin
 missing late.bin: listed by index.xml
