@@ -159,7 +159,7 @@ pub fn flash<R: Threads + Wait + Sync, F: Shelf, S: Shop + Send, K: Sink>(
         → (IsTrue S.tells_disk → RecordsBoth (label_of b.plan) (disk_now (S.history result.0)))
         × (K.written out.new ≡ K.written out.old ++ report_text b.plan (outcome.Complete ∷ [])) }
 
-    // Where the gateway denied no activation and answered each in time, it is activated then for the order's tester.
+    // Where the vehicle departed from nothing, the gateway is activated then for the order's tester.
     ensures tester { IsTrue F.tells → IsTrue S.tells_vehicle
         → (order : List ℕ) (b : Built) → run_order (map string_bytes words.now) ≡ Some order → built (F.contents shelf.old) order (Ok b)
         → ¬ Rises (F.faults shelf.old) (F.faults shelf.new)

@@ -10,7 +10,8 @@ use unit_model::Got;
 ///
 /// Every call, also one that fails, is one moment, up to 2^63 moments; at the last one every
 /// call fails and changes nothing but its count of faults. What there was at a past moment never
-/// changes. The two counts of faults never fall and stay at 2^64 - 1 once there.
+/// changes. The two counts of faults never fall, and a call that fails raises its own, unless
+/// that has come to 2^64 - 1.
 ///
 /// A shop tells what its disk holds, what its vehicle does, both or neither: clauses on content
 /// hold for the part that is told.

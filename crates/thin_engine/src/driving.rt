@@ -211,7 +211,7 @@ pub fn drive<S: Shop>(alloc: Global, shop: &mut S, tester: u16, plan: &Plan) -> 
     // At Complete, whatever a crash leaves records that the unit is begun and complete, and nothing else.
     ensures recorded { result ≡ Ended.Ran Outcome.Complete → IsTrue S.tells_disk → RecordsBoth (label_of plan.now) (disk_now (S.history shop.new)) }
 
-    // Where the gateway denied no activation and answered each in time, it is activated for the tester.
+    // Where the vehicle departed from nothing, the gateway is activated for the tester then.
     ensures tester { IsTrue S.tells_vehicle
         → IsVehicleCalm (vehicle_now (S.history shop.old)) (vehicle_now (S.history shop.new))
         → result ≡ Ended.Ran Outcome.Complete → (vehicle_now (S.history shop.new)).gateway.active ≡ Some tester }
