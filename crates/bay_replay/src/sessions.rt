@@ -106,8 +106,8 @@ pub fn heard(session: UnitSession, unit: &UnitPlan, message: &Message, tick: u64
     session
 }
 
-/// The conversation once the link was lost: at Begin, at a mark, at Done and behind its end it stays, and else
-/// the attempt starts again.
+/// The conversation once the link was lost: at Begin, at a mark, at Done and behind its end it stays, and
+/// else the attempt starts again.
 pub fn lost(session: UnitSession, unit: &UnitPlan) -> UnitSession
     requires accepted { IsAcceptedUnit unit.now }
     requires of { IsOf unit.now session }

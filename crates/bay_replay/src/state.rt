@@ -38,14 +38,16 @@ pub struct Core {
 impl Core {
     /// The board: who was claimed, and the outcome of each unit.
     pub fn board(&self) -> &Board
-        ensures { (plan : List UnitPlan) (told : Told) → Holds plan self.now told → IsBoardOf plan told.core result.now }
+        ensures { (plan : List UnitPlan) (told : Told) → Holds plan self.now told
+            → IsBoardOf plan told.core result.now }
     {
         &self.board
     }
 
     /// The board alone.
     pub fn into_board(self) -> Board
-        ensures { (plan : List UnitPlan) (told : Told) → Holds plan self told → IsBoardOf plan told.core result }
+        ensures { (plan : List UnitPlan) (told : Told) → Holds plan self told
+            → IsBoardOf plan told.core result }
     {
         let Core {
             board,
@@ -59,7 +61,8 @@ impl Core {
 
     /// The conversation of a unit of the plan, or `None` where it was never claimed.
     pub fn session(&self, unit: u16) -> Option<UnitSession>
-        ensures { (plan : List UnitPlan) (told : Told) → Holds plan self.now told → unit < count_of plan → IsSeen (plan_of plan unit) (told.core.slots unit) result }
+        ensures { (plan : List UnitPlan) (told : Told) → Holds plan self.now told → unit < count_of plan
+            → IsSeen (plan_of plan unit) (told.core.slots unit) result }
     {
         if unit as usize >= self.units.len() {
             return None;
@@ -74,14 +77,16 @@ impl Core {
 
     /// The link: phase, ticks, losses, inboxes, and whether it owes an alive answer.
     pub fn link(&self) -> &LinkState
-        ensures { (plan : List UnitPlan) (told : Told) → Holds plan self.now told → Shows result.now told.core.link }
+        ensures { (plan : List UnitPlan) (told : Told) → Holds plan self.now told
+            → Shows result.now told.core.link }
     {
         &self.link
     }
 
     /// The outcome of what first stopped the run, or `None` where it is not stopped.
     pub fn stop(&self) -> Option<Outcome>
-        ensures { (plan : List UnitPlan) (told : Told) → Holds plan self.now told → result ≡ told.core.halt.stop }
+        ensures { (plan : List UnitPlan) (told : Told) → Holds plan self.now told
+            → result ≡ told.core.halt.stop }
     {
         self.halt.stop
     }
@@ -145,8 +150,8 @@ impl Core {
         self.units.lose(plan);
     }
 
-    /// Takes an event that is allowed. It wants memory only for bytes that a receive brought. Where there is none
-    /// for them, the link is shut, and no unit has an answer any more: the receive is no event of the run.
+    /// Takes an event that is allowed. It wants memory only for bytes that a receive brought. Where there is
+    /// none for them, the link is shut and each attempt starts again: the receive is no event of the run.
     pub fn take(&mut self, plan: &Plan, rules: &LinkRules, event: &Event) -> Result<(), NoMemory>
         ghost told: { Told }
         requires holds { Holds plan.now self.old told }

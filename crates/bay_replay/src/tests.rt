@@ -1,4 +1,6 @@
-ghost use Rattle.std.specs.Prelude.{◌<◌, length};
+ghost use Rattle.std.specs.Prelude.{◌<◌, length, IfOk};
+ghost use Rattle.flash_plan.specs.Accepting.{IsDraft};
+ghost use Rattle.flash_plan.specs.Plan.{IsTaskName};
 
 use crate::{ReplayFault, replay};
 use bay_core::{Event, Events, Heard, Tend};
@@ -9,7 +11,10 @@ use std::process::Abort;
 use std::test::Fail;
 
 /// A unit with this name and address and the bytes `abc` at 1000, without key rule.
-fn draft(alloc: Global, name: &str, address: u16) -> Result<Draft, NoMemory> {
+fn draft(alloc: Global, name: &str, address: u16) -> Result<Draft, NoMemory>
+    requires { IsTaskName name.now }
+    ensures { IfOk result IsDraft }
+{
     let mut segments = Items::new(alloc);
     segments.push(Segment {
         at: 0x1000,
@@ -69,8 +74,8 @@ const PENDING: &[u8] = b"\x03\xFC\x80\x01\x00\x00\x00\x07\x10\x01\x0E\x80\x7F\x3
 
 const BUSY: &[u8] = b"\x03\xFC\x80\x01\x00\x00\x00\x07\x10\x01\x0E\x80\x7F\x36\x21";
 
-/// The eight requests of the smallest run by their numbers, and their answers: up to the check of its segment,
-/// and behind the mark.
+/// The eight requests of the smallest run by their numbers, and their answers: up to the check of the
+/// segment, and behind its mark.
 const TO_MARK: &[(u32, &[u8])] = &[
     (0, PROGRAMMING),
     (1, ERASED),
@@ -194,8 +199,8 @@ fn smallest_run(rt: HostRuntime) -> Result<(), Fail> {
     Ok(())
 }
 
-/// Without its mark the request behind the check is the first that is not allowed, with that of another segment
-/// the mark.
+/// Without its mark the request behind the check is the first event that is not allowed; with the mark of
+/// another segment that is.
 #[test]
 fn marks(rt: HostRuntime) -> Result<(), Fail> {
     let alloc = rt.alloc();
@@ -346,8 +351,9 @@ fn end(log: &mut Events, unit: u16) -> Result<(), NoMemory> {
     })
 }
 
-/// The appends of three units that stand at Begin fail together, and each unit ends so. Nothing is recorded behind
-/// a failed append, no append fails behind another event, and none of an entry that the unit does not stand at.
+/// The appends of three units that stand at Begin fail together, and each unit ends so. Nothing is recorded
+/// behind a failed append; no append fails behind another event, and none of an entry at which its unit does
+/// not stand.
 #[test]
 fn failed_groups(rt: HostRuntime) -> Result<(), Fail> {
     let alloc = rt.alloc();

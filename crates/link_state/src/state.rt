@@ -136,7 +136,8 @@ impl LinkState {
     /// The routing activation was asked for.
     pub fn asked(&mut self, lost: bool)
         requires { loss_count self.old < 2 ^ 31 }
-        ensures shows { (l : Link) → is_live l.phase ≡ true → Shows self.old l → Shows self.new (asked_link lost l) }
+        ensures shows { (l : Link) → is_live l.phase ≡ true → Shows self.old l
+            → Shows self.new (asked_link lost l) }
         ensures of { SameLabels self.old self.new }
     {
         self.phase = Phase::Asked;
@@ -193,7 +194,8 @@ impl LinkState {
 
     /// Keeps a message of a unit of the plan, and drops any other.
     fn keep(&mut self, source: u16, message: Message) -> Result<(), NoMemory>
-        ensures shows { OnOk result ((l : Link) → ShowsBody self.old l → ShowsBody self.new (keep_word (is_known (units_of self.old) source) source (spoken_of message) l)) }
+        ensures shows { OnOk result ((l : Link) → ShowsBody self.old l
+            → ShowsBody self.new (keep_word (is_known (units_of self.old) source) source (spoken_of message) l)) }
         ensures rest { SameRest self.old self.new }
     {
         match place_of(&self.units, source) {
@@ -204,7 +206,9 @@ impl LinkState {
 
     /// A diagnostic message, where it is for this tester.
     fn hear(&mut self, source: u16, target: u16, body: &[u8]) -> Result<(), NoMemory>
-        ensures shows { OnOk result ((l : Link) → ShowsBody self.old l → ShowsBody self.new (keep_word (target == tester_of self.old && is_known (units_of self.old) source) source (Reply body.now) l)) }
+        ensures shows { OnOk result ((l : Link) → ShowsBody self.old l
+            → ShowsBody self.new (keep_word (target == tester_of self.old && is_known (units_of self.old) source)
+            source (Reply body.now) l)) }
         ensures rest { SameRest self.old self.new }
     {
         if target != self.tester {
@@ -216,7 +220,9 @@ impl LinkState {
 
     /// A message that was not delivered, where it is for this tester.
     fn miss(&mut self, source: u16, target: u16, code: u8) -> Result<(), NoMemory>
-        ensures shows { OnOk result ((l : Link) → ShowsBody self.old l → ShowsBody self.new (keep_word (target == tester_of self.old && is_known (units_of self.old) source) source (Unheard code) l)) }
+        ensures shows { OnOk result ((l : Link) → ShowsBody self.old l
+            → ShowsBody self.new (keep_word (target == tester_of self.old && is_known (units_of self.old) source)
+            source (Unheard code) l)) }
         ensures rest { SameRest self.old self.new }
     {
         if target != self.tester {
@@ -242,7 +248,8 @@ impl LinkState {
     /// One frame of an open connection; a header that was refused is a loss.
     fn see_frame(&mut self, frame: &Frame) -> Result<(), NoMemory>
         requires losses { loss_count self.old < 2 ^ 31 }
-        ensures shows { OnOk result ((l : Link) → ShowsBody self.old l → ShowsBody self.new (see_frame (tester_of self.old) (units_of self.old) frame.now l)) }
+        ensures shows { OnOk result ((l : Link) → ShowsBody self.old l
+            → ShowsBody self.new (see_frame (tester_of self.old) (units_of self.old) frame.now l)) }
         ensures rest { SameButLoss self.old self.new }
     {
         match frame {
@@ -271,7 +278,8 @@ impl LinkState {
     /// Nothing behind a loss or a denied activation is looked at.
     fn see(&mut self, frame: &Frame) -> Result<(), NoMemory>
         requires losses { is_open_now self.old ≡ true → loss_count self.old < 2 ^ 31 }
-        ensures shows { OnOk result ((l : Link) → ShowsBody self.old l → ShowsBody self.new (see (tester_of self.old) (units_of self.old) frame.now l)) }
+        ensures shows { OnOk result ((l : Link) → ShowsBody self.old l
+            → ShowsBody self.new (see (tester_of self.old) (units_of self.old) frame.now l)) }
         ensures rest { SameButLoss self.old self.new }
         ensures stays { is_open_now self.old ≡ false → self.new ≡ self.old }
     {
@@ -284,7 +292,8 @@ impl LinkState {
 
     fn see_frames(&mut self, frames: &Frames) -> Result<(), NoMemory>
         requires losses { loss_count self.old < 2 ^ 31 }
-        ensures shows { OnOk result ((l : Link) → ShowsBody self.old l → ShowsBody self.new (see_all (tester_of self.old) (units_of self.old) frames.now l)) }
+        ensures shows { OnOk result ((l : Link) → ShowsBody self.old l
+            → ShowsBody self.new (see_all (tester_of self.old) (units_of self.old) frames.now l)) }
         ensures rest { SameButLoss self.old self.new }
     {
         for i in 0..frames.len() {
@@ -308,7 +317,8 @@ impl LinkState {
     /// Looks at the frames that these bytes complete.
     fn look_at(&mut self, bytes: &[u8]) -> Result<(), NoMemory>
         requires losses { loss_count self.old < 2 ^ 31 }
-        ensures shows { OnOk result ((l : Link) → is_open l.phase ≡ true → Shows self.old l → Shows self.new (hear_piece (tester_of self.old) (units_of self.old) bytes.now l)) }
+        ensures shows { OnOk result ((l : Link) → is_open l.phase ≡ true → Shows self.old l
+            → Shows self.new (hear_piece (tester_of self.old) (units_of self.old) bytes.now l)) }
         ensures of { SameLabels self.old self.new }
     {
         let fed = self.deframer.feed(bytes)?;
@@ -343,11 +353,12 @@ impl LinkState {
         clear(&mut self.inboxes);
     }
 
-    /// A receive brought these bytes. Where there is no memory for them, phase, ticks, losses and whether an alive
-    /// check is to be answered stay, and no message and no byte is kept: the run may look at this link no more.
+    /// A receive brought these bytes. Where there is no memory for them, phase, ticks, losses and whether an
+    /// alive check is to be answered stay, and no message and no byte is kept: a run looks at this link no more.
     pub fn piece(&mut self, bytes: &[u8]) -> Result<(), NoMemory>
         requires losses { loss_count self.old < 2 ^ 31 }
-        ensures shows { OnOk result ((l : Link) → is_open l.phase ≡ true → Shows self.old l → Shows self.new (hear_piece (tester_of self.old) (units_of self.old) bytes.now l)) }
+        ensures shows { OnOk result ((l : Link) → is_open l.phase ≡ true → Shows self.old l
+            → Shows self.new (hear_piece (tester_of self.old) (units_of self.old) bytes.now l)) }
         ensures wants { OnErr result ((l : Link) → Shows self.old l → Shows self.new (emptied_link l)) }
         ensures of { SameLabels self.old self.new }
     {
@@ -371,7 +382,8 @@ impl LinkState {
 
     /// Whether there is a message of a unit.
     pub fn has_message(&self, unit: u16) -> bool
-        ensures { (l : Link) → Shows self.now l → is_known (units_of self.now) unit ≡ true → result ≡ is_some (first_word unit l.inbox) }
+        ensures { (l : Link) → Shows self.now l → is_known (units_of self.now) unit ≡ true
+            → result ≡ is_some (first_word unit l.inbox) }
     {
         match place_of(&self.units, unit) {
             Some(n) => has_any(&self.inboxes, n),
@@ -381,8 +393,10 @@ impl LinkState {
 
     /// Takes the oldest message of a unit.
     pub fn take(&mut self, unit: u16) -> Option<Message>
-        ensures word { (l : Link) → Shows self.old l → is_known (units_of self.old) unit ≡ true → option_spoken result ≡ first_word unit l.inbox }
-        ensures shows { (l : Link) → Shows self.old l → is_known (units_of self.old) unit ≡ true → Shows self.new (take_word unit l) }
+        ensures word { (l : Link) → Shows self.old l → is_known (units_of self.old) unit ≡ true
+            → option_spoken result ≡ first_word unit l.inbox }
+        ensures shows { (l : Link) → Shows self.old l → is_known (units_of self.old) unit ≡ true
+            → Shows self.new (take_word unit l) }
         ensures of { SameLabels self.old self.new }
     {
         match place_of(&self.units, unit) {

@@ -81,6 +81,7 @@ fn inboxes(rt: HostRuntime) -> Result<(), Fail> {
     piece(&rt, &mut link, ACTIVATED)?;
     piece(&rt, &mut link, FRAMES)?;
     assert!(rt; link.owes());
+    assert!(rt; link.has_message(0x1001));
     let Some(Message::Nack(code)) = link.take(0x1001) else {
         return Err("no refusal".into());
     };
@@ -89,7 +90,11 @@ fn inboxes(rt: HostRuntime) -> Result<(), Fail> {
         return Err("no reply".into());
     };
     assert_eq!(rt; body.as_slice(), b"\x77".as_slice());
+    assert!(rt; !link.has_message(0x1002));
     assert!(rt; link.take(0x1002).is_none());
+    link.shut();
+    assert_eq!(rt; link.phase(), Phase::Down);
+    assert_eq!(rt; link.losses(), 0);
     Ok(())
 }
 

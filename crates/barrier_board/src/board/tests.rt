@@ -79,6 +79,7 @@ fn what_is_complete_stays(rt: HostRuntime) -> Result<(), Fail> {
     assert_eq!(rt; board.outcome(0), Some(Outcome::Complete));
     entries.push(Entry::Complete(0))?;
     let mut again = Board::new(alloc, &plan, &entries)?;
+    assert_eq!(rt; again.next_free(), None);
     assert_eq!(rt; again.claim(), Claimed::Nothing);
     assert_eq!(rt; again.outcome(0), Some(Outcome::Complete));
     Ok(())

@@ -134,8 +134,8 @@ impl Core {
         self.may_finish_at(plan, unit, self.halt)
     }
 
-    /// Whether an append of this entry may have been tried now: it might be recorded, if the failed appends that
-    /// stand directly before were not there.
+    /// Whether an append of this entry may have been tried now: it might be recorded, if the failed appends
+    /// that stand directly before were not there.
     pub fn may_record(&self, plan: &Plan, unit: u16, entry: Entry) -> bool
         ghost told: { Told }
         requires { Holds plan.now self.now told }
@@ -172,8 +172,8 @@ impl Core {
         self.is_clear(plan)
     }
 
-    /// Whether an answer of the unit may be looked for now, and whether this fits its inbox: a message is kept
-    /// where there is one, and else a receive is made.
+    /// Whether an answer of the unit may be looked for now, and whether this fits its inbox: a message is
+    /// kept where there is one, and else a receive is made.
     pub fn may_collect(&self, plan: &Plan, unit: u16, got: &Heard) -> bool
         ghost told: { Told }
         requires { Holds plan.now self.now told }
@@ -270,7 +270,8 @@ impl Core {
         ghost told: { Told }
         requires holds { Holds plan.now self.now told }
         requires within { unit < count_of plan.now }
-        ensures { result ≡ ((told.core.slots unit).claimed && is_end (told.core.slots unit).talk.place outcome) }
+        ensures { result ≡ ((told.core.slots unit).claimed
+            && is_end (told.core.slots unit).talk.place outcome) }
     {
         let kept = self.units.at(unit);
         kept.claimed && sessions::is_at_end(&kept.session, plan.unit(unit), outcome)

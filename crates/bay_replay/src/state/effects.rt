@@ -72,8 +72,10 @@ impl Core {
         requires within { unit < count_of plan.now }
         requires size { length self.old.units ≡ count_of plan.now }
         requires fits { IsOf (plan_of plan.now unit) (unit_of self.old.units unit).session }
-        requires waits { (talk_of (plan_of plan.now unit) (unit_of self.old.units unit).session).awaiting ≡ true }
-        ensures { (told : Told) → HoldsBody plan.now self.old told → (told.core.slots unit).claimed ≡ true → HoldsBody plan.now self.new (told_heard plan.now unit told) }
+        requires waits { (talk_of (plan_of plan.now unit)
+            (unit_of self.old.units unit).session).awaiting ≡ true }
+        ensures { (told : Told) → HoldsBody plan.now self.old told → (told.core.slots unit).claimed ≡ true
+            → HoldsBody plan.now self.new (told_heard plan.now unit told) }
     {
         plan.is_accepted();
         let Some(message) = self.link.take(plan.unit(unit).address) else {
@@ -111,7 +113,8 @@ impl Core {
         ghost told: { Told }
         requires holds { Holds plan.now self.old told }
         requires allowed { may_collect plan.now told.core unit (Heard.Piece bytes.now) ≡ true }
-        ensures ok { OnOk result (HoldsBody plan.now self.new (told_own plan.now (Event.Collected unit (Heard.Piece bytes.now)) told)) }
+        ensures ok { OnOk result (HoldsBody plan.now self.new
+            (told_own plan.now (Event.Collected unit (Heard.Piece bytes.now)) told)) }
         ensures err { OnErr result (HoldsBody plan.now self.new (told_emptied told)) }
     {
         self.link.piece(bytes.as_slice())?;
@@ -133,7 +136,8 @@ impl Core {
         requires holds { Holds plan.now self.old told }
         requires ticks { told.core.link.ticks < 2 ^ 63 }
         requires allowed { may_collect plan.now told.core unit got.now ≡ true }
-        ensures ok { OnOk result (HoldsBody plan.now self.new (told_own plan.now (Event.Collected unit got.now) told)) }
+        ensures ok { OnOk result (HoldsBody plan.now self.new
+            (told_own plan.now (Event.Collected unit got.now) told)) }
         ensures err { OnErr result (HoldsBody plan.now self.new (told_emptied told)) }
         ensures free { brings_bytes got.now ≡ false → IsOk result }
     {
@@ -152,7 +156,8 @@ impl Core {
         requires holds { Holds plan.now self.old told }
         requires ticks { told.core.link.ticks < 2 ^ 63 }
         requires allowed { may_tend told.core (Tend.Polled got.now) ≡ true }
-        ensures ok { OnOk result (HoldsBody plan.now self.new (told_own plan.now (Event.Tended (Tend.Polled got.now)) told)) }
+        ensures ok { OnOk result (HoldsBody plan.now self.new
+            (told_own plan.now (Event.Tended (Tend.Polled got.now)) told)) }
         ensures err { OnErr result (HoldsBody plan.now self.new (told_emptied told)) }
         ensures free { brings_bytes got.now ≡ false → IsOk result }
     {
@@ -170,7 +175,8 @@ impl Core {
         requires holds { Holds plan.now self.old told }
         requires ticks { told.core.link.ticks < 2 ^ 63 }
         requires allowed { may_tend told.core step.now ≡ true }
-        ensures ok { OnOk result (HoldsBody plan.now self.new (told_own plan.now (Event.Tended step.now) told)) }
+        ensures ok { OnOk result (HoldsBody plan.now self.new
+            (told_own plan.now (Event.Tended step.now) told)) }
         ensures err { OnErr result (HoldsBody plan.now self.new (told_emptied told)) }
         ensures free { tends_bytes step.now ≡ false → IsOk result }
     {

@@ -1,6 +1,6 @@
 use Rattle.std.proofs.Common.{◌≡◌, length, arith}
 use Rattle.flash_plan.specs.Plan.{count_of}
-use Rattle.bay_replay.proofs.tests.answered.Goals as goal
+use Rattle.bay_replay.proofs.tests.replayed.Goals as goal
 
 pub outcome-requires : goal.outcome-requires
 outcome-requires c =
