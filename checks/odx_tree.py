@@ -247,6 +247,10 @@ units 2 bytes 8
         same(f"shared, UTF-16 {order}: files", {name: pathlib.Path(order, name).read_bytes() for name in listed(order)}, first)
 
 
+# A document whose data file lies at the top of the package.
+TOP_FILE = '<ECU-MEM><MEM><FLASHDATAS><FLASHDATA ID="FD.TOP"><DATAFILE>.hidden</DATAFILE></FLASHDATA></FLASHDATAS></MEM></ECU-MEM>'
+
+
 def package():
     """A package: names that are changed, a file that comes later, documents that are none of flash data."""
     files = {
@@ -254,7 +258,7 @@ def package():
         "Prüf.bin": b"55555", "Kit-Order.json": b"666666", "second/app.bin": b"APP", "diagnosis.odx-d": b"<ODX/>",
         "connectors.odx-f": b"<ODX><FLASH><ECU-MEM-CONNECTORS/></FLASH></ODX>",
         "index.xml": (DOCUMENTS / "index.xml").read_bytes(), "kit.odx-f": (DOCUMENTS / "kit.odx-f").read_bytes(),
-        "second/kit.xml": (DOCUMENTS / "second.odx-f").read_bytes(),
+        "second/kit.xml": (DOCUMENTS / "second.odx-f").read_bytes(), "third/top.odx": TOP_FILE.encode(),
     }
     with zipfile.ZipFile("kit.pdx", "w", zipfile.ZIP_DEFLATED) as archive:
         archive.writestr("data/", b"")
@@ -265,14 +269,16 @@ def package():
 wrote Motor_Teil_1.bin: data of FD.1, FD.7
 wrote motor_teil_1-2.bin: data of FD.2
 wrote data_Motor_Teil_1.bin: data of FD.3
-wrote _.hidden: data of FD.4
+wrote _.hidden: data of FD.4, FD.TOP
 wrote Pr_f.bin: data of FD.5
 wrote Kit-Order-2.json: data of FD.6
 wrote app.bin: data of FD.SECOND
 wrote kit.json: catalogue of kit.odx-f
 wrote kit-2.json: catalogue of second/kit.xml
+wrote top.json: catalogue of third/top.odx
 wrote kit-order.json: order, tasks: 2
 wrote kit-2-order.json: order, tasks: 1
+wrote top-order.json: order, tasks: 0
 renamed Motor Teil 1.bin to Motor_Teil_1.bin
 renamed motor_teil_1.bin to motor_teil_1-2.bin
 renamed data/Motor Teil 1.bin to data_Motor_Teil_1.bin
@@ -283,12 +289,15 @@ missing late.bin: data of FD.LATE, not in kit.pdx
 renamed second/app.bin to app.bin
 missing late.bin: listed by index.xml
 look at connectors.odx-f: index.xml does not list it
+look at third/top.odx: index.xml does not list it
 skipped connectors.odx-f: it has no ECU-MEM
+look at top-order.json: there is no session, and so no task
 fill in kit-order.json: tester (0E80 stands there)
 fill in kit-order.json: task ALL: unit (1001), check (0202), key (none)
 fill in kit-order.json: task LATE: unit (1002), check (0202), key (none)
 fill in kit-2-order.json: tester (0E80 stands there)
 fill in kit-2-order.json: task SECOND: unit (1001), check (0202), key (none)
+fill in top-order.json: tester (0E80 stands there)
 """)
     same("package: check", program("check", "kit-order.json"), (4, "shelf late.bin missing\n"))
     fill_in("kit-order.json", {"ALL": {}})
@@ -339,14 +348,16 @@ fill in Whole_tree-order.json: tester (0E80 stands there)
 
 
 def unread():
-    """Sessions that no task can name, more than a plan takes, and a method of compression that check does not look at."""
+    """Sessions that no task can name, more than a plan takes, or where check finds none; a method that it does not look at."""
     sessions = "".join(f'<SESSION ID="S{at}"><SHORT-NAME>S</SHORT-NAME></SESSION>\n' for at in range(1002))
     put("many.odx", f"""<ECU-MEM><MEM><SESSIONS>
 <SESSION><SHORT-NAME>NONE</SHORT-NAME></SESSION>
 <SESSION ID="{'ä' * 65}"/>
 {sessions}</SESSIONS><DATABLOCKS><DATABLOCK>
 <SEGMENTS><SEGMENT>
-<ENCRYPT-COMPRESS-METHOD/></SEGMENT></SEGMENTS></DATABLOCK></DATABLOCKS></MEM></ECU-MEM>""".encode())
+<ENCRYPT-COMPRESS-METHOD/></SEGMENT></SEGMENTS></DATABLOCK></DATABLOCKS><SESSIONS><SESSION ID="SECOND"/></SESSIONS></MEM>
+<MEM><SESSIONS><SESSION ID="THIRD"/></SESSIONS></MEM>
+<ECU-MEM><MEM><SESSIONS><SESSION ID="FOURTH"/></SESSIONS></MEM></ECU-MEM></ECU-MEM>""".encode())
     lines = convert("many.odx").split("\n")
     same("many: lines", lines[:9], [
         "wrote many.json: catalogue of many.odx",

@@ -439,7 +439,7 @@ class SingleDocument:
             yield from pieces_of(stream, file)
 
     def close(self):
-        pass
+        """Nothing stays open."""
 
 
 class PackageFile(io.BufferedReader):
