@@ -3,7 +3,7 @@ use Rattle.std.specs.Prelude.{◌≡◌, ℕ, ◌+◌, ◌/◌, ◌≤◌, true,
 use Rattle.flash_base.specs.Numbers.{number_of}
 use Rattle.uds_codec.specs.declared.request.Request.{Request}
 use Rattle.uds_codec.specs.declared.request.Request.TheVariants.{Session, Seed, Key, ReadId, Routine, Download, Upload, Transfer, Pull, Exit, Reset, Setting, Messages}
-use Rattle.uds_codec.specs.Answer.{Later, Again, Refusal, Good, Bad_status, judge}
+use Rattle.uds_codec.specs.Answer.{Pending, Busy, Refusal, Accepted, BadStatus, judge}
 use Rattle.uds_codec.specs.Form.{HasLength}
 use Rattle.uds_codec.specs.Laws.{IsPair, Spells}
 use Rattle.uds_codec.specs.Request.{sid_of}
@@ -60,13 +60,13 @@ Refuses request bytes code = bytes ≡ 127 ∷ sid_of request ∷ code ∷ []
 
 -- Each verdict stands exactly where the answer is as it says.
 pub record IsAnswered : Type 0 where
-  pub good : (r : Request) (request bytes more : List ℕ) → Spells r request → judge request bytes ≡ Good more → Answers r bytes more
-  pub answers : (r : Request) (request bytes more : List ℕ) → Spells r request → Answers r bytes more → judge request bytes ≡ Good more
-  pub status : (r : Request) (request bytes : List ℕ) (status : ℕ) → Spells r request → judge request bytes ≡ Bad_status status → EndsWith r bytes status
-  pub ends : (r : Request) (request bytes : List ℕ) (status : ℕ) → Spells r request → EndsWith r bytes status → judge request bytes ≡ Bad_status status
-  pub later : (request bytes : List ℕ) → judge request bytes ≡ Later → Refuses request bytes 120
-  pub again : (request bytes : List ℕ) → judge request bytes ≡ Again → Refuses request bytes 33
+  pub good : (r : Request) (request bytes more : List ℕ) → Spells r request → judge request bytes ≡ Accepted more → Answers r bytes more
+  pub answers : (r : Request) (request bytes more : List ℕ) → Spells r request → Answers r bytes more → judge request bytes ≡ Accepted more
+  pub status : (r : Request) (request bytes : List ℕ) (status : ℕ) → Spells r request → judge request bytes ≡ BadStatus status → EndsWith r bytes status
+  pub ends : (r : Request) (request bytes : List ℕ) (status : ℕ) → Spells r request → EndsWith r bytes status → judge request bytes ≡ BadStatus status
+  pub later : (request bytes : List ℕ) → judge request bytes ≡ Pending → Refuses request bytes 120
+  pub again : (request bytes : List ℕ) → judge request bytes ≡ Busy → Refuses request bytes 33
   pub refusal : (request bytes : List ℕ) (code : ℕ) → judge request bytes ≡ Refusal code → Refuses request bytes code
-  pub waits : (request bytes : List ℕ) → Refuses request bytes 120 → judge request bytes ≡ Later
-  pub busy : (request bytes : List ℕ) → Refuses request bytes 33 → judge request bytes ≡ Again
+  pub waits : (request bytes : List ℕ) → Refuses request bytes 120 → judge request bytes ≡ Pending
+  pub busy : (request bytes : List ℕ) → Refuses request bytes 33 → judge request bytes ≡ Busy
   pub refused : (request bytes : List ℕ) (code : ℕ) → (code ≡ 120 → ⊥) → (code ≡ 33 → ⊥) → Refuses request bytes code → judge request bytes ≡ Refusal code

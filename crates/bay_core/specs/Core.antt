@@ -1,9 +1,11 @@
 -- What the events make of a run: link, units, records, and what stopped it.
 use Rattle.std.specs.Prelude.{ℕ, ◌+◌, Bool, true, false, ◌||◌, ◌==◌, nat_lt, List, [], ◌∷◌, Option, Some, None, if◌then◌else◌}
-use Rattle.run_model.specs.Entries.{with_entry, marks_of}
+use Rattle.flash_plan.specs.Outcomes.{with_entry}
+use Rattle.run_model.specs.Entries.{marks_of}
 use Rattle.flash_plan.specs.declared.outcome.Outcome.TheVariants as outcome
 use Rattle.flash_plan.specs.declared.outcome.Outcome.TheVariants.{DiskFault, LinkLost, LinkRefused}
-use Rattle.run_model.specs.Link.{Link, Phase, Down, Fresh, Waits, Up, Denied, link_start, hear_piece, polled_quiet, drop_link, lost_or, dialed_link, asked_link, said_link, take_word, first_word}
+use Rattle.run_model.specs.Link.{Link, Phase, link_start, hear_piece, polled_quiet, drop_link, lost_or, dialed_link, asked_link, said_link, take_message, first_message}
+use Rattle.run_model.specs.Link as phase
 use Rattle.flash_plan.specs.declared.unit.UnitPlan.{UnitPlan}
 use Rattle.flash_plan.specs.declared.unit.LinkRules.{LinkRules}
 use Rattle.flash_plan.specs.declared.outcome.Entry.{Entry}
@@ -33,9 +35,9 @@ heard_link rules P Lost l = drop_link l
 
 -- for the unit that waits a message is taken, where there is one
 abbrev pub taken_link : ℕ → Heard → Link → Link
-taken_link a Kept l = take_word a l
+taken_link a Kept l = take_message a l
 taken_link a Quiet l = l
-taken_link a (Piece bytes) l = take_word a l
+taken_link a (Piece bytes) l = take_message a l
 taken_link a Lost l = l
 
 abbrev pub tended_link : LinkRules → List UnitPlan → Tend → Link → Link
@@ -103,9 +105,9 @@ abbrev pub with_talk : (Talk → Talk) → Slot → Slot
 with_talk f s = record s { talk = f s.talk }
 
 abbrev pub collects : List UnitPlan → LinkRules → ℕ → Heard → Link → Talk → Talk
-collects P rules u Kept l t = talk_takes (plan_of P u) l.ticks (first_word (plan_of P u).address l.inbox) t
+collects P rules u Kept l t = talk_takes (plan_of P u) l.ticks (first_message (plan_of P u).address l.inbox) t
 collects P rules u Quiet l t = talk_quiet (plan_of P u) (l.ticks + 1) t
-collects P rules u (Piece bytes) l t = talk_takes (plan_of P u) l.ticks (first_word (plan_of P u).address (heard_link rules P (Piece bytes) l).inbox) t
+collects P rules u (Piece bytes) l t = talk_takes (plan_of P u) l.ticks (first_message (plan_of P u).address (heard_link rules P (Piece bytes) l).inbox) t
 collects P rules u Lost l t = t
 
 -- before a loss is looked at
@@ -139,11 +141,11 @@ doubted_after (DiskFailed u entry) doubted = with_entry entry doubted
 doubted_after e doubted = doubted
 
 abbrev pub refused_stop : Phase → Option Outcome
-refused_stop Down = None
-refused_stop Fresh = None
-refused_stop Waits = None
-refused_stop Up = None
-refused_stop (Denied code) = Some (LinkRefused code)
+refused_stop phase.Down = None
+refused_stop phase.Dialed = None
+refused_stop phase.Asked = None
+refused_stop phase.Up = None
+refused_stop (phase.Refused code) = Some (LinkRefused code)
 
 abbrev pub link_stop : LinkRules → Link → Option Outcome
 link_stop rules l = if nat_lt rules.relinks l.losses then Some (LinkLost l.losses) else refused_stop l.phase

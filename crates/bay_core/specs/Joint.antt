@@ -14,7 +14,7 @@ use Rattle.run_model.specs.Script.{bytes_at}
 use Rattle.run_model.specs.Sound.{IsSound, AllComplete, HasSegment, VehicleHas}
 use Rattle.run_model.specs.States.{StateIn}
 use Rattle.run_model.specs.Talk.{Talk}
-use Rattle.run_model.specs.Ways.{Spoken, AwaitsIn, on_way, words_later, ascends_for}
+use Rattle.run_model.specs.Ways.{UnitMessage, AwaitsIn, on_way, messages_later, ascends_for}
 use Rattle.uds_codec.specs.Request.{sid_of}
 use Rattle.unit_model.specs.Unit.{ControlUnit}
 use Rattle.unit_model.specs.Vehicle.{HeldAnswer, Gateway, Vehicle, unit_at}
@@ -33,7 +33,7 @@ is_open_slot s = s.claimed && is_none s.outcome
 -- Nothing is on the way from a unit that was not claimed, nor from one that awaits nothing and whose conversation has not
 -- ended. The state agrees with the answers of this attempt. Of a unit whose answer is awaited, either the gateway's refusal to
 -- deliver is on the way, or responses pending and at last the answer of the very step that the unit made.
-pub record IsSlotJoint (plan : UnitPlan) (live : Bool) (s : Slot) (way : List Spoken) (o : Option ControlUnit) : Type 0 where
+pub record IsSlotJoint (plan : UnitPlan) (live : Bool) (s : Slot) (way : List UnitMessage) (o : Option ControlUnit) : Type 0 where
   pub unclaimed : live ≡ true → s.claimed ≡ false → way ≡ []
   pub rests : live ≡ true → s.claimed ≡ true → s.talk.awaiting ≡ false → is_ended s.talk.place ≡ false → way ≡ []
   pub state : is_open_slot s ≡ true → s.talk.awaiting ≡ false → StateIn plan s.talk.place o
@@ -48,7 +48,7 @@ pub record IsLoneHeld (tester a sid : ℕ) (g : Gateway) : Type 0 where
   pub one : HeldAnswer
   pub held : held_of a g.held ≡ one ∷ []
   pub service : one.sid ≡ sid
-  pub later : words_later tester a g.later ≡ []
+  pub later : messages_later tester a g.later ≡ []
 
 abbrev pub HoldsAtMost : ℕ → ℕ → ℕ → Gateway → Type 0
 HoldsAtMost tester a sid g = (held_of a g.held ≡ []) ⊎ IsLoneHeld tester a sid g

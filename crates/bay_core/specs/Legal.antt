@@ -16,7 +16,7 @@ use Rattle.bay_core.specs.declared.event.Tend.{Tend}
 use Rattle.bay_core.specs.declared.event.Tend.TheVariants.{Dialed, Asked, Said, Polled}
 use Rattle.bay_core.specs.declared.event.Event.{Event}
 use Rattle.bay_core.specs.declared.event.Event.TheVariants.{Claimed, Began, Sent, Collected, Tended, Marked, Completed, DiskFailed, Ended}
-use Rattle.run_model.specs.Link.{is_down, is_fresh, is_waiting, is_up, first_word}
+use Rattle.run_model.specs.Link.{is_down, is_dialed, is_asked, is_up, first_message}
 use Rattle.run_model.specs.Script.{Place, AtBegin, AtMark, AtDone, AtEnd, request_at}
 use Rattle.bay_core.specs.Core.{Core, core_after}
 
@@ -58,8 +58,8 @@ abbrev pub may_send : List UnitPlan → Core → ℕ → ℕ → Bool
 may_send P c u place = is_open_unit P c u && is_some (request_at (plan_of P u) (c.slots u).talk.place)
     && place == (c.slots u).talk.number && not (c.slots u).talk.awaiting && is_clear c
 
-abbrev pub has_word : List UnitPlan → Core → ℕ → Bool
-has_word P c u = is_some (first_word (plan_of P u).address c.link.inbox)
+abbrev pub has_message : List UnitPlan → Core → ℕ → Bool
+has_message P c u = is_some (first_message (plan_of P u).address c.link.inbox)
 
 abbrev pub fits_inbox : Heard → Bool → Bool
 fits_inbox Kept has = has
@@ -68,16 +68,16 @@ fits_inbox (Piece bytes) has = not has
 fits_inbox Lost has = not has
 
 abbrev pub may_collect : List UnitPlan → Core → ℕ → Heard → Bool
-may_collect P c u heard = is_open_unit P c u && (c.slots u).talk.awaiting && is_clear c && fits_inbox heard (has_word P c u)
+may_collect P c u heard = is_open_unit P c u && (c.slots u).talk.awaiting && is_clear c && fits_inbox heard (has_message P c u)
 
 abbrev pub fits_link : Core → Tend → Bool
 fits_link c (Dialed lost) = is_down c.link.phase
-fits_link c (Asked lost) = is_fresh c.link.phase
+fits_link c (Asked lost) = is_dialed c.link.phase
 fits_link c (Said lost) = is_up c.link.phase && c.link.owes
 fits_link c (Polled Kept) = false
-fits_link c (Polled Quiet) = is_waiting c.link.phase
-fits_link c (Polled (Piece bytes)) = is_waiting c.link.phase
-fits_link c (Polled Lost) = is_waiting c.link.phase
+fits_link c (Polled Quiet) = is_asked c.link.phase
+fits_link c (Polled (Piece bytes)) = is_asked c.link.phase
+fits_link c (Polled Lost) = is_asked c.link.phase
 
 abbrev pub may_tend : Core → Tend → Bool
 may_tend c step = is_running c && fits_link c step

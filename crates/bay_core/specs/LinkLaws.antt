@@ -5,7 +5,8 @@ use Rattle.doip_frame.specs.declared.frame.Frame.{Frame}
 use Rattle.doip_frame.specs.declared.frame.Frame.TheVariants.{HeaderNack, Activate, Activated, AliveAsk, AliveSay, Message, Ack, Nack, Other}
 use Rattle.flash_plan.specs.declared.unit.LinkRules.{LinkRules}
 use Rattle.flash_plan.specs.declared.unit.UnitPlan.{UnitPlan}
-use Rattle.run_model.specs.Link.{Link, Phase, Waits, Up, Denied, see_all, unanswered, quiet_link}
+use Rattle.run_model.specs.Link.{Link, Phase, see_all, unanswered, quiet_link}
+use Rattle.run_model.specs.Link as phase
 use Rattle.bay_core.specs.Core.{link_after}
 use Rattle.bay_core.specs.declared.event.Heard.{Heard}
 use Rattle.bay_core.specs.declared.event.Heard.TheVariants.{Kept, Quiet, Piece, Lost}
@@ -69,12 +70,12 @@ first_code (Nack s t code old ∷ fs) = first_code fs
 first_code (Other kind payload ∷ fs) = first_code fs
 
 abbrev pub phase_for : Option ℕ → Phase
-phase_for None = Waits
-phase_for (Some code) = if code == 16 then Up else Denied code
+phase_for None = phase.Asked
+phase_for (Some code) = if code == 16 then phase.Up else phase.Refused code
 
 -- An event is at most one loss, and a loss is one of the four things. While the activation is awaited, the first answer
 -- decides, whatever addresses it has. Behind a denial nothing is looked at.
 pub record AreLinkLaws : Type 0 where
   pub loss : (rules : LinkRules) (P : List UnitPlan) (e : Event) (l : Link) → LosesAtMostOne (IsLoss e l) l (link_after rules P e l)
-  pub first : (tester : ℕ) (units : List ℕ) (fs : List Frame) (l : Link) → l.phase ≡ Waits → refuses_header fs ≡ false → (see_all tester units fs l).phase ≡ phase_for (first_code fs)
-  pub denied : (tester code : ℕ) (units : List ℕ) (fs gs : List Frame) (l : Link) → (see_all tester units fs l).phase ≡ Denied code → see_all tester units (fs ++ gs) l ≡ see_all tester units fs l
+  pub first : (tester : ℕ) (units : List ℕ) (fs : List Frame) (l : Link) → l.phase ≡ phase.Asked → refuses_header fs ≡ false → (see_all tester units fs l).phase ≡ phase_for (first_code fs)
+  pub denied : (tester code : ℕ) (units : List ℕ) (fs gs : List Frame) (l : Link) → (see_all tester units fs l).phase ≡ phase.Refused code → see_all tester units (fs ++ gs) l ≡ see_all tester units fs l

@@ -1,7 +1,7 @@
 -- What one event does to the vehicle and to the records.
 use Rattle.std.specs.Prelude.{◌≡◌, ◌⊎◌, ℕ, Bool, List, MatchBool}
 use Rattle.flash_plan.specs.declared.unit.UnitPlan.{UnitPlan}
-use Rattle.run_model.specs.Entries.{with_entry}
+use Rattle.flash_plan.specs.Outcomes.{with_entry}
 use Rattle.bay_core.specs.Core.{Core}
 use Rattle.doip_frame.specs.Frame.{activate_bytes, alive_say_bytes, message_bytes}
 use Rattle.unit_model.specs.Vehicle.{Vehicle, redialed}

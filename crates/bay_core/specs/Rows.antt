@@ -2,7 +2,7 @@
 -- segments, the first of which was found marked.
 use Rattle.std.specs.Prelude.{◌≡◌, ℕ, Bool, true, false, ◌||◌, List, [], ◌∷◌, ◌++◌, Some}
 use Rattle.flash_base.specs.declared.unit.KeyRule.TheVariants.{Free}
-use Rattle.flash_plan.specs.Outcomes.{same_entry}
+use Rattle.flash_plan.specs.Outcomes.{same_entry, with_entry}
 use Rattle.flash_plan.specs.declared.outcome.Entry.{Entry}
 use Rattle.flash_plan.specs.declared.outcome.Entry.TheVariants as entry
 use Rattle.flash_plan.specs.declared.outcome.Entry.TheVariants.{Begun}
@@ -10,7 +10,6 @@ use Rattle.flash_plan.specs.declared.outcome.Outcome.TheVariants.{DiskFault}
 use Rattle.flash_plan.specs.declared.unit.LinkRules.{LinkRules}
 use Rattle.flash_plan.specs.declared.unit.Segment.{Segment}
 use Rattle.flash_plan.specs.declared.unit.UnitPlan.{UnitPlan}
-use Rattle.run_model.specs.Entries.{with_entry}
 use Rattle.bay_core.specs.Core.{Core, core_start, core_of}
 use Rattle.bay_core.specs.Joint.{RecordsAgree}
 use Rattle.bay_core.specs.Legal.{is_legal}

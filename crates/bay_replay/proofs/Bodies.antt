@@ -19,16 +19,17 @@ use Rattle.flash_plan.specs.declared.outcome.Outcome.{Outcome}
 use Rattle.flash_plan.specs.declared.outcome.Outcome.TheVariants.{Complete}
 use Rattle.flash_plan.specs.declared.unit.UnitPlan.{UnitPlan}
 use Rattle.flash_plan.specs.Plan.{IsAcceptedUnit, plan_of, count_of}
-use Rattle.link_state.specs.Inboxes.{spoken_of}
+use Rattle.link_state.specs.Inboxes.{message_of}
 use Rattle.link_state.specs.declared.inbox.Message.{Message}
 use Rattle.link_state.specs.State.{Shows, IsOf, SameLabels, units_of, loss_count}
 use Rattle.link_state.specs.declared.state.LinkState.{LinkState}
-use Rattle.run_model.specs.Entries.{with_entry, marks_of}
-use Rattle.run_model.specs.Link.{Link, take_word, first_word, is_known}
+use Rattle.flash_plan.specs.Outcomes.{with_entry}
+use Rattle.run_model.specs.Entries.{marks_of}
+use Rattle.run_model.specs.Link.{Link, take_message, first_message, is_known}
 use Rattle.run_model.specs.Places.{is_ended, needs_request}
 use Rattle.run_model.specs.Script.{request_at}
 use Rattle.run_model.specs.Talk.{Talk, talk_takes, talk_hears, talk_start, talk_marked}
-use Rattle.run_model.specs.Ways.{Spoken}
+use Rattle.run_model.specs.Ways.{UnitMessage}
 use Rattle.unit_session.specs.Session as session
 use Rattle.unit_session.specs.Session.{talk_of, is_begun}
 use Rattle.unit_session.specs.declared.session.UnitSession.{UnitSession}
@@ -72,12 +73,12 @@ talked_body P k k2 t u said f l2 m lt b shows labels keeps claimed known talk ma
 
 -- ------ the message of a unit
 -- there is none: the unit hears nothing
-pub unheard_body : (P : List UnitPlan) (k : kept.Core) (t : Told) (u : ℕ) (l2 : LinkState) → u < count_of P → HoldsBody P k t → Shows l2 (take_word (plan_of P u).address t.core.link) → IsOf t.rules.tester (addresses_of P) l2
-    → first_word (plan_of P u).address t.core.link.inbox ≡ None → HoldsBody P (record k { link = l2 }) (told_heard P u t)
+pub unheard_body : (P : List UnitPlan) (k : kept.Core) (t : Told) (u : ℕ) (l2 : LinkState) → u < count_of P → HoldsBody P k t → Shows l2 (take_message (plan_of P u).address t.core.link) → IsOf t.rules.tester (addresses_of P) l2
+    → first_message (plan_of P u).address t.core.link.inbox ≡ None → HoldsBody P (record k { link = l2 }) (told_heard P u t)
 unheard_body P k t u l2 lt b shows labels none = record {
   posts = b.posts;
   units = b.units;
-  slots = subst (λ (w : Option Spoken). HoldsSlots P k.board k.units t.core.recorded (with_slot u (with_talk (talk_takes (plan_of P u) t.core.link.ticks w) (t.core.slots u)) t.core.slots)) (sym none)
+  slots = subst (λ (w : Option UnitMessage). HoldsSlots P k.board k.units t.core.recorded (with_slot u (with_talk (talk_takes (plan_of P u) t.core.link.ticks w) (t.core.slots u)) t.core.slots)) (sym none)
       (same_slots P k.board k.units t.core.recorded t.core.slots u lt b.slots);
   link = shows;
   labels = labels;
@@ -125,9 +126,9 @@ given_body P k t u o posts2 R2 lt b is others begun marks says = record {
         }
 
 -- ------ the oldest message of a unit
-pub record TookWord (P : List UnitPlan) (t : Told) (u : ℕ) (l2 : LinkState) (word : Option Spoken) : Type 0 where
-  pub is : word ≡ first_word (plan_of P u).address t.core.link.inbox
-  pub shows : Shows l2 (take_word (plan_of P u).address t.core.link)
+pub record TookWord (P : List UnitPlan) (t : Told) (u : ℕ) (l2 : LinkState) (word : Option UnitMessage) : Type 0 where
+  pub is : word ≡ first_message (plan_of P u).address t.core.link.inbox
+  pub shows : Shows l2 (take_message (plan_of P u).address t.core.link)
 
 -- the address of a unit is one of the link's
 pub known_here : (P : List UnitPlan) (k : kept.Core) (t : Told) (u a : ℕ) → u < count_of P → a ≡ (plan_of P u).address → HoldsBody P k t → is_known (units_of k.link) a ≡ true
@@ -135,21 +136,21 @@ known_here P k t u a lt address b =
     let in_plan : is_known (addresses_of P) a ≡ true = subst (λ (x : ℕ). is_known (addresses_of P) x ≡ true) (sym address) (known_address P u lt) in
     subst (λ (xs : List ℕ). is_known xs a ≡ true) (sym b.labels.units_are) in_plan
 
-pub taken_from : (P : List UnitPlan) (k : kept.Core) (t : Told) (u a : ℕ) (l2 : LinkState) (word : Option Spoken) → u < count_of P → a ≡ (plan_of P u).address → HoldsBody P k t
-    → ((l : Link) → Shows k.link l → is_known (units_of k.link) a ≡ true → word ≡ first_word a l.inbox) → ((l : Link) → Shows k.link l → is_known (units_of k.link) a ≡ true → Shows l2 (take_word a l)) → TookWord P t u l2 word
+pub taken_from : (P : List UnitPlan) (k : kept.Core) (t : Told) (u a : ℕ) (l2 : LinkState) (word : Option UnitMessage) → u < count_of P → a ≡ (plan_of P u).address → HoldsBody P k t
+    → ((l : Link) → Shows k.link l → is_known (units_of k.link) a ≡ true → word ≡ first_message a l.inbox) → ((l : Link) → Shows k.link l → is_known (units_of k.link) a ≡ true → Shows l2 (take_message a l)) → TookWord P t u l2 word
 taken_from P k t u a l2 word lt address b words shows =
     let known : is_known (units_of k.link) a ≡ true = known_here P k t u a lt address b in
     record {
-      is = words t.core.link b.link known ∙ ap (λ (x : ℕ). first_word x t.core.link.inbox) address;
-      shows = subst (λ (x : ℕ). Shows l2 (take_word x t.core.link)) address (shows t.core.link b.link known);
+      is = words t.core.link b.link known ∙ ap (λ (x : ℕ). first_message x t.core.link.inbox) address;
+      shows = subst (λ (x : ℕ). Shows l2 (take_message x t.core.link)) address (shows t.core.link b.link known);
     }
 
 -- what was heard, in the words of the unit's task
-pub heard_talk : (plan pl : UnitPlan) (said : UnitSession) (tick tick2 : ℕ) (message : Message) (word : Option Spoken) (at unit : Kept) (t : Talk) → IsAcceptedUnit plan → pl ≡ plan → tick ≡ tick2 → word ≡ Some (spoken_of message)
+pub heard_talk : (plan pl : UnitPlan) (said : UnitSession) (tick tick2 : ℕ) (message : Message) (word : Option UnitMessage) (at unit : Kept) (t : Talk) → IsAcceptedUnit plan → pl ≡ plan → tick ≡ tick2 → word ≡ Some (message_of message)
     → at ≡ unit → talk_of plan unit.session ≡ kept_talk t → HasHeard pl tick message at.session said → talk_of plan said ≡ kept_talk (talk_takes plan tick2 word t)
 heard_talk plan pl said tick tick2 message word at unit t ok ep et ew ea is h =
-    subst (λ (x : Option Spoken). talk_of plan said ≡ kept_talk (talk_takes plan tick2 x t)) (sym ew)
-    (sym (λ i. talk_of (ep i) said) ∙ h.talk ∙ (λ i. talk_hears (ep i) (et i) (spoken_of message) (talk_of (ep i) (ea i).session)) ∙ ap (talk_hears plan tick2 (spoken_of message)) is ∙ hears_low plan tick2 (spoken_of message) t ok)
+    subst (λ (x : Option UnitMessage). talk_of plan said ≡ kept_talk (talk_takes plan tick2 x t)) (sym ew)
+    (sym (λ i. talk_of (ep i) said) ∙ h.talk ∙ (λ i. talk_hears (ep i) (et i) (message_of message) (talk_of (ep i) (ea i).session)) ∙ ap (talk_hears plan tick2 (message_of message)) is ∙ hears_low plan tick2 (message_of message) t ok)
 
 -- a unit that waits has not ended
 pub waits_going : (plan : UnitPlan) (post : Post) (unit : Kept) (R : Entry → Bool) (n : ℕ) (s : Slot) → HoldsSlot plan post unit R n s → s.talk.awaiting ≡ true → is_ended s.talk.place ≡ false

@@ -15,7 +15,8 @@ use Rattle.flash_plan.specs.declared.unit.LinkRules.{LinkRules}
 use Rattle.flash_plan.specs.declared.unit.UnitPlan.{UnitPlan}
 use Rattle.run_model.proofs.Sees.{piece_ticks}
 use Rattle.flash_plan.specs.Plan.{plan_of}
-use Rattle.run_model.specs.Link.{Link, Waits, lost_or, polled_quiet, unanswered, quiet_link, fresh_link}
+use Rattle.run_model.specs.Link.{Link, lost_or, polled_quiet, unanswered, quiet_link, new_link}
+use Rattle.run_model.specs.Link as phase
 use Rattle.bay_core.specs.Core.{addresses_of}
 use Rattle.bay_replay.specs.declared.state.Core as kept
 use Rattle.bay_replay.specs.Held.{Told, Holds, Takes, told_after}
@@ -93,8 +94,8 @@ event_ticks rules P (Claimed u) l = omega arith
 event_ticks rules P (Began u) l = omega arith
 event_ticks rules P (Sent u place lost) l = omega (arith, lost_ticks lost l l refl)
 event_ticks rules P (Collected u h) l = omega (arith, taken_ticks (plan_of P u).address h (heard_link rules P h l), heard_ticks rules P h l)
-event_ticks rules P (Tended (Dialed lost)) l = omega (arith, lost_ticks lost l (fresh_link l) refl)
-event_ticks rules P (Tended (Asked lost)) l = omega (arith, lost_ticks lost l (record l { phase = Waits; asked = l.ticks }) refl)
+event_ticks rules P (Tended (Dialed lost)) l = omega (arith, lost_ticks lost l (new_link l) refl)
+event_ticks rules P (Tended (Asked lost)) l = omega (arith, lost_ticks lost l (record l { phase = phase.Asked; asked = l.ticks }) refl)
 event_ticks rules P (Tended (Said lost)) l = omega (arith, lost_ticks lost l (record l { owes = false }) refl)
 event_ticks rules P (Tended (Polled h)) l = heard_ticks rules P h l
 event_ticks rules P (Marked u s) l = omega arith

@@ -16,9 +16,9 @@ use Rattle.bay_core.specs.Legal.{is_mark}
 use Rattle.run_model.specs.Places.{IsPlace, needs_request}
 use Rattle.run_model.specs.Script.{Cursor, Place, AtIdent, AtBegin, AtProgram, AtSeed, AtKey, AtErase, AtDownload, AtBlock, AtExit, AtCheck, AtMark, AtFinish, AtReset, AtDone, AtEnd, segments_from, after_program, place_next, place_marked, place_judged, bytes_at, ask_at}
 use Rattle.run_model.specs.Talk.{Talk, end_talk, sid_at, keeps_on_loss, talk_start, talk_lost, talk_marked, talk_judged, talk_final, talk_hears, talk_takes, talk_quiet}
-use Rattle.run_model.specs.Ways.{Spoken, Reply, Unheard}
+use Rattle.run_model.specs.Ways.{UnitMessage, Reply, Nacked}
 use Rattle.flash_plan.specs.declared.outcome.Outcome.TheVariants.{PendingLimit, BusyLimit, NoAnswer}
-use Rattle.uds_codec.specs.Answer.{Verdict, Later, Again, Refusal, Good, Bad_status, Strange, judge}
+use Rattle.uds_codec.specs.Answer.{Verdict, Pending, Busy, Refusal, Accepted, BadStatus, Malformed, judge}
 use Rattle.uds_codec.specs.Key.{all_zero}
 use Rattle.unit_session.proofs.Keeps.{stage_good}
 use Rattle.unit_session.specs.Session.{place_at, talk_of, IsOf, asked, ask_of}
@@ -76,12 +76,12 @@ next_low plan marks AtDone rest ok = refl
 next_low plan marks (AtEnd outcome) rest ok = refl
 
 judged_low : (plan : UnitPlan) (marks : ℕ → Bool) (place : Place) (verdict : Verdict) → IsAcceptedUnit plan → place_judged plan (low_marks marks) place verdict ≡ place_judged plan marks place verdict
-judged_low plan marks place Later ok = refl
-judged_low plan marks place Again ok = refl
+judged_low plan marks place Pending ok = refl
+judged_low plan marks place Busy ok = refl
 judged_low plan marks place (Refusal nrc) ok = refl
-judged_low plan marks place (Good rest) ok = next_low plan marks place rest ok
-judged_low plan marks place (Bad_status status) ok = refl
-judged_low plan marks place Strange ok = refl
+judged_low plan marks place (Accepted rest) ok = next_low plan marks place rest ok
+judged_low plan marks place (BadStatus status) ok = refl
+judged_low plan marks place Malformed ok = refl
 
 -- ------ conversations
 chosen : (b : Bool) (x y : Talk) → (if b then kept_talk x else kept_talk y) ≡ kept_talk (if b then x else y)
@@ -92,18 +92,18 @@ final_low : (plan : UnitPlan) (verdict : Verdict) (t : Talk) → IsAcceptedUnit 
 final_low plan verdict t ok = ap (λ (p : Place). record t { place = p; marks = low_marks t.marks; number = t.number + 1; awaiting = false; pendings = 0; busies = 0 }) (judged_low plan t.marks t.place verdict ok)
 
 judges_low : (plan : UnitPlan) (tick : ℕ) (verdict : Verdict) (t : Talk) → IsAcceptedUnit plan → talk_judged plan tick verdict (kept_talk t) ≡ kept_talk (talk_judged plan tick verdict t)
-judges_low plan tick Later t ok = chosen (t.pendings == 200) (end_talk (PendingLimit (sid_at plan t)) t) (record t { since = tick; pendings = t.pendings + 1 })
-judges_low plan tick Again t ok = chosen (t.busies == 20) (end_talk (BusyLimit (sid_at plan t)) t) (record t { awaiting = false; pendings = 0; busies = t.busies + 1 })
+judges_low plan tick Pending t ok = chosen (t.pendings == 200) (end_talk (PendingLimit (sid_at plan t)) t) (record t { since = tick; pendings = t.pendings + 1 })
+judges_low plan tick Busy t ok = chosen (t.busies == 20) (end_talk (BusyLimit (sid_at plan t)) t) (record t { awaiting = false; pendings = 0; busies = t.busies + 1 })
 judges_low plan tick (Refusal nrc) t ok = final_low plan (Refusal nrc) t ok
-judges_low plan tick (Good rest) t ok = final_low plan (Good rest) t ok
-judges_low plan tick (Bad_status status) t ok = final_low plan (Bad_status status) t ok
-judges_low plan tick Strange t ok = final_low plan Strange t ok
+judges_low plan tick (Accepted rest) t ok = final_low plan (Accepted rest) t ok
+judges_low plan tick (BadStatus status) t ok = final_low plan (BadStatus status) t ok
+judges_low plan tick Malformed t ok = final_low plan Malformed t ok
 
-pub hears_low : (plan : UnitPlan) (tick : ℕ) (word : Spoken) (t : Talk) → IsAcceptedUnit plan → talk_hears plan tick word (kept_talk t) ≡ kept_talk (talk_hears plan tick word t)
+pub hears_low : (plan : UnitPlan) (tick : ℕ) (word : UnitMessage) (t : Talk) → IsAcceptedUnit plan → talk_hears plan tick word (kept_talk t) ≡ kept_talk (talk_hears plan tick word t)
 hears_low plan tick (Reply body) t ok = judges_low plan tick (judge (bytes_at plan t.place) body) t ok
-hears_low plan tick (Unheard code) t ok = refl
+hears_low plan tick (Nacked code) t ok = refl
 
-pub takes_low : (plan : UnitPlan) (tick : ℕ) (word : Option Spoken) (t : Talk) → IsAcceptedUnit plan → talk_takes plan tick word (kept_talk t) ≡ kept_talk (talk_takes plan tick word t)
+pub takes_low : (plan : UnitPlan) (tick : ℕ) (word : Option UnitMessage) (t : Talk) → IsAcceptedUnit plan → talk_takes plan tick word (kept_talk t) ≡ kept_talk (talk_takes plan tick word t)
 takes_low plan tick None t ok = refl
 takes_low plan tick (Some word) t ok = hears_low plan tick word t ok
 
@@ -149,17 +149,17 @@ pub quiet_marks : (plan : UnitPlan) (tick : ℕ) (t : Talk) (n : ℕ) → (talk_
 quiet_marks plan tick t n = elim (cases_Bool (nat_le (t.since + 1000) tick)) [ inl e ↦ rw e refl | inr e ↦ rw e refl ]
 
 judged_marks : (plan : UnitPlan) (tick : ℕ) (verdict : Verdict) (t : Talk) (n : ℕ) → (talk_judged plan tick verdict t).marks n ≡ t.marks n
-judged_marks plan tick Later t n = elim (cases_Bool (t.pendings == 200)) [ inl e ↦ rw e refl | inr e ↦ rw e refl ]
-judged_marks plan tick Again t n = elim (cases_Bool (t.busies == 20)) [ inl e ↦ rw e refl | inr e ↦ rw e refl ]
+judged_marks plan tick Pending t n = elim (cases_Bool (t.pendings == 200)) [ inl e ↦ rw e refl | inr e ↦ rw e refl ]
+judged_marks plan tick Busy t n = elim (cases_Bool (t.busies == 20)) [ inl e ↦ rw e refl | inr e ↦ rw e refl ]
 judged_marks plan tick (Refusal nrc) t n = refl
-judged_marks plan tick (Good rest) t n = refl
-judged_marks plan tick (Bad_status status) t n = refl
-judged_marks plan tick Strange t n = refl
+judged_marks plan tick (Accepted rest) t n = refl
+judged_marks plan tick (BadStatus status) t n = refl
+judged_marks plan tick Malformed t n = refl
 
-pub takes_marks : (plan : UnitPlan) (tick : ℕ) (word : Option Spoken) (t : Talk) (n : ℕ) → (talk_takes plan tick word t).marks n ≡ t.marks n
+pub takes_marks : (plan : UnitPlan) (tick : ℕ) (word : Option UnitMessage) (t : Talk) (n : ℕ) → (talk_takes plan tick word t).marks n ≡ t.marks n
 takes_marks plan tick None t n = refl
 takes_marks plan tick (Some (Reply body)) t n = judged_marks plan tick (judge (bytes_at plan t.place) body) t n
-takes_marks plan tick (Some (Unheard code)) t n = refl
+takes_marks plan tick (Some (Nacked code)) t n = refl
 
 -- ------ marks that were found
 -- an entry more, which is no mark of the unit

@@ -11,7 +11,7 @@ use Rattle.flash_plan.specs.Plan.{plan_of}
 use Rattle.link_state.specs.State.{Shows, SameLabels}
 use Rattle.link_state.specs.declared.state.LinkState.{LinkState}
 use Rattle.run_model.specs.Entries.{marks_of}
-use Rattle.run_model.specs.Link.{Down}
+use Rattle.run_model.specs.Link as phase
 use Rattle.run_model.specs.Script.{start_place}
 use Rattle.run_model.specs.Talk.{Talk, keeps_on_loss, talk_start, talk_lost}
 use Rattle.bay_replay.specs.declared.state.Core as kept
@@ -79,7 +79,7 @@ unlost_body P k t before few b = record {
 }
 
 -- a link that is used no more
-pub down_body : (P : List UnitPlan) (k : kept.Core) (t : Told) (l2 : LinkState) (units2 : List Kept) → HoldsBody P k t → Shows l2 (record t.core.link { phase = Down }) → SameLabels k.link l2 → AreLost P k.units units2
+pub down_body : (P : List UnitPlan) (k : kept.Core) (t : Told) (l2 : LinkState) (units2 : List Kept) → HoldsBody P k t → Shows l2 (record t.core.link { phase = phase.Down }) → SameLabels k.link l2 → AreLost P k.units units2
     → HoldsBody P (record k { link = l2; units = units2 }) (told_down P t)
 down_body P k t l2 units2 b shows labels lost = record {
   posts = b.posts;

@@ -9,7 +9,8 @@ use Rattle.flash_plan.specs.declared.outcome.Entry.{Entry}
 use Rattle.flash_plan.specs.declared.outcome.Entry.TheVariants.{Begun, Marked, Complete}
 use Rattle.flash_plan.specs.declared.unit.UnitPlan.{UnitPlan}
 use Rattle.flash_plan.specs.Plan.{plan_of, count_of}
-use Rattle.run_model.specs.Entries.{with_entry, with_mark}
+use Rattle.flash_plan.specs.Outcomes.{with_entry}
+use Rattle.run_model.specs.Entries.{with_mark}
 use Rattle.run_model.specs.Talk.{Talk, talk_start}
 use Rattle.unit_session.specs.Session.{IsOf, talk_of, is_begun}
 use Rattle.unit_session.specs.declared.session.UnitSession.{UnitSession}

@@ -16,7 +16,7 @@ use Rattle.run_model.specs.Places.{is_ended, needs_request}
 use Rattle.run_model.specs.Script.{Place, AtMark, AtEnd, start_place, idents_from, segments_from, place_marked}
 use Rattle.run_model.specs.Entries.{with_mark}
 use Rattle.run_model.specs.Talk.{Talk, talk_marked, talk_lost, talk_hears, talk_takes, talk_quiet, keeps_on_loss}
-use Rattle.run_model.specs.Ways.{Spoken, Reply, Unheard}
+use Rattle.run_model.specs.Ways.{UnitMessage, Reply, Nacked}
 use Rattle.unit_session.specs.Ends.{AnswerEnds}
 use Rattle.unit_session.proofs.Ends.{ends_are_caused}
 use Rattle.flash_plan.specs.declared.unit.Wanted.{Wanted}
@@ -58,11 +58,11 @@ answer_right plan t body Complete ends = ends
 answer_right plan t body (Blocked by) ends = ends
 answer_right plan t body outcome ends = tt
 
-pub hears_right : (plan : UnitPlan) (tick : ℕ) (word : Spoken) (t : Talk) → is_ended t.place ≡ false → EndsRightly (talk_hears plan tick word t).place
+pub hears_right : (plan : UnitPlan) (tick : ℕ) (word : UnitMessage) (t : Talk) → is_ended t.place ≡ false → EndsRightly (talk_hears plan tick word t).place
 hears_right plan tick (Reply body) t going = ends_so (talk_hears plan tick (Reply body) t).place (λ outcome is. answer_right plan t body outcome (ends_are_caused.answer plan tick body t outcome going is))
-hears_right plan tick (Unheard code) t going = tt
+hears_right plan tick (Nacked code) t going = tt
 
-pub takes_right : (plan : UnitPlan) (tick : ℕ) (word : Option Spoken) (t : Talk) → is_ended t.place ≡ false → EndsRightly t.place → EndsRightly (talk_takes plan tick word t).place
+pub takes_right : (plan : UnitPlan) (tick : ℕ) (word : Option UnitMessage) (t : Talk) → is_ended t.place ≡ false → EndsRightly t.place → EndsRightly (talk_takes plan tick word t).place
 takes_right plan tick None t going right = right
 takes_right plan tick (Some word) t going right = hears_right plan tick word t going
 

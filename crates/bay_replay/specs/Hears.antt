@@ -3,9 +3,9 @@ use Rattle.std.specs.Prelude.{◌≡◌, ℕ, Bool, List, [], ◌∷◌, set, fa
 use Rattle.barrier_board.specs.Board.{is_complete, post_of}
 use Rattle.barrier_board.specs.declared.post.Post.{Post}
 use Rattle.flash_plan.specs.declared.unit.UnitPlan.{UnitPlan}
-use Rattle.link_state.specs.Inboxes.{spoken_of}
+use Rattle.link_state.specs.Inboxes.{message_of}
 use Rattle.link_state.specs.declared.inbox.Message.{Message}
-use Rattle.run_model.specs.Link.{take_word, first_word}
+use Rattle.run_model.specs.Link.{take_message, first_message}
 use Rattle.run_model.specs.Talk.{talk_hears, talk_takes}
 use Rattle.flash_plan.specs.Plan.{plan_of}
 use Rattle.bay_core.specs.Core.{with_slot, with_talk}
@@ -18,7 +18,7 @@ use Rattle.bay_replay.specs.Units.{unit_of}
 -- the conversation has heard a message of its unit
 pub record HasHeard (plan : UnitPlan) (tick : ℕ) (message : Message) (old new : UnitSession) : Type 0 where
   pub known : is_begun new ≡ is_begun old
-  pub talk : talk_of plan new ≡ talk_hears plan tick (spoken_of message) (talk_of plan old)
+  pub talk : talk_of plan new ≡ talk_hears plan tick (message_of message) (talk_of plan old)
   pub fits : IsOf plan new
 
 -- a unit keeps another conversation
@@ -33,8 +33,8 @@ pub record KeepsSession (n : ℕ) (said : UnitSession) (old new : kept.Core) : T
 abbrev pub told_heard : List UnitPlan → ℕ → Told → Told
 told_heard P u t = record t {
   core = record t.core {
-    link = take_word (plan_of P u).address t.core.link;
-    slots = with_slot u (with_talk (talk_takes (plan_of P u) t.core.link.ticks (first_word (plan_of P u).address t.core.link.inbox)) (t.core.slots u)) t.core.slots;
+    link = take_message (plan_of P u).address t.core.link;
+    slots = with_slot u (with_talk (talk_takes (plan_of P u) t.core.link.ticks (first_message (plan_of P u).address t.core.link.inbox)) (t.core.slots u)) t.core.slots;
   };
 }
 

@@ -13,7 +13,7 @@ use Rattle.barrier_board.specs.declared.board.Claimed.{Claimed}
 use Rattle.barrier_board.specs.declared.board.Claimed.TheVariants.{Unit as Took, Nothing}
 use Rattle.barrier_board.specs.declared.post.Post.{Post}
 use Rattle.run_model.specs.Entries.{marks_of}
-use Rattle.run_model.specs.Link.{Down}
+use Rattle.run_model.specs.Link as phase
 use Rattle.run_model.specs.Talk.{Talk, talk_start}
 use Rattle.unit_session.specs.Session as session
 use Rattle.unit_session.specs.Session.{talk_of, is_begun}
@@ -75,7 +75,7 @@ told_emptied t = record t { core = record t.core { link = emptied_link t.core.li
 abbrev pub told_down : List UnitPlan → Told → Told
 told_down P t = record t {
   core = record t.core {
-    link = record t.core.link { phase = Down };
+    link = record t.core.link { phase = phase.Down };
     slots = slots_lost P t.core.recorded true t.core.slots;
   };
 }
@@ -84,7 +84,7 @@ told_down P t = record t {
 -- answer of an attempt that was under way. No loss is counted, and what is recorded stays.
 abbrev pub shut : List UnitPlan → Core → Core
 shut P c = record c {
-  link = record c.link { phase = Down; rest = []; inbox = [] };
+  link = record c.link { phase = phase.Down; rest = []; inbox = [] };
   slots = slots_lost P c.recorded true c.slots;
 }
 
@@ -160,9 +160,9 @@ is_stopped c u outcome = if (c.slots u).faulted then same_outcome DiskFault outc
 
 -- ------ the parts that a caller sees
 -- the conversation of a unit, where the unit was ever claimed; of its marks those below 256
-abbrev pub IsSeen : UnitPlan → Slot → Option UnitSession → Type 0
-IsSeen plan s None = s.claimed ≡ false
-IsSeen plan s (Some said) = (s.claimed ≡ true) × (talk_of plan said ≡ kept_talk s.talk)
+abbrev pub IsSessionSeen : UnitPlan → Slot → Option UnitSession → Type 0
+IsSessionSeen plan s None = s.claimed ≡ false
+IsSessionSeen plan s (Some said) = (s.claimed ≡ true) × (talk_of plan said ≡ kept_talk s.talk)
 
 -- who was claimed, and the outcome of each unit
 pub record IsBoardOf (P : List UnitPlan) (c : Core) (posts : List Post) : Type 0 where

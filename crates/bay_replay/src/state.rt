@@ -3,7 +3,7 @@ ghost use Rattle.bay_core.specs.Legal.{is_allowed};
 ghost use Rattle.flash_plan.specs.Plan.{count_of, plan_of};
 ghost use Rattle.flash_plan.specs.declared.unit.UnitPlan.{UnitPlan};
 ghost use Rattle.link_state.specs.State.{Shows};
-ghost use Rattle.bay_replay.specs.Held.{Told, Holds, HoldsBody, Takes, Claims, IsSeen, IsBoardOf, told_after, told_settled, told_lost, told_down, told_shut};
+ghost use Rattle.bay_replay.specs.Held.{Told, Holds, HoldsBody, Takes, Claims, IsSessionSeen, IsBoardOf, told_after, told_settled, told_lost, told_down, told_shut};
 ghost use Rattle.bay_replay.specs.Bytes.{has_bytes};
 ghost use Rattle.bay_replay.specs.Replays.{told_by, TakesAt};
 
@@ -62,7 +62,7 @@ impl Core {
     /// The conversation of a unit of the plan, or `None` where it was never claimed.
     pub fn session(&self, unit: u16) -> Option<UnitSession>
         ensures { (plan : List UnitPlan) (told : Told) → Holds plan self.now told → unit < count_of plan
-            → IsSeen (plan_of plan unit) (told.core.slots unit) result }
+            → IsSessionSeen (plan_of plan unit) (told.core.slots unit) result }
     {
         if unit as usize >= self.units.len() {
             return None;

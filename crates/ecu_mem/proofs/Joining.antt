@@ -11,7 +11,7 @@ use Rattle.ecu_mem.specs.declared.fault.MemFault.{MemFault}
 use Rattle.std.specs.Prelude.{IfOk}
 use Rattle.odx_tree.specs.declared.element.Element.{Element}
 use Rattle.ecu_mem.specs.declared.fault.MemFault.TheVariants.{NoMemory, Dangling}
-use Rattle.ecu_mem.specs.Bounds.{IsWhole}
+use Rattle.ecu_mem.specs.Bounds.{IsWholeCatalogue}
 use Rattle.ecu_mem.proofs.Wholes.{catalogue-whole}
 use Rattle.ecu_mem.specs.Catalogue.{target_of, entries_of, linked_or_refused, catalogue, and_then, position_or_dangling, block_found, flash_found, positions_of, linked_block, with_session, with_block, with_flash, linked}
 
@@ -128,6 +128,6 @@ resolved root es find r e h (inl p) = inl p
 resolved root es find r e h (inr p) = inr (p ∙ (linked-same find (target_of es) h es ∙ ap linked_or_refused e))
 
 -- and so it is whole
-pub resolved-whole : (root : Element) (r : Result EcuMem MemFault) → (r ≡ Err NoMemory) ⊎ (r ≡ catalogue root) → IfOk r IsWhole
-resolved-whole root r (inl p) = subst (λ (q : Result EcuMem MemFault). IfOk q IsWhole) (sym p) tt
-resolved-whole root r (inr p) = subst (λ (q : Result EcuMem MemFault). IfOk q IsWhole) (sym p) (catalogue-whole root)
+pub resolved-whole : (root : Element) (r : Result EcuMem MemFault) → (r ≡ Err NoMemory) ⊎ (r ≡ catalogue root) → IfOk r IsWholeCatalogue
+resolved-whole root r (inl p) = subst (λ (q : Result EcuMem MemFault). IfOk q IsWholeCatalogue) (sym p) tt
+resolved-whole root r (inr p) = subst (λ (q : Result EcuMem MemFault). IfOk q IsWholeCatalogue) (sym p) (catalogue-whole root)

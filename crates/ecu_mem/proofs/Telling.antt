@@ -16,7 +16,7 @@ use Rattle.ecu_mem.specs.Parts.{kids_of, kid, kid_of_two, first_from, has_tag, h
 use Rattle.ecu_mem.specs.Values.{or_bad, text_in, address_in, byte_in, bytes_in, size_to, end_in, size_in, or_0, extent_in, segment_in, filter_in, is_bytefield, if_filled, ident_value_in, format_of, format_in, plain_in, inside_in, file_in, text_of}
 use Rattle.ecu_mem.specs.Elements.{at_least_one, values_in, one_value_in, ident_in, check_in, session_in, signed, up_of, offset_in, block_in, flash_in, entry_in}
 use Rattle.ecu_mem.specs.Places.{counting_from, is_member, group_kind, new_kind, members_of, seen_after, groups_from, groups, carriers_of}
-use Rattle.ecu_mem.specs.Catalogue.{unique, target_of, with_entry, with_ecu_mem, over, fault_at, fault_of, and_then, position_or_dangling, block_found, flash_found, positions_of, linked_block, with_session, with_block, with_flash, linked}
+use Rattle.ecu_mem.specs.Catalogue.{unique, target_of, with_element, with_ecu_mem, over_places, fault_at, fault_of, and_then, position_or_dangling, block_found, flash_found, positions_of, linked_block, with_session, with_block, with_flash, linked}
 use Rattle.ecu_mem.specs.Index.{after}
 use Rattle.ecu_mem.specs.declared.entry.Entry.TheVariants as entry
 use Rattle.ecu_mem.specs.declared.entry.Target.{Target}
@@ -308,8 +308,8 @@ unique-right es e = go (attribute (codes "ID") e) refl
     go None h = tt
     go (Some id) h = taken-right e id tt (is_some (target_of es id)) h
 
-with_entry-right : (e : Element) (es : List Entry) → IsEntry e → IsRight e (with_entry e es)
-unfolding with_entry
+with_entry-right : (e : Element) (es : List Entry) → IsEntry e → IsRight e (with_element e es)
+unfolding with_element
 with_entry-right e es is =
     bind-right e (both (entry_in e) (unique es (attribute (codes "ID") e))) (λ p. Ok (es ++ p.0 ∷ []))
     (both-right e (entry_in e) (unique es (attribute (codes "ID") e)) (entry-right e is) (unique-right es e)) (λ p h. tt)
@@ -320,33 +320,33 @@ member-entry kind.Block e h = inr (inl (and_parts (has_tag (codes "DATABLOCK") e
 member-entry kind.Flash e h = inr (inr (inl h))
 
 -- the members among the kids from position i on
-counting-right : (e : Element) (k : Kind) (i : ℕ) (xs : List Element) (es : List Entry) → AreKids e i xs → IsRight e (over with_entry e (counting_from i (is_member k) xs) es)
+counting-right : (e : Element) (k : Kind) (i : ℕ) (xs : List Element) (es : List Entry) → AreKids e i xs → IsRight e (over_places with_element e (counting_from i (is_member k) xs) es)
 counting-right e k i [] es h = tt
 counting-right e k i (x ∷ xs) es h = step (is_member k x) refl (λ now. counting-right e k (suc i) xs now (later-kids e i x xs h))
   where
     at : get_or (kids_of e) i e ≡ x
     at = let low : 0 < suc (length xs) = omega arith in let same : i + 0 ≡ i = omega arith in subst (λ n. get_or (kids_of e) n e ≡ x) same (h 0 low).1
 
-    one : IsEntry x → IsRight x (with_entry x es)
+    one : IsEntry x → IsRight x (with_element x es)
     one is = with_entry-right x es is
 
-    step : (b : Bool) → is_member k x ≡ b → ((now : List Entry) → IsRight e (over with_entry e (counting_from (suc i) (is_member k) xs) now)) →
-        IsRight e (over with_entry e (cond b ((i ∷ []) ∷ []) [] ++ counting_from (suc i) (is_member k) xs) es)
+    step : (b : Bool) → is_member k x ≡ b → ((now : List Entry) → IsRight e (over_places with_element e (counting_from (suc i) (is_member k) xs) now)) →
+        IsRight e (over_places with_element e (cond b ((i ∷ []) ∷ []) [] ++ counting_from (suc i) (is_member k) xs) es)
     step true is rest =
-        bind-right e (in_kid i (with_entry (get_or (kids_of e) i e) es)) (λ more. over with_entry e (counting_from (suc i) (is_member k) xs) more)
-        (subst (λ (d : Element). IsRight e (in_kid i (with_entry d es))) (sym at) (first-kid e i x xs (with_entry x es) h (one (member-entry k x is)))) (λ more q. rest more)
+        bind-right e (in_kid i (with_element (get_or (kids_of e) i e) es)) (λ more. over_places with_element e (counting_from (suc i) (is_member k) xs) more)
+        (subst (λ (d : Element). IsRight e (in_kid i (with_element d es))) (sym at) (first-kid e i x xs (with_element x es) h (one (member-entry k x is)))) (λ more q. rest more)
     step false is rest = rest es
 
-members-right : (x : Element) (o : Option Kind) (es : List Entry) → IsRight x (over with_entry x (members_of o x) es)
+members-right : (x : Element) (o : Option Kind) (es : List Entry) → IsRight x (over_places with_element x (members_of o x) es)
 members-right x None es = tt
 members-right x (Some k) es = counting-right x k 0 (kids_of x) es (all-kids x)
 
-groups-right : (e : Element) (i : ℕ) (seen : Seen) (xs : List Element) (es : List Entry) → AreKids e i xs → IsRight e (over with_entry e (groups_from i seen xs) es)
+groups-right : (e : Element) (i : ℕ) (seen : Seen) (xs : List Element) (es : List Entry) → AreKids e i xs → IsRight e (over_places with_element e (groups_from i seen xs) es)
 groups-right e i seen [] es h = tt
 groups-right e i seen (x ∷ xs) es h =
-    subst (λ (r : Reading (List Entry)). IsRight e r) (sym (over-under with_entry e i (members_of new x) (groups_from (suc i) (seen_after seen new) xs) es))
-    (bind-right e (in_kid i (over with_entry (get_or (kids_of e) i e) (members_of new x) es)) (λ t. over with_entry e (groups_from (suc i) (seen_after seen new) xs) t)
-    (subst (λ (d : Element). IsRight e (in_kid i (over with_entry d (members_of new x) es))) (sym at) (first-kid e i x xs (over with_entry x (members_of new x) es) h (members-right x new es)))
+    subst (λ (r : Reading (List Entry)). IsRight e r) (sym (over-under with_element e i (members_of new x) (groups_from (suc i) (seen_after seen new) xs) es))
+    (bind-right e (in_kid i (over_places with_element (get_or (kids_of e) i e) (members_of new x) es)) (λ t. over_places with_element e (groups_from (suc i) (seen_after seen new) xs) t)
+    (subst (λ (d : Element). IsRight e (in_kid i (over_places with_element d (members_of new x) es))) (sym at) (first-kid e i x xs (over_places with_element x (members_of new x) es) h (members-right x new es)))
     (λ t q. groups-right e (suc i) (seen_after seen (new_kind seen (group_kind x))) xs t (later-kids e i x xs h)))
   where
     new : Option Kind
@@ -360,12 +360,12 @@ pub ecu_mem-right : (e : Element) (es : List Entry) → IsRight e (with_ecu_mem 
 unfolding with_ecu_mem
 ecu_mem-right e es = go (kid (codes "MEM") e) refl
   where
-    go : (found : Option (ℕ × Element)) → kid (codes "MEM") e ≡ found → IsRight e (over with_entry e (carriers_of found) es)
-    go None h = subst (λ (r : Reading (List Entry)). IsRight e r) (sym (over-here with_entry e es)) (with_entry-right e es (inr (inr (inr h))))
+    go : (found : Option (ℕ × Element)) → kid (codes "MEM") e ≡ found → IsRight e (over_places with_element e (carriers_of found) es)
+    go None h = subst (λ (r : Reading (List Entry)). IsRight e r) (sym (over-here with_element e es)) (with_entry-right e es (inr (inr (inr h))))
     go (Some p) h =
         subst (λ (r : Reading (List Entry)). IsRight e r)
-        (sym (over-kid with_entry e p.0 (groups p.1) es ∙ ap (λ (x : Element). in_kid p.0 (over with_entry x (groups p.1) es)) (kid-at (codes "MEM") e p.0 p.1 h)))
-        (found-right e (has_tag (codes "MEM")) p (over with_entry p.1 (groups p.1) es) h (groups-right p.1 0 (record { sessions = false; blocks = false; flashes = false }) (kids_of p.1) es (all-kids p.1)))
+        (sym (over-kid with_element e p.0 (groups p.1) es ∙ ap (λ (x : Element). in_kid p.0 (over_places with_element x (groups p.1) es)) (kid-at (codes "MEM") e p.0 p.1 h)))
+        (found-right e (has_tag (codes "MEM")) p (over_places with_element p.1 (groups p.1) es) h (groups-right p.1 0 (record { sessions = false; blocks = false; flashes = false }) (kids_of p.1) es (all-kids p.1)))
 
 -- a refusal of the whole tree
 pub fault-right : (root : Element) (f : Refusal) → IsSo root f.path f.wrong → IsTrueOf root (fault_of f)

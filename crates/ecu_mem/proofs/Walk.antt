@@ -10,7 +10,7 @@ use Rattle.ecu_mem.specs.Refusals.{Reading, ◌>>=◌, in_kid, lower}
 use Rattle.ecu_mem.specs.Parts.{kids_of, has_tag, first_from, kid}
 use Rattle.std.proofs.lemmas.List.{get_or_default}
 use Rattle.ecu_mem.specs.Places.{Place, under, element_at, places_from, ecu_mems, counting_from, group_kind, group_members, new_kind, seen_after, seen_with, groups_from, groups, carriers_of}
-use Rattle.ecu_mem.specs.Catalogue.{in_place, over, with_entry, with_ecu_mem}
+use Rattle.ecu_mem.specs.Catalogue.{in_place, over_places, with_element, with_ecu_mem}
 use Rattle.ecu_mem.specs.Index.{after}
 
 abbrev pub Step : Type 0
@@ -35,16 +35,16 @@ right_unit : (r : Reading (List Entry)) → (r >>= λ t. Ok t) ≡ r
 right_unit (Ok t) = refl
 right_unit (Err f) = refl
 
-pub over-here : (step : Step) (e : Element) (es : List Entry) → over step e ([] ∷ []) es ≡ step e es
+pub over-here : (step : Step) (e : Element) (es : List Entry) → over_places step e ([] ∷ []) es ≡ step e es
 over-here step e es = right_unit (step e es)
 
 -- first the places in kid i, and then the rest
-pub over-under : (step : Step) (e : Element) (i : ℕ) (ps qs : List Place) (es : List Entry) → over step e (under i ps ++ qs) es ≡ (in_kid i (over step (get_or (kids_of e) i e) ps es) >>= λ t. over step e qs t)
+pub over-under : (step : Step) (e : Element) (i : ℕ) (ps qs : List Place) (es : List Entry) → over_places step e (under i ps ++ qs) es ≡ (in_kid i (over_places step (get_or (kids_of e) i e) ps es) >>= λ t. over_places step e qs t)
 over-under step e i [] qs es = refl
 over-under step e i (p ∷ ps) qs es = one (in_place p (step (element_at (get_or (kids_of e) i e) p) es)) (λ t. over-under step e i ps qs t)
   where
-    one : (r : Reading (List Entry)) → ((t : List Entry) → over step e (under i ps ++ qs) t ≡ (in_kid i (over step (get_or (kids_of e) i e) ps t) >>= λ u. over step e qs u)) →
-        (in_kid i r >>= λ t. over step e (under i ps ++ qs) t) ≡ (in_kid i (r >>= λ t. over step (get_or (kids_of e) i e) ps t) >>= λ t. over step e qs t)
+    one : (r : Reading (List Entry)) → ((t : List Entry) → over_places step e (under i ps ++ qs) t ≡ (in_kid i (over_places step (get_or (kids_of e) i e) ps t) >>= λ u. over_places step e qs u)) →
+        (in_kid i r >>= λ t. over_places step e (under i ps ++ qs) t) ≡ (in_kid i (r >>= λ t. over_places step (get_or (kids_of e) i e) ps t) >>= λ t. over_places step e qs t)
     one (Ok t) rest = rest t
     one (Err f) rest = refl
 
@@ -53,9 +53,9 @@ append-nil_lem [] = refl
 append-nil_lem (p ∷ ps) = ap (λ x. p ∷ x) (append-nil_lem ps)
 
 -- only places in kid i
-pub over-kid : (step : Step) (e : Element) (i : ℕ) (ps : List Place) (es : List Entry) → over step e (under i ps) es ≡ in_kid i (over step (get_or (kids_of e) i e) ps es)
+pub over-kid : (step : Step) (e : Element) (i : ℕ) (ps : List Place) (es : List Entry) → over_places step e (under i ps) es ≡ in_kid i (over_places step (get_or (kids_of e) i e) ps es)
 over-kid step e i ps es =
-    ap (λ qs. over step e qs es) (sym (append-nil_lem (under i ps))) ∙ over-under step e i ps [] es ∙ right_unit (in_kid i (over step (get_or (kids_of e) i e) ps es))
+    ap (λ qs. over_places step e qs es) (sym (append-nil_lem (under i ps))) ∙ over-under step e i ps [] es ∙ right_unit (in_kid i (over_places step (get_or (kids_of e) i e) ps es))
 
 pub member-skipped : (i : ℕ) (test : Element → Bool) (ks : List Element) (d : Element) → i < length ks → test (get_or ks i d) ≡ false → counting_from i test (drop i ks) ≡ counting_from (i + 1) test (drop (i + 1) ks)
 member-skipped i test ks d h t = rw (drop-cons ks i d h, t, add-one) refl
@@ -91,19 +91,19 @@ kid_of-same e ks i x k h x_is = ap (λ (l : List Element). get_or l i e) (sym k)
 
 -- the places in a kid whose reading went well, and then the rest
 pub kid-went : (step : Step) (e : Element) (ks : List Element) (i : ℕ) (x : Element) (ps qs : List Place) (es now : List Entry) (r : Reading ⊤) → ks ≡ kids_of e → i < length ks → x ≡ get_or ks i x →
-    after r now ≡ over step x ps es → Ok tt ≡ in_kid i r → over step e (under i ps ++ qs) es ≡ over step e qs now
+    after r now ≡ over_places step x ps es → Ok tt ≡ in_kid i r → over_places step e (under i ps ++ qs) es ≡ over_places step e qs now
 kid-went step e ks i x ps qs es now r k h x_is made ok =
     over-under step e i ps qs es
-    ∙ (ap (λ (y : Element). in_kid i (over step y ps es) >>= λ t. over step e qs t) (kid_of-same e ks i x k h x_is)
-    ∙ went i r now (over step x ps es) (λ t. over step e qs t) made ok)
+    ∙ (ap (λ (y : Element). in_kid i (over_places step y ps es) >>= λ t. over_places step e qs t) (kid_of-same e ks i x k h x_is)
+    ∙ went i r now (over_places step x ps es) (λ t. over_places step e qs t) made ok)
 
 -- the places in a kid whose reading was refused
 pub kid-stopped : (step : Step) (e : Element) (ks : List Element) (i : ℕ) (x : Element) (ps qs : List Place) (es now : List Entry) (r : Reading ⊤) (f : Refusal) → ks ≡ kids_of e → i < length ks → x ≡ get_or ks i x →
-    after r now ≡ over step x ps es → Err f ≡ in_kid i r → over step e (under i ps ++ qs) es ≡ Err f
+    after r now ≡ over_places step x ps es → Err f ≡ in_kid i r → over_places step e (under i ps ++ qs) es ≡ Err f
 kid-stopped step e ks i x ps qs es now r f k h x_is made refused =
     over-under step e i ps qs es
-    ∙ (ap (λ (y : Element). in_kid i (over step y ps es) >>= λ t. over step e qs t) (kid_of-same e ks i x k h x_is)
-    ∙ stopped i r now (over step x ps es) (λ t. over step e qs t) f made refused)
+    ∙ (ap (λ (y : Element). in_kid i (over_places step y ps es) >>= λ t. over_places step e qs t) (kid_of-same e ks i x k h x_is)
+    ∙ stopped i r now (over_places step x ps es) (λ t. over_places step e qs t) f made refused)
 
 taken_places : (i : ℕ) (seen : Seen) (ks : List Element) (x : Element) (k : Kind) → i < length ks → x ≡ get_or ks i x → new_kind seen (group_kind x) ≡ Some k →
     groups_from i seen (drop i ks) ≡ under i (group_members k x) ++ groups_from (i + 1) (seen_with k seen) (drop (i + 1) ks)
@@ -113,43 +113,43 @@ taken_places i seen ks x k h x_is t =
 
 -- a group that went well
 pub group-went : (e : Element) (ks : List Element) (i : ℕ) (seen : Seen) (x : Element) (k : Kind) (es now : List Entry) (r : Reading ⊤) → ks ≡ kids_of e → i < length ks → x ≡ get_or ks i x → new_kind seen (group_kind x) ≡ Some k →
-    after r now ≡ over with_entry x (group_members k x) es → Ok tt ≡ in_kid i r →
-    over with_entry e (groups_from i seen (drop i ks)) es ≡ over with_entry e (groups_from (i + 1) (seen_with k seen) (drop (i + 1) ks)) now
+    after r now ≡ over_places with_element x (group_members k x) es → Ok tt ≡ in_kid i r →
+    over_places with_element e (groups_from i seen (drop i ks)) es ≡ over_places with_element e (groups_from (i + 1) (seen_with k seen) (drop (i + 1) ks)) now
 group-went e ks i seen x k es now r same h x_is t made ok =
-    ap (λ ps. over with_entry e ps es) (taken_places i seen ks x k h x_is t)
-    ∙ kid-went with_entry e ks i x (group_members k x) (groups_from (i + 1) (seen_with k seen) (drop (i + 1) ks)) es now r same h x_is made ok
+    ap (λ ps. over_places with_element e ps es) (taken_places i seen ks x k h x_is t)
+    ∙ kid-went with_element e ks i x (group_members k x) (groups_from (i + 1) (seen_with k seen) (drop (i + 1) ks)) es now r same h x_is made ok
 
 -- a group that was refused
 pub group-stopped : (e : Element) (ks : List Element) (i : ℕ) (seen : Seen) (x : Element) (k : Kind) (es now : List Entry) (r : Reading ⊤) (f : Refusal) → ks ≡ kids_of e → i < length ks → x ≡ get_or ks i x → new_kind seen (group_kind x) ≡ Some k →
-    after r now ≡ over with_entry x (group_members k x) es → Err f ≡ in_kid i r → over with_entry e (groups_from i seen (drop i ks)) es ≡ Err f
+    after r now ≡ over_places with_element x (group_members k x) es → Err f ≡ in_kid i r → over_places with_element e (groups_from i seen (drop i ks)) es ≡ Err f
 group-stopped e ks i seen x k es now r f same h x_is t made refused =
-    ap (λ ps. over with_entry e ps es) (taken_places i seen ks x k h x_is t)
-    ∙ kid-stopped with_entry e ks i x (group_members k x) (groups_from (i + 1) (seen_with k seen) (drop (i + 1) ks)) es now r f same h x_is made refused
+    ap (λ ps. over_places with_element e ps es) (taken_places i seen ks x k h x_is t)
+    ∙ kid-stopped with_element e ks i x (group_members k x) (groups_from (i + 1) (seen_with k seen) (drop (i + 1) ks)) es now r f same h x_is made refused
 
 -- a kid of MEM that is no new group
 pub group-passed : (e : Element) (ks : List Element) (i : ℕ) (seen : Seen) (x : Element) (es : List Entry) → i < length ks → x ≡ get_or ks i x → new_kind seen (group_kind x) ≡ None →
-    over with_entry e (groups_from i seen (drop i ks)) es ≡ over with_entry e (groups_from (i + 1) seen (drop (i + 1) ks)) es
-group-passed e ks i seen x es h x_is t = ap (λ ps. over with_entry e ps es) (group-skipped i seen ks x h (ap (λ (y : Element). new_kind seen (group_kind y)) (sym x_is) ∙ t))
+    over_places with_element e (groups_from i seen (drop i ks)) es ≡ over_places with_element e (groups_from (i + 1) seen (drop (i + 1) ks)) es
+group-passed e ks i seen x es h x_is t = ap (λ ps. over_places with_element e ps es) (group-skipped i seen ks x h (ap (λ (y : Element). new_kind seen (group_kind y)) (sym x_is) ∙ t))
 
 places-at : (i : ℕ) (ks : List Element) (x : Element) → i < length ks → x ≡ get_or ks i x → places_from i (map ecu_mems (drop i ks)) ≡ under i (ecu_mems x) ++ places_from (i + 1) (map ecu_mems (drop (i + 1) ks))
 places-at i ks x h x_is = place-taken i ks x h ∙ ap (λ (y : Element). under i (ecu_mems y) ++ places_from (i + 1) (map ecu_mems (drop (i + 1) ks))) (sym x_is)
 
 -- a kid whose ECU-MEM elements were read
 pub place-went : (e : Element) (ks : List Element) (i : ℕ) (x : Element) (es now : List Entry) (r : Reading ⊤) → ks ≡ kids_of e → i < length ks → x ≡ get_or ks i x →
-    after r now ≡ over with_ecu_mem x (ecu_mems x) es → Ok tt ≡ in_kid i r →
-    over with_ecu_mem e (places_from i (map ecu_mems (drop i ks))) es ≡ over with_ecu_mem e (places_from (i + 1) (map ecu_mems (drop (i + 1) ks))) now
+    after r now ≡ over_places with_ecu_mem x (ecu_mems x) es → Ok tt ≡ in_kid i r →
+    over_places with_ecu_mem e (places_from i (map ecu_mems (drop i ks))) es ≡ over_places with_ecu_mem e (places_from (i + 1) (map ecu_mems (drop (i + 1) ks))) now
 place-went e ks i x es now r same h x_is made ok =
-    ap (λ ps. over with_ecu_mem e ps es) (places-at i ks x h x_is) ∙ kid-went with_ecu_mem e ks i x (ecu_mems x) (places_from (i + 1) (map ecu_mems (drop (i + 1) ks))) es now r same h x_is made ok
+    ap (λ ps. over_places with_ecu_mem e ps es) (places-at i ks x h x_is) ∙ kid-went with_ecu_mem e ks i x (ecu_mems x) (places_from (i + 1) (map ecu_mems (drop (i + 1) ks))) es now r same h x_is made ok
 
 -- a kid that was refused
 pub place-stopped : (e : Element) (ks : List Element) (i : ℕ) (x : Element) (es now : List Entry) (r : Reading ⊤) (f : Refusal) → ks ≡ kids_of e → i < length ks → x ≡ get_or ks i x →
-    after r now ≡ over with_ecu_mem x (ecu_mems x) es → Err f ≡ in_kid i r → over with_ecu_mem e (places_from i (map ecu_mems (drop i ks))) es ≡ Err f
+    after r now ≡ over_places with_ecu_mem x (ecu_mems x) es → Err f ≡ in_kid i r → over_places with_ecu_mem e (places_from i (map ecu_mems (drop i ks))) es ≡ Err f
 place-stopped e ks i x es now r f same h x_is made refused =
-    ap (λ ps. over with_ecu_mem e ps es) (places-at i ks x h x_is) ∙ kid-stopped with_ecu_mem e ks i x (ecu_mems x) (places_from (i + 1) (map ecu_mems (drop (i + 1) ks))) es now r f same h x_is made refused
+    ap (λ ps. over_places with_ecu_mem e ps es) (places-at i ks x h x_is) ∙ kid-stopped with_ecu_mem e ks i x (ecu_mems x) (places_from (i + 1) (map ecu_mems (drop (i + 1) ks))) es now r f same h x_is made refused
 
 -- an ECU-MEM by its MEM
-pub mem-read : (e : Element) (i : ℕ) (m : Element) (es now : List Entry) (r : Reading ⊤) (s : Reading ⊤) → kid (codes "MEM") e ≡ Some (i, m) → after r now ≡ over with_entry m (groups m) es → s ≡ in_kid i r → after s now ≡ with_ecu_mem e es
+pub mem-read : (e : Element) (i : ℕ) (m : Element) (es now : List Entry) (r : Reading ⊤) (s : Reading ⊤) → kid (codes "MEM") e ≡ Some (i, m) → after r now ≡ over_places with_element m (groups m) es → s ≡ in_kid i r → after s now ≡ with_ecu_mem e es
 unfolding with_ecu_mem
 mem-read e i m es now r s k h s_is =
-    ap (λ (q : Reading ⊤). after q now) s_is ∙ (last_step i r now (over with_entry m (groups m) es) h
-    ∙ sym (ap (λ found. over with_entry e (carriers_of found) es) k ∙ (over-kid with_entry e i (groups m) es ∙ ap (λ (x : Element). in_kid i (over with_entry x (groups m) es)) (kid-at (codes "MEM") e i m k))))
+    ap (λ (q : Reading ⊤). after q now) s_is ∙ (last_step i r now (over_places with_element m (groups m) es) h
+    ∙ sym (ap (λ found. over_places with_element e (carriers_of found) es) k ∙ (over-kid with_element e i (groups m) es ∙ ap (λ (x : Element). in_kid i (over_places with_element x (groups m) es)) (kid-at (codes "MEM") e i m k))))

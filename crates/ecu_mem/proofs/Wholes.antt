@@ -17,8 +17,8 @@ use Rattle.ecu_mem.specs.Refusals.{Reading, ◌>>=◌, both}
 use Rattle.ecu_mem.specs.Parts.{attribute}
 use Rattle.ecu_mem.specs.Elements.{entry_in}
 use Rattle.ecu_mem.specs.Places.{Place, element_at, carriers, ecu_mems}
-use Rattle.ecu_mem.specs.Catalogue.{id_of, blocks_with, flashes_with, blocks_after, flashes_after, target_at, target_from, target_of, unique, with_entry, in_place, over, with_ecu_mem, entries_of, block_found, flash_found, and_then, position_or_dangling, positions_of, linked_block, with_session, with_block, with_flash, linked, linked_or_refused, catalogue}
-use Rattle.ecu_mem.specs.Bounds.{IsSessionAmong, IsBlockAmong, one_if, times, ids_of, IsWhole}
+use Rattle.ecu_mem.specs.Catalogue.{id_of, blocks_with, flashes_with, blocks_after, flashes_after, target_at, target_from, target_of, unique, with_element, in_place, over_places, with_ecu_mem, entries_of, block_found, flash_found, and_then, position_or_dangling, positions_of, linked_block, with_session, with_block, with_flash, linked, linked_or_refused, catalogue}
+use Rattle.ecu_mem.specs.Bounds.{IsSessionAmong, IsBlockAmong, one_if, times, ids_of, IsWholeCatalogue}
 use Rattle.ecu_mem.proofs.Indexing.{fresh-id}
 use Rattle.ecu_mem.proofs.Ranges.{bind-gives, kid-gives, IsGood, entry-gives}
 
@@ -62,8 +62,8 @@ once-more es x h fresh id =
         omega arith
     by_test false e s = let before : times id (map id_of es) ≤ 1 = h id in omega arith
 
-entry-good : (e : Element) (es : List Entry) → AreGood es → IfOk (with_entry e es) AreGood
-unfolding with_entry
+entry-good : (e : Element) (es : List Entry) → AreGood es → IfOk (with_element e es) AreGood
+unfolding with_element
 entry-good e es h = go (entry_in e) (unique es (attribute (codes "ID") e)) refl refl (entry-gives e)
   where
     go : (r : Reading Entry) (u : Reading ⊤) → entry_in e ≡ r → unique es (attribute (codes "ID") e) ≡ u → IfOk r IsGood → IfOk (both r u >>= λ p. Ok (es ++ p.0 ∷ [])) AreGood
@@ -77,14 +77,14 @@ place-gives P [] r h = h
 place-gives P (i ∷ p) r h = kid-gives P i (in_place p r) (place-gives P p r h)
 
 over-gives : (P : List Entry → Type 0) (step : Element → List Entry → Reading (List Entry)) → ((e : Element) (es : List Entry) → P es → IfOk (step e es) P) →
-    (root : Element) (ps : List Place) (es : List Entry) → P es → IfOk (over step root ps es) P
+    (root : Element) (ps : List Place) (es : List Entry) → P es → IfOk (over_places step root ps es) P
 over-gives P step h root [] es p = p
 over-gives P step h root (q ∷ qs) es p =
-    bind-gives P P (in_place q (step (element_at root q) es)) (λ more. over step root qs more) (place-gives P q (step (element_at root q) es) (h (element_at root q) es p)) (λ more k. over-gives P step h root qs more k)
+    bind-gives P P (in_place q (step (element_at root q) es)) (λ more. over_places step root qs more) (place-gives P q (step (element_at root q) es) (h (element_at root q) es p)) (λ more k. over-gives P step h root qs more k)
 
 ecu_mem-good : (e : Element) (es : List Entry) → AreGood es → IfOk (with_ecu_mem e es) AreGood
 unfolding with_ecu_mem
-ecu_mem-good e es h = over-gives AreGood with_entry entry-good e (carriers e) es h
+ecu_mem-good e es h = over-gives AreGood with_element entry-good e (carriers e) es h
 
 entries-good : (root : Element) → IfOk (entries_of root) AreGood
 entries-good root = over-gives AreGood with_ecu_mem ecu_mem-good root (ecu_mems root) [] (record { good = tt; once = λ id. omega arith })
@@ -225,7 +225,7 @@ linked-gives find nb nf sb sf (entry.Block b id ∷ es) g =
 linked-gives find nb nf sb sf (entry.Flash f ∷ es) g =
     then-gives (IsOf nb nf es) (IsOf nb nf (entry.Flash f ∷ es)) (linked find es) (λ m. Ok (with_flash f m)) (linked-gives find nb nf sb sf es g.1) (λ m h. flash-kept nb nf f es m h)
 
-whole : (es : List Entry) (m : EcuMem) → AreGood es → IsOf (blocks_after 0 es) (flashes_after 0 es) es m → IsWhole m
+whole : (es : List Entry) (m : EcuMem) → AreGood es → IsOf (blocks_after 0 es) (flashes_after 0 es) es m → IsWholeCatalogue m
 whole es m g h =
     let blocks : blocks_after 0 es ≡ length m.blocks = counted (h.block_count 0) in
     let flashes : flashes_after 0 es ≡ length m.flashes = counted (h.flash_count 0) in
@@ -239,10 +239,10 @@ whole es m g h =
     counted e = omega arith
 
 -- every document that a tree is resolved to
-pub catalogue-whole : (root : Element) → IfOk (catalogue root) IsWhole
+pub catalogue-whole : (root : Element) → IfOk (catalogue root) IsWholeCatalogue
 catalogue-whole root = go (entries_of root) (entries-good root)
   where
-    go : (r : Reading (List Entry)) → IfOk r AreGood → IfOk (linked_or_refused r) IsWhole
-    go (Ok es) g = IfOk-weaker (linked (target_of es) es) (IsOf (blocks_after 0 es) (flashes_after 0 es) es) IsWhole (λ m h. whole es m g h)
+    go : (r : Reading (List Entry)) → IfOk r AreGood → IfOk (linked_or_refused r) IsWholeCatalogue
+    go (Ok es) g = IfOk-weaker (linked (target_of es) es) (IsOf (blocks_after 0 es) (flashes_after 0 es) es) IsWholeCatalogue (λ m h. whole es m g h)
         (linked-gives (target_of es) (blocks_after 0 es) (flashes_after 0 es) (λ id i h. block-below 0 0 es id i h) (λ id i h. flash-below 0 0 es id i h) es g.good)
     go (Err f) g = tt

@@ -51,7 +51,7 @@ abbrev pub ids_of : EcuMem → List (List ℕ)
 ids_of m = map (λ (s : Session). s.id) m.sessions ++ (map (λ (b : Block). b.id) m.blocks ++ map (λ (f : Flash). f.id) m.flashes)
 
 -- positions are below the lengths of their lists, ranges and offsets are within the limit, and no ID stands twice
-pub record IsWhole (m : EcuMem) : Type 0 where
+pub record IsWholeCatalogue (m : EcuMem) : Type 0 where
   pub sessions : Each (IsSessionAmong (length m.blocks)) m.sessions
   pub blocks : Each (IsBlockAmong (length m.flashes)) m.blocks
   pub once : (id : List ℕ) → times id (ids_of m) ≤ 1

@@ -65,25 +65,25 @@ unique es None = Ok tt
 unique es (Some id) = if is_some (target_of es id) then Err (twice id) else Ok tt
 
 -- the entries with one more
-unfoldable pub with_entry : Element → List Entry → Reading (List Entry)
-with_entry e es = both (entry_in e) (unique es (attribute (codes "ID") e)) >>= λ p. Ok (es ++ p.0 ∷ [])
+unfoldable pub with_element : Element → List Entry → Reading (List Entry)
+with_element e es = both (entry_in e) (unique es (attribute (codes "ID") e)) >>= λ p. Ok (es ++ p.0 ∷ [])
 
 abbrev pub in_place : {A : Type 0} → Place → Reading A → Reading A
 in_place [] r = r
 in_place (i ∷ p) r = in_kid i (in_place p r)
 
 -- from entries to entries, over the elements at these places one after another
-abbrev pub over : (Element → List Entry → Reading (List Entry)) → Element → List Place → List Entry → Reading (List Entry)
-over step root [] es = Ok es
-over step root (p ∷ ps) es = in_place p (step (element_at root p) es) >>= λ more. over step root ps more
+abbrev pub over_places : (Element → List Entry → Reading (List Entry)) → Element → List Place → List Entry → Reading (List Entry)
+over_places step root [] es = Ok es
+over_places step root (p ∷ ps) es = in_place p (step (element_at root p) es) >>= λ more. over_places step root ps more
 
 -- the entries with those of an ECU-MEM
 unfoldable pub with_ecu_mem : Element → List Entry → Reading (List Entry)
-with_ecu_mem e es = over with_entry e (carriers e) es
+with_ecu_mem e es = over_places with_element e (carriers e) es
 
 -- all entries of a document
 abbrev pub entries_of : Element → Reading (List Entry)
-entries_of root = over with_ecu_mem root (ecu_mems root) []
+entries_of root = over_places with_ecu_mem root (ecu_mems root) []
 
 abbrev pub block_found : Option Target → Option ℕ
 block_found (Some (target.Block i)) = Some i

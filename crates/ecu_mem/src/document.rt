@@ -1,7 +1,7 @@
 ghost use Rattle.std.specs.Prelude.{◌≡◌, [], ◌∷◌, ◌++◌, None, codes, IfOk, OnOk};
 ghost use Rattle.ecu_mem.specs.Parts.{attribute};
 ghost use Rattle.ecu_mem.specs.Places.{carriers, ecu_mems, groups, group_members};
-ghost use Rattle.ecu_mem.specs.Catalogue.{id_of, target_at, blocks_with, flashes_with, target_of, unique, with_entry, over, with_ecu_mem};
+ghost use Rattle.ecu_mem.specs.Catalogue.{id_of, target_at, blocks_with, flashes_with, target_of, unique, with_element, over_places, with_ecu_mem};
 ghost use Rattle.ecu_mem.specs.Index.{IsIndexed, after, entries_in};
 ghost use Rattle.ecu_mem.specs.Truths.{IsRight};
 
@@ -101,10 +101,10 @@ impl Document {
     }
 
     /// Reads one element that carries an ID.
-    #[tactic(auto, unfolding(crate::specs::Catalogue::with_entry))]
+    #[tactic(auto, unfolding(crate::specs::Catalogue::with_element))]
     fn take(&mut self, alloc: Global, element: &Element) -> Result<Reading<()>, NoMemory>
         requires { IsIndexed self.old }
-        ensures value { IfOk result (λ r. after r (entries_in self.new) ≡ with_entry element.now (entries_in self.old)) }
+        ensures value { IfOk result (λ r. after r (entries_in self.new) ≡ with_element element.now (entries_in self.old)) }
         ensures indexed { OnOk result (IsIndexed self.new) }
     {
         let entry = entry_in(alloc, element)?;
@@ -122,7 +122,7 @@ impl Document {
     /// Reads the elements of a SESSIONS, a DATABLOCKS or a FLASHDATAS.
     fn group(&mut self, alloc: Global, kind: Kind, group: &Element) -> Result<Reading<()>, NoMemory>
         requires { IsIndexed self.old }
-        ensures value { IfOk result (λ r. after r (entries_in self.new) ≡ over with_entry group.now (group_members kind group.now) (entries_in self.old)) }
+        ensures value { IfOk result (λ r. after r (entries_in self.new) ≡ over_places with_element group.now (group_members kind group.now) (entries_in self.old)) }
         ensures indexed { OnOk result (IsIndexed self.new) }
     {
         for (i, kid) in group.kids.as_slice().iter().enumerate() {
@@ -139,7 +139,7 @@ impl Document {
     /// Reads a MEM.
     fn mem(&mut self, alloc: Global, mem: &Element) -> Result<Reading<()>, NoMemory>
         requires { IsIndexed self.old }
-        ensures value { IfOk result (λ r. after r (entries_in self.new) ≡ over with_entry mem.now (groups mem.now) (entries_in self.old)) }
+        ensures value { IfOk result (λ r. after r (entries_in self.new) ≡ over_places with_element mem.now (groups mem.now) (entries_in self.old)) }
         ensures indexed { OnOk result (IsIndexed self.new) }
     {
         let mut seen = Seen {
@@ -174,7 +174,7 @@ impl Document {
     /// Reads all ECU-MEM elements of a tree.
     pub(crate) fn read(&mut self, alloc: Global, element: &Element) -> Result<Reading<()>, NoMemory>
         requires { IsIndexed self.old }
-        ensures value { IfOk result (λ r. after r (entries_in self.new) ≡ over with_ecu_mem element.now (ecu_mems element.now) (entries_in self.old)) }
+        ensures value { IfOk result (λ r. after r (entries_in self.new) ≡ over_places with_ecu_mem element.now (ecu_mems element.now) (entries_in self.old)) }
         ensures indexed { OnOk result (IsIndexed self.new) }
         ensures told { IfOk result (λ r. IsRight element.now r) }
     {

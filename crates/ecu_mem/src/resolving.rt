@@ -1,6 +1,6 @@
 ghost use Rattle.std.specs.Prelude.{◌≡◌, ◌⊎◌, ◌<◌, Err, IfOk, IfErr, IfSome, bytes_eq, length};
 ghost use Rattle.std.specs.List.{position_from};
-ghost use Rattle.ecu_mem.specs.Bounds.{IsWhole};
+ghost use Rattle.ecu_mem.specs.Bounds.{IsWholeCatalogue};
 ghost use Rattle.ecu_mem.specs.Catalogue.{fault_of, catalogue};
 ghost use Rattle.ecu_mem.specs.Truths.{IsTrueOf};
 
@@ -31,7 +31,7 @@ fn fault_of(refusal: Refusal) -> MemFault
 /// references are followed last. `docs/FORMATS.md` has the elements, choices and numbers.
 pub fn resolve(alloc: Global, root: &Element) -> Result<EcuMem, MemFault>
     ensures value { (result ≡ Err MemFault.NoMemory) ⊎ (result ≡ catalogue root.now) }
-    ensures whole { IfOk result IsWhole }
+    ensures whole { IfOk result IsWholeCatalogue }
     ensures told { IfErr result (λ f. IsTrueOf root.now f) }
 {
     let mut document = Document::new(alloc);

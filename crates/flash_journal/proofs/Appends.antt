@@ -6,7 +6,8 @@ use Rattle.disk_model.specs.Disk.{DiskState}
 use Rattle.shop_model.specs.History.{History}
 use Rattle.flash_plan.specs.declared.outcome.Entry.{Entry}
 use Rattle.journal_model.specs.Records.{Label, slots_of, body_of, is_open}
-use Rattle.journal_steps.specs.Append.{AddsSome, AddsAtMost, CanAppendGroup, HasAddedGroup, Records, with_entry}
+use Rattle.flash_plan.specs.Outcomes.{with_entry}
+use Rattle.journal_steps.specs.Append.{AddsSome, AddsAtMost, CanAppendGroup, HasAddedGroup, Records}
 use Rattle.journal_steps.specs.Later.{HoldsOnDisk}
 use Rattle.journal_steps.specs.Tables.{place_of, is_found}
 use Rattle.journal_steps.proofs.Moments.{weakens}

@@ -13,7 +13,7 @@ use Rattle.journal_steps.specs.Read.{IsFront}
 use Rattle.journal_steps.proofs.Front.{front_fresh, front_headed, front_digest, front_standing, front_journal, front_has}
 use Rattle.journal_steps.proofs.Tests.{tested_fresh, tested_headless, tested_other, tested_fallen, tested_journal}
 use Rattle.flash_journal.specs.Seen.{HasSlots, IsNotJournal, IsOtherPlan}
-use Rattle.flash_journal.specs.Look.{Opens, Refuses, Lists, IsAnswer}
+use Rattle.flash_journal.specs.Look.{Opens, Refuses, Lists, IsLookAnswer}
 use Rattle.flash_journal.specs.declared.looking.OpenFault.{OpenFault}
 use Rattle.flash_journal.specs.declared.looking.OpenFault.TheVariants.{NotJournal, OtherPlan, DiskFault, NoMemory}
 use Rattle.flash_journal.specs.declared.tables.Tables.{Tables}
@@ -71,7 +71,7 @@ module _ (P : Label) (image front : List ℕ) (is : IsFront (64 + 17 * slots_of 
   refuses_front DiskFault r = tt
   refuses_front NoMemory r = tt
 
-  pub answer_front : (r : Result (List Entry) OpenFault) → IsAnswer P front r → IsAnswer P image r
+  pub answer_front : (r : Result (List Entry) OpenFault) → IsLookAnswer P front r → IsLookAnswer P image r
   answer_front (Ok es) lists = record {
     opens = opens_front lists.opens;
     entries = λ e. lists.entries e ∙ records_front e;

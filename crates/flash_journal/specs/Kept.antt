@@ -4,7 +4,8 @@ use Rattle.disk_model.specs.Disk.{DiskState, IsCrashImage, IsSettled}
 use Rattle.shop_model.specs.History.{History}
 use Rattle.flash_plan.specs.declared.outcome.Entry.{Entry}
 use Rattle.journal_model.specs.Records.{Label, slots_of, unit_of, body_of, is_open}
-use Rattle.journal_steps.specs.Append.{Records, IsPrepared, with_entry}
+use Rattle.flash_plan.specs.Outcomes.{with_entry}
+use Rattle.journal_steps.specs.Append.{Records, IsPrepared}
 use Rattle.journal_steps.specs.Later.{MadeCalls, append_calls}
 use Rattle.journal_steps.specs.Tables.{is_found}
 use Rattle.flash_journal.specs.declared.journal.Journal.{Journal}

@@ -28,9 +28,9 @@ pub record Lists (P : Label) (bytes : List ℕ) (es : List Entry) : Type 0 where
   pub entries : (e : Entry) → is_among es e ≡ records P bytes e
   pub once : AreOnce es
 
-abbrev pub IsAnswer : Label → List ℕ → Result (List Entry) OpenFault → Type 0
-IsAnswer P bytes (Ok es) = Lists P bytes es
-IsAnswer P bytes (Err fault) = Refuses P bytes fault
+abbrev pub IsLookAnswer : Label → List ℕ → Result (List Entry) OpenFault → Type 0
+IsLookAnswer P bytes (Ok es) = Lists P bytes es
+IsLookAnswer P bytes (Err fault) = Refuses P bytes fault
 
 -- the other plan's digest is another
 abbrev pub SaysOther : List ℕ → OpenFault → Type 0

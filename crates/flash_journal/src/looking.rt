@@ -2,7 +2,7 @@ ghost use Rattle.std.specs.Prelude.{◌≡◌, ◌≤◌, ◌*◌, [], IsTrue, I
 ghost use Rattle.shop_model.specs.History.{disk_now};
 ghost use Rattle.journal_steps.specs.Later.{IsDiskLater, SameDisk};
 ghost use Rattle.flash_journal.specs.Seen.{label};
-ghost use Rattle.flash_journal.specs.Look.{IsAnswer, HasCause, SaysOther, IsWant};
+ghost use Rattle.flash_journal.specs.Look.{IsLookAnswer, HasCause, SaysOther, IsWant};
 
 use crate::reading::{ReadFault, read_front};
 use crate::tables::Tables;
@@ -35,7 +35,7 @@ pub fn look<S: Shop>(
     units: u16,
 ) -> Result<Entries, OpenFault>
     // The entries are the records of what a read gives; a refusal is answered exactly where the tests find it.
-    ensures answer { IsTrue S.tells_disk → IsAnswer (label digest.now units) (disk_now (S.history shop.old)).bytes result }
+    ensures answer { IsTrue S.tells_disk → IsLookAnswer (label digest.now units) (disk_now (S.history shop.old)).bytes result }
     ensures other { IfErr result (SaysOther digest.now) }
     ensures cause { IfErr result (HasCause (S.history shop.old) (S.history shop.new)) }
 
@@ -60,7 +60,7 @@ fn entries_of(
     digest: &[u8; 32],
     units: u16,
 ) -> Result<Entries, OpenFault>
-    ensures answer { IsAnswer (label digest.now units) front.now result }
+    ensures answer { IsLookAnswer (label digest.now units) front.now result }
     ensures other { IfErr result (SaysOther digest.now) }
     ensures no_fault { result ≡ Err OpenFault.DiskFault → ⊥ }
 {

@@ -5,7 +5,7 @@ use Rattle.flash_base.specs.Lists.{Each}
 use Rattle.flash_plan.specs.declared.fault.PlanFault.TheVariants.{SameUnit}
 use Rattle.flash_plan.specs.declared.unit.Draft.{Draft}
 use Rattle.flash_plan.specs.declared.unit.UnitPlan.{UnitPlan}
-use Rattle.flash_plan.specs.Accepting.{draft_of, first_from, first_task, has_same_name, has_same_address, has_unknown, too_many, unit_of, units_of, IsAnswer, IsDraft, IsNamed, IsAddressed, IsKnown, IsOrdered, IsFirstCycle}
+use Rattle.flash_plan.specs.Accepting.{draft_of, first_from, first_task, has_same_name, has_same_address, has_unknown, too_many, unit_of, units_of, IsPlanAnswer, IsDraft, IsNamed, IsAddressed, IsKnown, IsOrdered, IsFirstCycle}
 use Rattle.flash_plan.specs.Cycles.{AreWithin, IsFirstCycleTest}
 use Rattle.flash_plan.specs.Plan.{IsWidth}
 use Rattle.flash_plan.proofs.Accepted.{few_is, IsFew, after_within}
@@ -38,7 +38,7 @@ named ds few names = record { few = few; names = names }
 pub known : (ds : List Draft) → IsNamed ds → first_task ds (has_same_address ds) ≡ None → first_task ds (has_unknown ds) ≡ None → IsKnown ds
 known ds h addresses unknown = let a : IsAddressed ds = record { named = h; addresses = addresses } in record { addressed = a; known = unknown }
 
-pub same_unit : (ds : List Draft) (n address : ℕ) → IsNamed ds → first_task ds (has_same_address ds) ≡ Some n → address ≡ (draft_of ds n).address → IsAnswer ds (Err (SameUnit address))
+pub same_unit : (ds : List Draft) (n address : ℕ) → IsNamed ds → first_task ds (has_same_address ds) ≡ Some n → address ≡ (draft_of ds n).address → IsPlanAnswer ds (Err (SameUnit address))
 same_unit ds n address h first e = (h, (n, first, e))
 
 pub widths : (ds : List Draft) → Each IsDraft ds → Each (λ d. IsWidth d.width) ds

@@ -159,12 +159,12 @@ pub record IsFirstCycle (ds : List Draft) (n : ℕ) : Type 0 where
   pub cycle : StandsBefore (units_of ds) n n
   pub first : (m : ℕ) → m < n → StandsBefore (units_of ds) m m → ⊥
 
-abbrev pub IsAnswer : List Draft → Result (List UnitPlan) PlanFault → Type 0
-IsAnswer ds (Err NoMemory) = Unit {0}
-IsAnswer ds (Err (TooMany what)) = too_many ds ≡ Some what
-IsAnswer ds (Err (SameName n)) = (too_many ds ≡ None) × (first_task ds (has_same_name ds) ≡ Some n)
-IsAnswer ds (Err (SameUnit address)) = IsNamed ds × ((n : ℕ) × (first_task ds (has_same_address ds) ≡ Some n) × (address ≡ (draft_of ds n).address))
-IsAnswer ds (Err (UnknownAfter n)) = IsAddressed ds × (first_task ds (has_unknown ds) ≡ Some n)
-IsAnswer ds (Err (Cycle n)) = IsFirstCycle ds n
-IsAnswer ds (Err (TooWide n)) = IsOrdered ds × (first_task ds (has_wide ds) ≡ Some n)
-IsAnswer ds (Ok units) = IsOrdered ds × (first_task ds (has_wide ds) ≡ None) × (units ≡ units_of ds) × IsAccepted units
+abbrev pub IsPlanAnswer : List Draft → Result (List UnitPlan) PlanFault → Type 0
+IsPlanAnswer ds (Err NoMemory) = Unit {0}
+IsPlanAnswer ds (Err (TooMany what)) = too_many ds ≡ Some what
+IsPlanAnswer ds (Err (SameName n)) = (too_many ds ≡ None) × (first_task ds (has_same_name ds) ≡ Some n)
+IsPlanAnswer ds (Err (SameUnit address)) = IsNamed ds × ((n : ℕ) × (first_task ds (has_same_address ds) ≡ Some n) × (address ≡ (draft_of ds n).address))
+IsPlanAnswer ds (Err (UnknownAfter n)) = IsAddressed ds × (first_task ds (has_unknown ds) ≡ Some n)
+IsPlanAnswer ds (Err (Cycle n)) = IsFirstCycle ds n
+IsPlanAnswer ds (Err (TooWide n)) = IsOrdered ds × (first_task ds (has_wide ds) ≡ Some n)
+IsPlanAnswer ds (Ok units) = IsOrdered ds × (first_task ds (has_wide ds) ≡ None) × (units ≡ units_of ds) × IsAccepted units

@@ -1,5 +1,5 @@
 -- Entries and outcomes, compared.
-use Rattle.std.specs.Prelude.{Bool, true, false, ◌&&◌, ◌==◌}
+use Rattle.std.specs.Prelude.{Bool, true, false, ◌&&◌, ◌||◌, ◌==◌}
 use Rattle.flash_plan.specs.declared.outcome.Entry.{Entry}
 use Rattle.flash_plan.specs.declared.outcome.Entry.TheVariants as entry
 use Rattle.flash_plan.specs.declared.outcome.Outcome.{Outcome}
@@ -27,3 +27,7 @@ same_outcome (Blocked a) (Blocked b) = a == b
 same_outcome DiskFault DiskFault = true
 same_outcome NoMemory NoMemory = true
 same_outcome a b = false
+
+-- records with one entry more
+abbrev pub with_entry : Entry → (Entry → Bool) → Entry → Bool
+with_entry e records x = same_entry x e || records x

@@ -1,6 +1,6 @@
 -- Plans: their units by number, their images, and what an accepted plan keeps.
 use Rattle.std.specs.Prelude.{◌≡◌, ◌⊎◌, ℕ, zero, suc, ◌+◌, ◌<◌, ◌≤◌, ◌%◌, Bool, IsTrue, ◌&&◌, ◌||◌, ◌==◌, nat_le, List, [], ◌∷◌, ◌++◌, length, slice_index_or, Option, Some, None, Contains}
-use Rattle.flash_base.specs.ByteMaps.{ByteMap, byte_at}
+use Rattle.flash_base.specs.ByteMaps.{MemoryMap, byte_at}
 use Rattle.flash_base.specs.Lists.{Each}
 use Rattle.flash_base.specs.Numbers.{pow256}
 use Rattle.flash_base.specs.declared.unit.Width.{Width}
@@ -39,12 +39,12 @@ IsInImage [] a = ⊥
 IsInImage (s ∷ ss) a = ((s.at ≤ a) × (a < s.at + length s.body)) ⊎ IsInImage ss a
 
 -- bytes, each with its address
-abbrev pub addressed : ℕ → List ℕ → ByteMap
+abbrev pub addressed : ℕ → List ℕ → MemoryMap
 addressed at [] = []
 addressed at (x ∷ xs) = (at, x) ∷ addressed (at + 1) xs
 
 -- the image of a unit: the bytes of its segments by address
-abbrev pub image_of : List Segment → ByteMap
+abbrev pub image_of : List Segment → MemoryMap
 image_of [] = []
 image_of (s ∷ ss) = addressed s.at s.body ++ image_of ss
 
@@ -53,13 +53,13 @@ byte_or x None = x
 byte_or x (Some y) = y
 
 -- the first map with the bytes of the second at the addresses that both have
-abbrev pub over : ByteMap → ByteMap → ByteMap
-over [] n = []
-over (p ∷ ps) n = (p.0, byte_or p.1 (byte_at n p.0)) ∷ over ps n
+abbrev pub overlaid : MemoryMap → MemoryMap → MemoryMap
+overlaid [] n = []
+overlaid (p ∷ ps) n = (p.0, byte_or p.1 (byte_at n p.0)) ∷ overlaid ps n
 
 -- the memory that a unit has when its part of a plan is done: one plain overwrite
-abbrev pub final_memory : UnitPlan → ByteMap → ByteMap
-final_memory u memory = over memory (image_of u.segments)
+abbrev pub final_memory : UnitPlan → MemoryMap → MemoryMap
+final_memory u memory = overlaid memory (image_of u.segments)
 
 -- no two segments share an address
 abbrev pub IsApart : Segment → Segment → Type 0

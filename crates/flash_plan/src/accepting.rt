@@ -1,6 +1,6 @@
 ghost use Rattle.std.specs.Prelude.{◌≡◌, IfOk};
 ghost use Rattle.flash_base.specs.Lists.{Each};
-ghost use Rattle.flash_plan.specs.Accepting.{IsAnswer, IsDraft};
+ghost use Rattle.flash_plan.specs.Accepting.{IsPlanAnswer, IsDraft};
 ghost use Rattle.flash_plan.specs.Refusals.{IsRefusal};
 ghost use Rattle.flash_plan.specs.Plan.{IsAccepted};
 
@@ -40,7 +40,7 @@ fn refusal(drafts: &[Draft]) -> Option<PlanFault>
 /// and each before `Cycle` without any memory.
 pub fn accept(alloc: Global, drafts: Items<Draft>) -> Result<Plan, PlanFault>
     requires { Each IsDraft drafts }
-    ensures answer { IsAnswer drafts result }
+    ensures answer { IsPlanAnswer drafts result }
     ensures accepted { IfOk result (λ units. IsAccepted units) }
 {
     if let Some(fault) = refusal(drafts.as_slice()) {

@@ -7,10 +7,7 @@ use Rattle.flash_shelf.specs.declared.shelf.ShelfFault.TheVariants.{Missing, Too
 use Rattle.flash_shelf.specs.declared.sink.SinkFault.{SinkFault}
 use Rattle.flash_shelf.specs.Outside.{limit}
 use Rattle.flash_shelf.specs.States.{ShelfState, SinkState}
-
--- one more, up to the last value
-abbrev pub one_more : ℕ → ℕ
-one_more n = min (n + 1) (2 ^ 64 - 1)
+use Rattle.flash_base.specs.Counts.{one_more}
 
 -- the call with this number is to fail
 abbrev pub is_listed : List ℕ → ℕ → Bool

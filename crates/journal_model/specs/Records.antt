@@ -30,8 +30,8 @@ abbrev pub magic_and_version : List ℕ
 magic_and_version = 79 ∷ 68 ∷ 88 ∷ 70 ∷ 74 ∷ 78 ∷ 76 ∷ 1 ∷ 0 ∷ 0 ∷ 0 ∷ []
 
 -- a number below 2^32, big-endian
-abbrev pub number4 : ℕ → List ℕ
-number4 x = x / 16777216 ∷ x / 65536 % 256 ∷ x / 256 % 256 ∷ x % 256 ∷ []
+abbrev pub bytes4 : ℕ → List ℕ
+bytes4 x = x / 16777216 ∷ x / 65536 % 256 ∷ x / 256 % 256 ∷ x % 256 ∷ []
 
 -- the bytes from a place are these
 abbrev pub stands_at : List ℕ → ℕ → ℕ → List ℕ → Bool
@@ -84,7 +84,7 @@ is_ordered image n units = each_below units (λ u. not (has image n (Complete u)
 -- the number of slots, the length and the open bodies are right
 abbrev pub is_standing : Label → List ℕ → Bool
 is_standing P image =
-    stands_at image 12 4 (number4 (slots_of P))
+    stands_at image 12 4 (bytes4 (slots_of P))
     && nat_le (64 + 17 * slots_of P) (length image)
     && is_formed image (slots_of P) P.units
     && is_distinct image (slots_of P)

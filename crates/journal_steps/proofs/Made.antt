@@ -5,7 +5,7 @@ use Rattle.std.proofs.lemmas.Bool.{cases_Bool, cases_eq, and_parts, and_from, an
 use Rattle.flash_plan.specs.declared.outcome.Entry.{Entry}
 use Rattle.flash_plan.specs.declared.outcome.Entry.TheVariants.{Begun, Complete}
 use Rattle.flash_base.specs.Numbers.{each_below, some_below}
-use Rattle.journal_model.specs.Records.{Label, slots_of, magic, magic_and_version, number4, stands_at, is_fresh, is_headed, is_journal, is_open, has, spells}
+use Rattle.journal_model.specs.Records.{Label, slots_of, magic, magic_and_version, bytes4, stands_at, is_fresh, is_headed, is_journal, is_open, has, spells}
 use Rattle.journal_steps.specs.Append.{Records}
 use Rattle.journal_steps.specs.Make.{IsStart, IsMade, no_entry}
 use Rattle.journal_steps.proofs.Slots.{below_at, below_from, none_below}
@@ -104,7 +104,7 @@ pub made_copied : (P : Label) (file image : List ℕ) → IsMade P file → 64 +
 made_copied P file image made size same = record {
   size = size;
   version = stands_same file image 1 11 magic_and_version (λ t lt. same (1 + t) (omega arith) (omega (arith, lt))) ∙ made.version;
-  count = stands_same file image 12 4 (number4 (slots_of P)) (λ t lt. same (12 + t) (omega arith) (omega (arith, lt))) ∙ made.count;
+  count = stands_same file image 12 4 (bytes4 (slots_of P)) (λ t lt. same (12 + t) (omega arith) (omega (arith, lt))) ∙ made.count;
   digest = stands_same file image 16 32 P.digest (λ t lt. same (16 + t) (omega arith) (omega (arith, lt))) ∙ made.digest;
   zeros = stands_same file image 48 16 (replicate 16 0) (λ t lt. same (48 + t) (omega arith) (omega (arith, lt))) ∙ made.zeros;
   gates = λ k lt. same (64 + k) (omega arith) (omega (arith, lt)) ∙ made.gates k lt;

@@ -5,7 +5,7 @@ use Rattle.std.proofs.lemmas.Bool.{cases_Bool, cases_eq, and_parts, and_from, an
 use Rattle.flash_plan.specs.declared.outcome.Entry.{Entry}
 use Rattle.flash_plan.specs.declared.outcome.Entry.TheVariants.{Begun, Marked, Complete}
 use Rattle.flash_base.specs.Numbers.{each_below, some_below}
-use Rattle.journal_model.specs.Records.{Label, slots_of, is_open, spells, has, is_formed, is_distinct, is_ordered, body_of, unit_of, stands_at, number4, is_headed, says_digest, is_standing}
+use Rattle.journal_model.specs.Records.{Label, slots_of, is_open, spells, has, is_formed, is_distinct, is_ordered, body_of, unit_of, stands_at, bytes4, is_headed, says_digest, is_standing}
 use Rattle.journal_steps.proofs.Slots.{below_at, below_from, below_same}
 use Rattle.journal_steps.specs.Append.{Records, and_entry, IsPrepared, is_entry}
 use Rattle.journal_steps.proofs.Same.{Agrees, some_same, some_at, spells_same, slot_same, formed_same, apart_same, headed_same, digest_same, count_same}
@@ -184,7 +184,7 @@ journal_more P R base image k e0 lt named size front closed opened others body h
     let o1 = and_parts _ _ outer.0 in
     let headed : is_headed image ≡ true = headed_same P base image front (λ i. nat_le 64 (size i)) ∙ o1.0 in
     let digest : says_digest P image ≡ true = digest_same P base image front ∙ o1.1 in
-    let count : stands_at image 12 4 (number4 n) ≡ true = count_same P base image front ∙ q1.0 in
+    let count : stands_at image 12 4 (bytes4 n) ≡ true = count_same P base image front ∙ q1.0 in
     let long : nat_le (64 + 17 * n) (length image) ≡ true = (λ i. nat_le (64 + 17 * n) (size i)) ∙ q1.1 in
     let standing : is_standing P image ≡ true =
     and_from _ _ (and_from _ _ (and_from _ _ (and_from _ _ count long)

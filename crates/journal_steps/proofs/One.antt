@@ -5,9 +5,9 @@ use Rattle.std.proofs.lemmas.Bool.{cases_Bool, cases_eq, and_from, and_left, eq-
 use Rattle.disk_model.specs.Disk.{DiskState, IsSettled}
 use Rattle.flash_plan.specs.declared.outcome.Entry.{Entry}
 use Rattle.flash_plan.specs.declared.outcome.Entry.TheVariants.{Begun, Marked, Complete}
-use Rattle.flash_plan.specs.Outcomes.{same_entry}
+use Rattle.flash_plan.specs.Outcomes.{same_entry, with_entry}
 use Rattle.journal_model.specs.Records.{Label, slots_of, unit_of, body_of, is_open}
-use Rattle.journal_steps.specs.Append.{Records, IsPrepared, is_entry, with_entry, and_some, HasSome, AddsSome, AddsAtMost, CanAppendGroup, HasAddedGroup}
+use Rattle.journal_steps.specs.Append.{Records, IsPrepared, is_entry, and_some, HasSome, AddsSome, AddsAtMost, CanAppendGroup, HasAddedGroup}
 use Rattle.journal_steps.proofs.Group.{retold, or_none, and_right}
 use Rattle.journal_steps.proofs.Slots.{below_at}
 use Rattle.journal_steps.proofs.Settled.{body_size}

@@ -5,7 +5,7 @@ use Rattle.std.proofs.lemmas.Bool.{cases_Bool, cases_eq, and_left}
 use Rattle.flash_plan.specs.declared.outcome.Entry.{Entry}
 use Rattle.flash_plan.specs.declared.outcome.Entry.TheVariants.{Begun, Complete}
 use Rattle.flash_base.specs.Numbers.{some_below}
-use Rattle.journal_model.specs.Records.{Label, slots_of, is_open, spells, has, is_formed, is_distinct, is_ordered, is_journal, body_of, magic, magic_and_version, number4, stands_at, is_fresh, is_headed, says_digest, is_standing}
+use Rattle.journal_model.specs.Records.{Label, slots_of, is_open, spells, has, is_formed, is_distinct, is_ordered, is_journal, body_of, magic, magic_and_version, bytes4, stands_at, is_fresh, is_headed, says_digest, is_standing}
 use Rattle.journal_steps.specs.Read.{one_formed, one_apart, one_distinct}
 use Rattle.journal_steps.proofs.Slots.{below_same}
 
@@ -93,8 +93,8 @@ module _ (P : Label) (base image : List ℕ) (front : (i : ℕ) → i < 64 → s
   pub digest_same : says_digest P image ≡ says_digest P base
   digest_same = stands_same base image 16 32 P.digest (λ t lt. front (16 + t) (omega (arith, lt)))
 
-  pub count_same : stands_at image 12 4 (number4 (slots_of P)) ≡ stands_at base 12 4 (number4 (slots_of P))
-  count_same = stands_same base image 12 4 (number4 (slots_of P)) (λ t lt. front (12 + t) (omega (arith, lt)))
+  pub count_same : stands_at image 12 4 (bytes4 (slots_of P)) ≡ stands_at base 12 4 (bytes4 (slots_of P))
+  count_same = stands_same base image 12 4 (bytes4 (slots_of P)) (λ t lt. front (12 + t) (omega (arith, lt)))
 
   module _ (long : nat_le (64 + 17 * slots_of P) (length image) ≡ nat_le (64 + 17 * slots_of P) (length base)) (all : (k : ℕ) → k < slots_of P → Agrees (slots_of P) base image k) where
     pub standing_same : is_standing P image ≡ is_standing P base

@@ -3,7 +3,7 @@ use Rattle.std.specs.Prelude.{◌≡◌, ◌⊎◌, ℕ, ◌+◌, ◌*◌, ◌<�
 use Rattle.disk_model.specs.Disk.{DiskState, IsCrashImage, IsSettled}
 use Rattle.flash_plan.specs.declared.outcome.Entry.{Entry}
 use Rattle.flash_plan.specs.declared.outcome.Entry.TheVariants.{Begun, Marked, Complete}
-use Rattle.flash_plan.specs.Outcomes.{same_entry}
+use Rattle.flash_plan.specs.Outcomes.{same_entry, with_entry}
 use Rattle.flash_base.specs.Numbers.{each_below, some_below}
 use Rattle.journal_model.specs.Records.{Label, slots_of, unit_of, body_of, has, is_journal, is_open}
 
@@ -22,10 +22,7 @@ pub record Records (P : Label) (R : Entry → Bool) (image : List ℕ) : Type 0 
   pub journal : is_journal P image ≡ true
   pub entries : (x : Entry) → has image (slots_of P) x ≡ R x
 
--- with one entry more; the same told by spellings
-abbrev pub with_entry : Entry → (Entry → Bool) → Entry → Bool
-with_entry e R x = same_entry x e || R x
-
+-- with one entry more, told by spellings
 abbrev pub and_entry : (Entry → Bool) → Entry → Entry → Bool
 and_entry R e x = R x || is_entry e x
 

@@ -2,7 +2,7 @@
 use Rattle.std.specs.Prelude.{◌≡◌, ◌⊎◌, ℕ, ◌+◌, ◌*◌, ◌<◌, ◌≤◌, Bool, true, false, ◌||◌, List, length, slice_index, replicate}
 use Rattle.disk_model.specs.Disk.{DiskState, IsCrashImage, IsSettled}
 use Rattle.flash_plan.specs.declared.outcome.Entry.{Entry}
-use Rattle.journal_model.specs.Records.{Label, slots_of, magic, magic_and_version, number4, stands_at, says_digest, is_fresh, is_journal, records}
+use Rattle.journal_model.specs.Records.{Label, slots_of, magic, magic_and_version, bytes4, stands_at, says_digest, is_fresh, is_journal, records}
 use Rattle.journal_steps.specs.Append.{Records}
 
 abbrev pub no_entry : Entry → Bool
@@ -19,7 +19,7 @@ Starts P disk = (image : List ℕ) → IsCrashImage disk image → IsStart P ima
 pub record IsMade (P : Label) (image : List ℕ) : Type 0 where
   pub size : 64 + 17 * slots_of P ≤ length image
   pub version : stands_at image 1 11 magic_and_version ≡ true
-  pub count : stands_at image 12 4 (number4 (slots_of P)) ≡ true
+  pub count : stands_at image 12 4 (bytes4 (slots_of P)) ≡ true
   pub digest : says_digest P image ≡ true
   pub zeros : stands_at image 48 16 (replicate 16 0) ≡ true
   pub gates : (k : ℕ) → k < slots_of P → slice_index image (64 + k) ≡ 0

@@ -6,7 +6,8 @@ use Rattle.std.proofs.lemmas.List.{append-nil}
 use Rattle.flash_plan.specs.Plan.{plan_of}
 use Rattle.flash_plan.specs.declared.unit.LinkRules.{LinkRules}
 use Rattle.flash_plan.specs.declared.unit.UnitPlan.{UnitPlan}
-use Rattle.run_model.specs.Link.{Link, Phase, Down, Fresh, Waits, Up, Denied, link_start, is_down, is_fresh, is_waiting, is_up, is_open, drop_link, quiet_link, polled_quiet, unanswered, said_link, take_word, first_word}
+use Rattle.run_model.specs.Link.{Link, Phase, link_start, is_down, is_dialed, is_asked, is_up, is_open, drop_link, quiet_link, polled_quiet, unanswered, said_link, take_message, first_message}
+use Rattle.run_model.specs.Link as phase
 use Rattle.bay_core.proofs.Allowed.{CollectedFacts, collected_facts, sent_facts}
 use Rattle.bay_core.specs.Core.{Core, core_of, core_start, core_after, link_after, tended_link}
 use Rattle.bay_core.specs.Legal.{is_allowed, is_legal, fits_link}
@@ -25,36 +26,9 @@ use Rattle.link_law.proofs.Dialing.{dialed, asked}
 use Rattle.link_law.proofs.Moving.{Stands}
 use Rattle.link_law.proofs.Quieting as quiet
 use Rattle.link_law.proofs.Silent.{IsSilent, keeps, fails, untaken_words, asked_same, unasked_same, owed_same, owed_none, none_more}
+use Rattle.run_model.proofs.Phases.{down_is, dialed_is, asked_is, up_is}
 
 -- ------ phases
-down_is : (p : Phase) → is_down p ≡ true → p ≡ Down
-down_is Down e = refl
-down_is Fresh e = absurd (false≢true e)
-down_is Waits e = absurd (false≢true e)
-down_is Up e = absurd (false≢true e)
-down_is (Denied code) e = absurd (false≢true e)
-
-fresh_is : (p : Phase) → is_fresh p ≡ true → p ≡ Fresh
-fresh_is Down e = absurd (false≢true e)
-fresh_is Fresh e = refl
-fresh_is Waits e = absurd (false≢true e)
-fresh_is Up e = absurd (false≢true e)
-fresh_is (Denied code) e = absurd (false≢true e)
-
-waiting_is : (p : Phase) → is_waiting p ≡ true → p ≡ Waits
-waiting_is Down e = absurd (false≢true e)
-waiting_is Fresh e = absurd (false≢true e)
-waiting_is Waits e = refl
-waiting_is Up e = absurd (false≢true e)
-waiting_is (Denied code) e = absurd (false≢true e)
-
-up_is : (p : Phase) → is_up p ≡ true → p ≡ Up
-up_is Down e = absurd (false≢true e)
-up_is Fresh e = absurd (false≢true e)
-up_is Waits e = absurd (false≢true e)
-up_is Up e = refl
-up_is (Denied code) e = absurd (false≢true e)
-
 not_true : (b : Bool) → not b ≡ true → b ≡ false
 not_true true e = absurd (false≢true e)
 not_true false e = refl
@@ -119,12 +93,12 @@ module _ (rules : LinkRules) (P : List UnitPlan) (es : List Event) (l : Link) (s
     words = untaken_words rules P es x is.silent l (drop_link l) is.no_take s.link refl;
   })
 
-  sent : (u place : ℕ) (lost : Bool) → l.phase ≡ Up → Stands rules P (es ++ (Sent u place lost ∷ [])) (if lost then drop_link l else l)
+  sent : (u place : ℕ) (lost : Bool) → l.phase ≡ phase.Up → Stands rules P (es ++ (Sent u place lost ∷ [])) (if lost then drop_link l else l)
   sent u place true up = failure (Sent u place true) (record { silent = record { no_dial = refl; none = refl; bytes = refl }; failed = refl; no_quiet = refl; no_ask = refl; no_say = refl; loss = refl; no_take = λ a. refl }) (ap is_down up)
   sent u place false up = idle (Sent u place false) (record { silent = record { no_dial = refl; none = refl; bytes = refl }; works = refl; no_wait = refl; no_quiet = refl; no_ask = refl; no_say = refl; no_loss = refl; no_take = λ a. refl })
 
   -- an alive check answered
-  said : (lost : Bool) → l.phase ≡ Up → Stands rules P (es ++ (Tended (Said lost) ∷ [])) (said_link lost l)
+  said : (lost : Bool) → l.phase ≡ phase.Up → Stands rules P (es ++ (Tended (Said lost) ∷ [])) (said_link lost l)
   said true up = fails rules P es (Tended (Said true)) silent l (said_link true l) s (record {
     failed = refl;
     no_quiet = refl;
@@ -163,8 +137,8 @@ module _ (rules : LinkRules) (P : List UnitPlan) (es : List Event) (l : Link) (s
       silent = record { no_dial = refl; none = refl; bytes = refl }
 
   -- a kept message taken
-  kept : (u : ℕ) → is_some (first_word (plan_of P u).address l.inbox) ≡ true → Stands rules P (es ++ (Collected u Kept ∷ [])) (take_word (plan_of P u).address l)
-  kept u has = keeps rules P es (Collected u Kept) silent l (take_word (plan_of P u).address l) s (record {
+  kept : (u : ℕ) → is_some (first_message (plan_of P u).address l.inbox) ≡ true → Stands rules P (es ++ (Collected u Kept ∷ [])) (take_message (plan_of P u).address l)
+  kept u has = keeps rules P es (Collected u Kept) silent l (take_message (plan_of P u).address l) s (record {
     works = refl;
     no_wait = refl;
     no_ask = refl;
@@ -184,7 +158,7 @@ module _ (rules : LinkRules) (P : List UnitPlan) (es : List Event) (l : Link) (s
       silent = record { no_dial = refl; none = refl; bytes = refl }
 
   -- a quiet receive on a link that is up
-  quiet_up : (u : ℕ) → l.phase ≡ Up → Stands rules P (es ++ (Collected u Quiet ∷ [])) (polled_quiet l)
+  quiet_up : (u : ℕ) → l.phase ≡ phase.Up → Stands rules P (es ++ (Collected u Quiet ∷ [])) (polled_quiet l)
   quiet_up u up = subst (Stands rules P (es ++ (Collected u Quiet ∷ []))) (sym same) (keeps rules P es (Collected u Quiet) silent l (quiet_link l) s (record {
     works = refl;
     no_wait = refl;
@@ -196,7 +170,7 @@ module _ (rules : LinkRules) (P : List UnitPlan) (es : List Event) (l : Link) (s
     rest = refl;
     asked = refl;
     ticks = refl;
-    calm = λ e. absurd (false≢true (ap is_waiting (sym up ∙ e)));
+    calm = λ e. absurd (false≢true (ap is_asked (sym up ∙ e)));
     owes = s.link.owes ∙ sym (owed_same (since_dial es) (Collected u Quiet) silent refl);
     words = untaken_words rules P es (Collected u Quiet) silent l (quiet_link l) (λ a. and_false ((plan_of P u).address == a)) s.link refl;
   }))
@@ -205,7 +179,7 @@ module _ (rules : LinkRules) (P : List UnitPlan) (es : List Event) (l : Link) (s
       silent = record { no_dial = refl; none = refl; bytes = refl }
 
       answered : unanswered (quiet_link l) ≡ false
-      answered = rw (ap is_waiting up) refl
+      answered = rw (ap is_asked up) refl
 
       same : polled_quiet l ≡ quiet_link l
       same = ap (λ (b : Bool). if b then drop_link (quiet_link l) else quiet_link l) answered
@@ -214,12 +188,12 @@ module _ (rules : LinkRules) (P : List UnitPlan) (es : List Event) (l : Link) (s
 module _ (rules : LinkRules) (P : List UnitPlan) (es : List Event) (c : Core) (s : Stands rules P es c.link) where
   tended : (step : Tend) → fits_link c step ≡ true → Stands rules P (es ++ (Tended step ∷ [])) (tended_link rules P step c.link)
   tended (Dialed lost) may = dialed rules P es lost c.link (down_is c.link.phase may) s
-  tended (Asked lost) may = asked rules P es lost c.link (fresh_is c.link.phase may) s
+  tended (Asked lost) may = asked rules P es lost c.link (dialed_is c.link.phase may) s
   tended (Said lost) may = said rules P es c.link s lost (up_is c.link.phase (and_parts _ _ may).0)
   tended (Polled Kept) may = absurd (false≢true may)
-  tended (Polled Quiet) may = quiet.polled rules P es c.link (waiting_is c.link.phase may) s
-  tended (Polled (Piece bytes)) may = pieces.polled rules P es bytes c.link (ap is_open (waiting_is c.link.phase may)) s
-  tended (Polled Lost) may = failure rules P es c.link s (Tended (Polled Lost)) (record { silent = record { no_dial = refl; none = refl; bytes = refl }; failed = refl; no_quiet = refl; no_ask = refl; no_say = refl; loss = refl; no_take = λ a. refl }) (ap is_down (waiting_is c.link.phase may))
+  tended (Polled Quiet) may = quiet.polled rules P es c.link (asked_is c.link.phase may) s
+  tended (Polled (Piece bytes)) may = pieces.polled rules P es bytes c.link (ap is_open (asked_is c.link.phase may)) s
+  tended (Polled Lost) may = failure rules P es c.link s (Tended (Polled Lost)) (record { silent = record { no_dial = refl; none = refl; bytes = refl }; failed = refl; no_quiet = refl; no_ask = refl; no_say = refl; loss = refl; no_take = λ a. refl }) (ap is_down (asked_is c.link.phase may))
 
   collects : (u : ℕ) (heard : Heard) → CollectedFacts P c u heard → Stands rules P (es ++ (Collected u heard ∷ [])) (link_after rules P (Collected u heard) c.link)
   collects u Kept f = kept rules P es c.link s u f.inbox
@@ -263,8 +237,8 @@ starts rules P = record {
     kept = λ a known. refl;
     others = λ a unknown. refl;
   };
-  fresh = λ e. absurd (false≢true (ap is_fresh e));
-  waits = λ e. absurd (false≢true (ap is_waiting e));
+  fresh = λ e. absurd (false≢true (ap is_dialed e));
+  waits = λ e. absurd (false≢true (ap is_asked e));
 }
 
 pub link_follows : LinkFollows

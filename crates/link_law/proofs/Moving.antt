@@ -4,13 +4,14 @@ use Rattle.std.specs.Prelude.{not}
 use Rattle.doip_frame.specs.Frame.{stream_of}
 use Rattle.flash_plan.specs.declared.unit.LinkRules.{LinkRules}
 use Rattle.flash_plan.specs.declared.unit.UnitPlan.{UnitPlan}
-use Rattle.run_model.specs.Link.{Link, Fresh, Waits, is_down, is_known}
-use Rattle.run_model.specs.Ways.{words_from}
+use Rattle.run_model.specs.Link.{Link, is_down, is_known}
+use Rattle.run_model.specs.Link as phase
+use Rattle.run_model.specs.Ways.{messages_from}
 use Rattle.bay_core.specs.Core.{addresses_of}
 use Rattle.bay_core.specs.declared.event.Event.{Event}
 use Rattle.link_law.specs.Happened.{one, has, count, to_last}
 use Rattle.link_law.specs.Kinds.{event_bytes, bytes_in, is_dial, is_ask, is_quiet, is_quiet_wait, dial_of}
-use Rattle.link_law.specs.Looked.{words_of}
+use Rattle.link_law.specs.Looked.{messages_of}
 use Rattle.link_law.specs.Follows.{last_dial, since_dial, is_loss, phase_in, is_owed, takes, taken, IsLinkOf}
 use Rattle.link_law.proofs.Lists.{count_more, count_same, behind_same, bytes_more, count_after_more, dial_same}
 use Rattle.link_law.proofs.Words.{IsKept, more_came}
@@ -18,15 +19,15 @@ use Rattle.link_law.proofs.Words.{IsKept, more_came}
 -- the link by the events, and besides what holds before the first answer to the activation
 pub record Stands (rules : LinkRules) (P : List UnitPlan) (es : List Event) (l : Link) : Type 0 where
   pub link : IsLinkOf rules P es l
-  pub fresh : l.phase ≡ Fresh → count is_quiet_wait (since_dial es) ≡ 0
-  pub waits : l.phase ≡ Waits → l.ticks ≡ l.asked + count is_quiet_wait (since_dial es)
+  pub fresh : l.phase ≡ phase.Dialed → count is_quiet_wait (since_dial es) ≡ 0
+  pub waits : l.phase ≡ phase.Asked → l.ticks ≡ l.asked + count is_quiet_wait (since_dial es)
 
 module _ (rules : LinkRules) (P : List UnitPlan) (es : List Event) (x : Event) where
   -- each unit's messages behind the event
   pub record WordsMove (l2 : Link) : Type 0 where
     pub known : (a : ℕ) → is_known (addresses_of P) a ≡ true
-        → IsKept (words_from a l2.inbox) (taken rules.tester P a (since_dial es)) (takes rules.tester P a (since_dial es) x) (words_of rules.tester a (bytes_in (since_dial es) ++ event_bytes x))
-    pub others : (a : ℕ) → is_known (addresses_of P) a ≡ false → words_from a l2.inbox ≡ []
+        → IsKept (messages_from a l2.inbox) (taken rules.tester P a (since_dial es)) (takes rules.tester P a (since_dial es) x) (messages_of rules.tester a (bytes_in (since_dial es) ++ event_bytes x))
+    pub others : (a : ℕ) → is_known (addresses_of P) a ≡ false → messages_from a l2.inbox ≡ []
 
   pub record Moves (l l2 : Link) : Type 0 where
     pub got : l2.got ≡ bytes_in (since_dial es) ++ event_bytes x
@@ -61,18 +62,18 @@ module _ (rules : LinkRules) (P : List UnitPlan) (es : List Event) (x : Event) w
       dials = m.dials ∙ is.dials ∙ sym (count_same is_dial x no_dial es);
       owes = m.owes ∙ ap is_owed (sym since);
       unasked = λ none_asked. bytes_now ∙ m.unasked (sym (ap (has is_ask) since) ∙ none_asked);
-      came = λ a known. subst (λ (n : ℕ). n ≤ length (words_of rules.tester a (bytes_in (since_dial (es ++ (x ∷ [])))))) (sym (taken_now a))
-          (subst (λ (bs : List ℕ). taken rules.tester P a (since_dial es) + one (takes rules.tester P a (since_dial es) x) ≤ length (words_of rules.tester a bs)) (sym bytes_now) (m.words.known a known).came);
+      came = λ a known. subst (λ (n : ℕ). n ≤ length (messages_of rules.tester a (bytes_in (since_dial (es ++ (x ∷ [])))))) (sym (taken_now a))
+          (subst (λ (bs : List ℕ). taken rules.tester P a (since_dial es) + one (takes rules.tester P a (since_dial es) x) ≤ length (messages_of rules.tester a bs)) (sym bytes_now) (m.words.known a known).came);
       inbox = words_now;
-      kept = λ a known. more_came a (taken rules.tester P a (since_dial (es ++ (x ∷ [])))) (words_of rules.tester a (bytes_in (since_dial (es ++ (x ∷ []))))) l2.inbox (words_now a known);
+      kept = λ a known. more_came a (taken rules.tester P a (since_dial (es ++ (x ∷ [])))) (messages_of rules.tester a (bytes_in (since_dial (es ++ (x ∷ []))))) l2.inbox (words_now a known);
       others = m.words.others;
     }
       where
-        words_now : (a : ℕ) → is_known (addresses_of P) a ≡ true → words_from a l2.inbox ≡ drop (taken rules.tester P a (since_dial (es ++ (x ∷ [])))) (words_of rules.tester a (bytes_in (since_dial (es ++ (x ∷ [])))))
-        words_now a known = (m.words.known a known).words ∙ (λ i. drop (sym (taken_now a) i) (words_of rules.tester a (sym bytes_now i)))
+        words_now : (a : ℕ) → is_known (addresses_of P) a ≡ true → messages_from a l2.inbox ≡ drop (taken rules.tester P a (since_dial (es ++ (x ∷ [])))) (messages_of rules.tester a (bytes_in (since_dial (es ++ (x ∷ [])))))
+        words_now a known = (m.words.known a known).words ∙ (λ i. drop (sym (taken_now a) i) (messages_of rules.tester a (sym bytes_now i)))
 
-    pub stands : (l l2 : Link) → Stands rules P es l → Moves l l2 → (l2.phase ≡ Fresh → count is_quiet_wait (since_dial es) + one (is_quiet_wait x) ≡ 0)
-        → (l2.phase ≡ Waits → l2.ticks ≡ l2.asked + (count is_quiet_wait (since_dial es) + one (is_quiet_wait x))) → Stands rules P (es ++ (x ∷ [])) l2
+    pub stands : (l l2 : Link) → Stands rules P es l → Moves l l2 → (l2.phase ≡ phase.Dialed → count is_quiet_wait (since_dial es) + one (is_quiet_wait x) ≡ 0)
+        → (l2.phase ≡ phase.Asked → l2.ticks ≡ l2.asked + (count is_quiet_wait (since_dial es) + one (is_quiet_wait x))) → Stands rules P (es ++ (x ∷ [])) l2
     stands l l2 s m fresh waits = record {
       link = moved l l2 s.link m;
       fresh = λ e. count_now ∙ fresh e;

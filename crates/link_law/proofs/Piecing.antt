@@ -8,14 +8,15 @@ use Rattle.doip_frame.specs.declared.frame.Frame.{Frame}
 use Rattle.flash_plan.specs.declared.unit.LinkRules.{LinkRules}
 use Rattle.flash_plan.specs.declared.unit.UnitPlan.{UnitPlan}
 use Rattle.run_model.proofs.Words.{words_more}
-use Rattle.run_model.specs.Link.{Link, Phase, Down, Fresh, Waits, Up, Denied, is_down, is_fresh, is_waiting, is_open, hear_piece}
-use Rattle.run_model.specs.Ways.{Spoken, words_in}
+use Rattle.run_model.specs.Link.{Link, Phase, is_down, is_dialed, is_asked, is_open, hear_piece}
+use Rattle.run_model.specs.Link as phase
+use Rattle.run_model.specs.Ways.{UnitMessage, messages_in}
 use Rattle.bay_core.specs.Core.{addresses_of}
 use Rattle.bay_core.specs.LinkLaws.{phase_for}
 use Rattle.bay_core.specs.declared.event.Event.{Event}
 use Rattle.link_law.specs.Happened.{one, count}
 use Rattle.link_law.specs.Kinds.{event_bytes, bytes_in, is_dial, is_ask, is_say, is_quiet, is_quiet_wait, is_failed_call, dial_of}
-use Rattle.link_law.specs.Looked.{answer_in, is_broken, checks_in, checks_of, words_of}
+use Rattle.link_law.specs.Looked.{answer_in, is_broken, checks_in, checks_of, messages_of}
 use Rattle.link_law.specs.Follows.{last_dial, since_dial, is_ended, is_loss, phase_in, is_owed}
 use Rattle.link_law.proofs.Frames.{checks_more}
 use Rattle.link_law.proofs.Lists.{has_same, count_same, to_same, bytes_more, or_false, owed_more, brings}
@@ -36,9 +37,9 @@ pub record IsPiece (x : Event) : Type 0 where
 
 -- the phase behind it
 piece_phase : (d : Option Bool) (w : List Event) (p : Phase) (x : Event) → IsPiece x → IsOpened d w p
-    → phase_in d (w ++ (x ∷ [])) ≡ (if is_broken (stream_of (bytes_in w ++ event_bytes x)) then Down else phase_for (answer_in (stream_of (bytes_in w ++ event_bytes x)).frames))
+    → phase_in d (w ++ (x ∷ [])) ≡ (if is_broken (stream_of (bytes_in w ++ event_bytes x)) then phase.Down else phase_for (answer_in (stream_of (bytes_in w ++ event_bytes x)).frames))
 piece_phase d w p x is o = ap (λ (y : Option Bool). phase_in y (w ++ (x ∷ []))) o.live.dialed
-    ∙ (λ i. if ended i then Down else if (has_same is_ask x is.no_ask w ∙ o.asked) i then phase_for (answer_in (stream_of (bytes_more w x i)).frames) else Fresh)
+    ∙ (λ i. if ended i then phase.Down else if (has_same is_ask x is.no_ask w ∙ o.asked) i then phase_for (answer_in (stream_of (bytes_more w x i)).frames) else phase.Dialed)
   where
     ended : is_ended (w ++ (x ∷ [])) ≡ is_broken (stream_of (bytes_in w ++ event_bytes x))
     ended = (λ i. (has_same is_failed_call x is.works w ∙ o.live.called) i || is_broken (stream_of (bytes_more w x i)) || (ap (nat_le 1000) (count_same is_quiet_wait x is.no_wait w) ∙ o.live.patient) i)
@@ -48,21 +49,21 @@ answer_stands : (o : Option ℕ) → is_down (phase_for o) ≡ false
 answer_stands None = refl
 answer_stands (Some code) = either (code == 16)
   where
-    either : (b : Bool) → is_down (if b then Up else Denied code) ≡ false
+    either : (b : Bool) → is_down (if b then phase.Up else phase.Refused code) ≡ false
     either true = refl
     either false = refl
 
-answer_not_fresh : (gone : Bool) (o : Option ℕ) → is_fresh (if gone then Down else phase_for o) ≡ false
+answer_not_fresh : (gone : Bool) (o : Option ℕ) → is_dialed (if gone then phase.Down else phase_for o) ≡ false
 answer_not_fresh true o = refl
 answer_not_fresh false None = refl
 answer_not_fresh false (Some code) = either (code == 16)
   where
-    either : (b : Bool) → is_fresh (if b then Up else Denied code) ≡ false
+    either : (b : Bool) → is_dialed (if b then phase.Up else phase.Refused code) ≡ false
     either true = refl
     either false = refl
 
 -- a loss ends a connection
-ends_one : (n : ℕ) (gone : Bool) (o : Option ℕ) → (n + one gone) + one (not (is_down (if gone then Down else phase_for o))) ≡ n + 1
+ends_one : (n : ℕ) (gone : Bool) (o : Option ℕ) → (n + one gone) + one (not (is_down (if gone then phase.Down else phase_for o))) ≡ n + 1
 ends_one n true o = omega arith
 ends_one n false o = ap (λ (b : Bool). (n + 0) + one (not b)) (answer_stands o) ∙ none_less n
   where
@@ -70,11 +71,11 @@ ends_one n false o = ap (λ (b : Bool). (n + 0) + one (not b)) (answer_stands o)
     none_less n = omega arith
 
 open_stands : (p : Phase) → is_open p ≡ true → is_down p ≡ false
-open_stands Down e = absurd (false≢true e)
-open_stands Fresh e = refl
-open_stands Waits e = refl
-open_stands Up e = refl
-open_stands (Denied code) e = refl
+open_stands phase.Down e = absurd (false≢true e)
+open_stands phase.Dialed e = refl
+open_stands phase.Asked e = refl
+open_stands phase.Up e = refl
+open_stands (phase.Refused code) e = refl
 
 -- more checks than before
 more_checks : (c n : ℕ) → nat_lt 0 n ≡ nat_lt c (c + n)
@@ -107,8 +108,8 @@ module _ (rules : LinkRules) (P : List UnitPlan) (es : List Event) (x : Event) (
   pub reads : PieceReads rules.tester (addresses_of P) told behind before (stream_of all)
   reads = subst (PieceReads rules.tester (addresses_of P) told behind before) (sym whole) (piece_reads rules.tester (addresses_of P) told before (stream_of (l.rest ++ event_bytes x)) l.phase refl was.clean)
 
-  pub words_all : (a : ℕ) → words_of rules.tester a all ≡ words_of rules.tester a (bytes_in (since_dial es)) ++ words_in rules.tester a reads.extra
-  words_all a = ap (words_in rules.tester a) reads.looked ∙ words_more rules.tester a before reads.extra ∙ ap (λ (fs : List Frame). words_in rules.tester a fs ++ words_in rules.tester a reads.extra) (sym reads.old)
+  pub words_all : (a : ℕ) → messages_of rules.tester a all ≡ messages_of rules.tester a (bytes_in (since_dial es)) ++ messages_in rules.tester a reads.extra
+  words_all a = ap (messages_in rules.tester a) reads.looked ∙ words_more rules.tester a before reads.extra ∙ ap (λ (fs : List Frame). messages_in rules.tester a fs ++ messages_in rules.tester a reads.extra) (sym reads.old)
 
   checks_all : checks_of all ≡ checks_of (bytes_in (since_dial es)) + checks_in reads.extra
   checks_all = ap checks_in reads.looked ∙ checks_more before reads.extra ∙ ap (λ (fs : List Frame). checks_in fs + checks_in reads.extra) (sym reads.old)
@@ -124,7 +125,7 @@ module _ (rules : LinkRules) (P : List UnitPlan) (es : List Event) (x : Event) (
       as_before false = refl
 
   -- with these messages in the inbox
-  pub piece_stands : (inbox : List (ℕ × Spoken)) → WordsMove rules P es x (record behind { inbox = inbox }) → Stands rules P (es ++ (x ∷ [])) (record behind { inbox = inbox })
+  pub piece_stands : (inbox : List (ℕ × UnitMessage)) → WordsMove rules P es x (record behind { inbox = inbox }) → Stands rules P (es ++ (x ∷ [])) (record behind { inbox = inbox })
   piece_stands inbox words = stands rules P es x is.no_dial is.none l (record behind { inbox = inbox }) s (record {
     got = reads.reads.got ∙ ap (λ (bs : List ℕ). bs ++ event_bytes x) s.link.bytes;
     rest = reads.reads.rest ∙ ap (λ (t : Stream). t.rest) (sym whole);
@@ -138,6 +139,6 @@ module _ (rules : LinkRules) (P : List UnitPlan) (es : List Event) (x : Event) (
     owes = reads.reads.owes ∙ owed;
     unasked = λ none_asked. absurd (both_ways _ none_asked (has_same is_ask x is.no_ask (since_dial es) ∙ was.asked));
     words = words;
-  }) (λ e. absurd (both_ways _ (answer_not_fresh (is_broken (stream_of all)) (answer_in (stream_of all).frames)) (ap is_fresh (sym reads.reads.phase ∙ e))))
-      (λ e. reads.reads.ticks ∙ s.waits (reads.later (ap is_waiting (sym reads.reads.phase ∙ e)))
+  }) (λ e. absurd (both_ways _ (answer_not_fresh (is_broken (stream_of all)) (answer_in (stream_of all).frames)) (ap is_dialed (sym reads.reads.phase ∙ e))))
+      (λ e. reads.reads.ticks ∙ s.waits (reads.later (ap is_asked (sym reads.reads.phase ∙ e)))
       ∙ (λ i. sym reads.reads.asked i + (none_more (count is_quiet_wait (since_dial es)) ∙ ap (λ (b : Bool). count is_quiet_wait (since_dial es) + one b) (sym is.no_wait)) i))

@@ -5,7 +5,8 @@ use Rattle.std.proofs.lemmas.Bool.{cases_Bool, le-leb, lt-leb, leb-true, leb-fal
 use Rattle.doip_frame.specs.Frame.{stream_of}
 use Rattle.flash_plan.specs.declared.unit.LinkRules.{LinkRules}
 use Rattle.flash_plan.specs.declared.unit.UnitPlan.{UnitPlan}
-use Rattle.run_model.specs.Link.{Link, Phase, Down, Fresh, Waits, is_down, is_fresh, is_waiting, is_open, drop_link, quiet_link, unanswered, polled_quiet}
+use Rattle.run_model.specs.Link.{Link, Phase, is_down, is_dialed, is_asked, is_open, drop_link, quiet_link, unanswered, polled_quiet}
+use Rattle.run_model.specs.Link as phase
 use Rattle.bay_core.specs.LinkLaws.{phase_for}
 use Rattle.bay_core.specs.declared.event.Event.{Event}
 use Rattle.bay_core.specs.declared.event.Event.TheVariants.{Tended}
@@ -30,19 +31,19 @@ silent : IsSilent (Tended (Polled Quiet))
 silent = record { no_dial = refl; none = refl; bytes = refl }
 
 -- the phase behind it
-quiet_phase : (d : Option Bool) (w : List Event) (p : Phase) → IsOpened d w p → phase_in d (w ++ (Tended (Polled Quiet) ∷ [])) ≡ (if nat_le 1000 (count is_quiet_wait w + 1) then Down else p)
+quiet_phase : (d : Option Bool) (w : List Event) (p : Phase) → IsOpened d w p → phase_in d (w ++ (Tended (Polled Quiet) ∷ [])) ≡ (if nat_le 1000 (count is_quiet_wait w + 1) then phase.Down else p)
 quiet_phase d w p o = ap (λ (x : Option Bool). phase_in x (w ++ (Tended (Polled Quiet) ∷ []))) o.live.dialed
-    ∙ (λ i. if ended i then Down else if (has_same is_ask (Tended (Polled Quiet)) refl w ∙ o.asked) i then (ap (λ (bs : List ℕ). phase_for (answer_in (stream_of bs).frames)) (since_bytes w (Tended (Polled Quiet)) silent) ∙ o.verdict) i else Fresh)
+    ∙ (λ i. if ended i then phase.Down else if (has_same is_ask (Tended (Polled Quiet)) refl w ∙ o.asked) i then (ap (λ (bs : List ℕ). phase_for (answer_in (stream_of bs).frames)) (since_bytes w (Tended (Polled Quiet)) silent) ∙ o.verdict) i else phase.Dialed)
   where
     ended : is_ended (w ++ (Tended (Polled Quiet) ∷ [])) ≡ nat_le 1000 (count is_quiet_wait w + 1)
     ended = ended_more w (Tended (Polled Quiet)) silent refl ∙ (λ i. o.live.called i || o.live.whole i || nat_le 1000 (count_more is_quiet_wait (Tended (Polled Quiet)) w i))
 
-module _ (rules : LinkRules) (P : List UnitPlan) (es : List Event) (l : Link) (waits : l.phase ≡ Waits) (s : Stands rules P es l) where
+module _ (rules : LinkRules) (P : List UnitPlan) (es : List Event) (l : Link) (waits : l.phase ≡ phase.Asked) (s : Stands rules P es l) where
   opened : IsOpened (last_dial es) (since_dial es) l.phase
   opened = opened_of (last_dial es) (since_dial es) l.phase (sym s.link.phase) (ap is_open waits)
 
   test : unanswered (quiet_link l) ≡ nat_le 1000 (count is_quiet_wait (since_dial es) + 1)
-  test = ap (λ (p : Phase). is_waiting p && nat_le (l.asked + 1000) (l.ticks + 1)) waits
+  test = ap (λ (p : Phase). is_asked p && nat_le (l.asked + 1000) (l.ticks + 1)) waits
       ∙ ap (λ (n : ℕ). nat_le (l.asked + 1000) (n + 1)) (s.waits waits)
       ∙ shift l.asked (count is_quiet_wait (since_dial es))
 
@@ -50,7 +51,7 @@ module _ (rules : LinkRules) (P : List UnitPlan) (es : List Event) (l : Link) (w
   behind true late = stands rules P es (Tended (Polled Quiet)) refl refl l (drop_link (quiet_link l)) s (record {
     got = s.link.bytes ∙ sym (all_bytes (since_dial es) (Tended (Polled Quiet)) silent);
     rest = s.link.rest ∙ ap (λ (bs : List ℕ). (stream_of bs).rest) (sym (all_bytes (since_dial es) (Tended (Polled Quiet)) silent));
-    phase = sym (quiet_phase (last_dial es) (since_dial es) l.phase opened ∙ ap (λ (b : Bool). if b then Down else l.phase) late);
+    phase = sym (quiet_phase (last_dial es) (since_dial es) l.phase opened ∙ ap (λ (b : Bool). if b then phase.Down else l.phase) late);
     ticks = refl;
     asked = asked_same rules P es (Tended (Polled Quiet)) silent l refl s.link;
     losses = ap (λ (b : Bool). l.losses + one b) (sym late);
@@ -58,14 +59,14 @@ module _ (rules : LinkRules) (P : List UnitPlan) (es : List Event) (l : Link) (w
     owes = s.link.owes ∙ sym (owed_same (since_dial es) (Tended (Polled Quiet)) silent refl);
     unasked = unasked_same rules P es (Tended (Polled Quiet)) silent refl s.link;
     words = untaken_words rules P es (Tended (Polled Quiet)) silent l (drop_link (quiet_link l)) (λ a. refl) s.link refl;
-  }) (λ e. absurd (false≢true (ap is_fresh e))) (λ e. absurd (false≢true (ap is_waiting e)))
+  }) (λ e. absurd (false≢true (ap is_dialed e))) (λ e. absurd (false≢true (ap is_asked e)))
     where
       lost_one : (n : ℕ) → (n + 1) + 0 ≡ n + 1
       lost_one n = omega arith
   behind false late = stands rules P es (Tended (Polled Quiet)) refl refl l (quiet_link l) s (record {
     got = s.link.bytes ∙ sym (all_bytes (since_dial es) (Tended (Polled Quiet)) silent);
     rest = s.link.rest ∙ ap (λ (bs : List ℕ). (stream_of bs).rest) (sym (all_bytes (since_dial es) (Tended (Polled Quiet)) silent));
-    phase = sym (quiet_phase (last_dial es) (since_dial es) l.phase opened ∙ ap (λ (b : Bool). if b then Down else l.phase) late);
+    phase = sym (quiet_phase (last_dial es) (since_dial es) l.phase opened ∙ ap (λ (b : Bool). if b then phase.Down else l.phase) late);
     ticks = refl;
     asked = asked_same rules P es (Tended (Polled Quiet)) silent l refl s.link;
     losses = none_more l.losses ∙ ap (λ (b : Bool). l.losses + one b) (sym late);
@@ -73,7 +74,7 @@ module _ (rules : LinkRules) (P : List UnitPlan) (es : List Event) (l : Link) (w
     owes = s.link.owes ∙ sym (owed_same (since_dial es) (Tended (Polled Quiet)) silent refl);
     unasked = unasked_same rules P es (Tended (Polled Quiet)) silent refl s.link;
     words = untaken_words rules P es (Tended (Polled Quiet)) silent l (quiet_link l) (λ a. refl) s.link refl;
-  }) (λ e. absurd (false≢true (ap is_fresh (sym waits ∙ e))))
+  }) (λ e. absurd (false≢true (ap is_dialed (sym waits ∙ e))))
       (λ e. ap (λ (n : ℕ). n + 1) (s.waits waits) ∙ one_more l.asked (count is_quiet_wait (since_dial es)))
     where
       one_more : (a q : ℕ) → (a + q) + 1 ≡ a + (q + 1)

@@ -9,8 +9,9 @@ use Rattle.doip_frame.specs.declared.frame.Frame.TheVariants.{HeaderNack, Activa
 use Rattle.run_model.proofs.Pieces.{kept}
 use Rattle.run_model.proofs.Sees.{stays}
 use Rattle.run_model.proofs.Words.{words_more, from_more}
-use Rattle.run_model.specs.Link.{Link, Phase, Down, Waits, Up, Denied, is_open, is_waiting, is_known, drop_link, keep_word, see, see_frame, see_all, see_end}
-use Rattle.run_model.specs.Ways.{Spoken, Reply, Unheard, words_from, word_in, words_in}
+use Rattle.run_model.specs.Link.{Link, Phase, is_open, is_asked, is_known, drop_link, keep_message, see, see_frame, see_all, see_end}
+use Rattle.run_model.specs.Link as phase
+use Rattle.run_model.specs.Ways.{UnitMessage, Reply, Nacked, messages_from, message_in, messages_in}
 use Rattle.bay_core.specs.LinkLaws.{refuses_header, phase_for}
 use Rattle.link_law.specs.Happened.{one}
 use Rattle.link_law.specs.Looked.{before_refusal, before_answer, answer_in, is_denial, looked_at, checks_in}
@@ -25,8 +26,8 @@ pub record Reads (tester : ℕ) (units : List ℕ) (l m : Link) (fs : List Frame
   pub got : m.got ≡ l.got
   pub rest : m.rest ≡ l.rest
   pub owes : m.owes ≡ (l.owes || nat_lt 0 (checks_in fs))
-  pub words : (a : ℕ) → is_known units a ≡ true → words_from a m.inbox ≡ words_from a l.inbox ++ words_in tester a fs
-  pub others : (a : ℕ) → is_known units a ≡ false → words_from a m.inbox ≡ words_from a l.inbox
+  pub words : (a : ℕ) → is_known units a ≡ true → messages_from a m.inbox ≡ messages_from a l.inbox ++ messages_in tester a fs
+  pub others : (a : ℕ) → is_known units a ≡ false → messages_from a m.inbox ≡ messages_from a l.inbox
 
 or_false : (a : Bool) → a ≡ (a || false)
 or_false true = refl
@@ -60,12 +61,12 @@ module _ (tester : ℕ) (units : List ℕ) where
     got = refl;
     rest = refl;
     owes = or_false l.owes;
-    words = λ a known. sym (append-nil (words_from a l.inbox));
+    words = λ a known. sym (append-nil (messages_from a l.inbox));
     others = λ a unknown. refl;
   }
 
   -- frames that change nothing at all
-  nothing : (f : Frame) (l : Link) → checks_in (f ∷ []) ≡ 0 → ((a : ℕ) → word_in tester a f ≡ []) → Reads tester units l l (f ∷ []) l.phase false
+  nothing : (f : Frame) (l : Link) → checks_in (f ∷ []) ≡ 0 → ((a : ℕ) → message_in tester a f ≡ []) → Reads tester units l l (f ∷ []) l.phase false
   nothing f l no_check no_word = record {
     phase = refl;
     losses = add_none l.losses;
@@ -74,12 +75,12 @@ module _ (tester : ℕ) (units : List ℕ) where
     got = refl;
     rest = refl;
     owes = or_false l.owes ∙ ap (λ (n : ℕ). l.owes || nat_lt 0 n) (sym no_check);
-    words = λ a known. sym (append-nil (words_from a l.inbox)) ∙ ap (λ (ws : List Spoken). words_from a l.inbox ++ (ws ++ [])) (sym (no_word a));
+    words = λ a known. sym (append-nil (messages_from a l.inbox)) ∙ ap (λ (ws : List UnitMessage). messages_from a l.inbox ++ (ws ++ [])) (sym (no_word a));
     others = λ a unknown. refl;
   }
 
   -- a message
-  module _ (source target : ℕ) (word : Spoken) (l : Link) where
+  module _ (source target : ℕ) (word : UnitMessage) (l : Link) where
     record WordKeeps (m : Link) : Type 0 where
       phase : m.phase ≡ l.phase
       losses : m.losses ≡ l.losses
@@ -89,27 +90,27 @@ module _ (tester : ℕ) (units : List ℕ) where
       rest : m.rest ≡ l.rest
       owes : m.owes ≡ l.owes
 
-    keeps : (b : Bool) → WordKeeps (keep_word b source word l)
+    keeps : (b : Bool) → WordKeeps (keep_message b source word l)
     keeps true = record { phase = refl; losses = refl; ticks = refl; asked = refl; got = refl; rest = refl; owes = refl }
     keeps false = record { phase = refl; losses = refl; ticks = refl; asked = refl; got = refl; rest = refl; owes = refl }
 
     -- a message of an address of no unit goes to no inbox
-    other_word : (a : ℕ) → is_known units a ≡ false → words_from a (keep_word (target == tester && is_known units source) source word l).inbox ≡ words_from a l.inbox
+    other_word : (a : ℕ) → is_known units a ≡ false → messages_from a (keep_message (target == tester && is_known units source) source word l).inbox ≡ messages_from a l.inbox
     other_word a unknown = elim (cases_Bool (target == tester)) [
       | inr e ↦ rw e refl
       | inl e ↦ elim (cases_Bool (is_known units source)) [
         | inr h ↦ rw (e, h) refl
         | inl h ↦ elim (cases_Bool (source == a)) [
           | inl f ↦ absurd (both_ways _ unknown (ap (is_known units) (sym (eqb-true source a f)) ∙ h))
-          | inr f ↦ rw (e, h) (from_more a l.inbox ((source, word) ∷ []) ∙ rw f (append-nil (words_from a l.inbox)))
+          | inr f ↦ rw (e, h) (from_more a l.inbox ((source, word) ∷ []) ∙ rw f (append-nil (messages_from a l.inbox)))
         ]
       ]
     ]
 
-    message : (f : Frame) → checks_in (f ∷ []) ≡ 0 → ((a : ℕ) → word_in tester a f ≡ (if target == tester && source == a then word ∷ [] else []))
-        → Reads tester units l (keep_word (target == tester && is_known units source) source word l) (f ∷ []) l.phase false
+    message : (f : Frame) → checks_in (f ∷ []) ≡ 0 → ((a : ℕ) → message_in tester a f ≡ (if target == tester && source == a then word ∷ [] else []))
+        → Reads tester units l (keep_message (target == tester && is_known units source) source word l) (f ∷ []) l.phase false
     message f no_check is =
-        let k : WordKeeps (keep_word (target == tester && is_known units source) source word l) = keeps (target == tester && is_known units source) in
+        let k : WordKeeps (keep_message (target == tester && is_known units source) source word l) = keeps (target == tester && is_known units source) in
         record {
           phase = k.phase;
           losses = k.losses ∙ add_none l.losses;
@@ -118,7 +119,7 @@ module _ (tester : ℕ) (units : List ℕ) where
           got = k.got;
           rest = k.rest;
           owes = k.owes ∙ or_false l.owes ∙ ap (λ (n : ℕ). l.owes || nat_lt 0 n) (sym no_check);
-          words = λ a known. kept tester units a known source target word l ∙ ap (λ (ws : List Spoken). words_from a l.inbox ++ ws) (sym (append-nil (word_in tester a f) ∙ is a));
+          words = λ a known. kept tester units a known source target word l ∙ ap (λ (ws : List UnitMessage). messages_from a l.inbox ++ ws) (sym (append-nil (message_in tester a f) ∙ is a));
           others = λ a unknown. other_word a unknown;
         }
 
@@ -135,7 +136,7 @@ module _ (tester : ℕ) (units : List ℕ) where
     got = refl;
     rest = refl;
     owes = or_true l.owes;
-    words = λ a known. sym (append-nil (words_from a l.inbox));
+    words = λ a known. sym (append-nil (messages_from a l.inbox));
     others = λ a unknown. refl;
   }
 
@@ -149,8 +150,8 @@ module _ (tester : ℕ) (units : List ℕ) where
     got = y.got ∙ x.got;
     rest = y.rest ∙ x.rest;
     owes = y.owes ∙ ap (λ (b : Bool). b || nat_lt 0 (checks_in gs)) x.owes ∙ or_more l.owes (checks_in fs) (checks_in gs) ∙ ap (λ (k : ℕ). l.owes || nat_lt 0 k) (sym (checks_more fs gs));
-    words = λ a known. y.words a known ∙ ap (λ (ws : List Spoken). ws ++ words_in tester a gs) (x.words a known) ∙ append_assoc (words_from a l.inbox) (words_in tester a fs) (words_in tester a gs)
-        ∙ ap (λ (ws : List Spoken). words_from a l.inbox ++ ws) (sym (words_more tester a fs gs));
+    words = λ a known. y.words a known ∙ ap (λ (ws : List UnitMessage). ws ++ messages_in tester a gs) (x.words a known) ∙ append_assoc (messages_from a l.inbox) (messages_in tester a fs) (messages_in tester a gs)
+        ∙ ap (λ (ws : List UnitMessage). messages_from a l.inbox ++ ws) (sym (words_more tester a fs gs));
     others = λ a unknown. y.others a unknown ∙ x.others a unknown;
   }
 
@@ -165,7 +166,7 @@ module _ (tester : ℕ) (units : List ℕ) where
       subst (λ (m : Link). Reads tester units l (see_all tester units fs m) (f ∷ gs) q lost) (sym (opened f l is))
       (then_reads l (see_frame tester units f l) (see_all tester units fs (see_frame tester units f l)) (f ∷ []) gs l.phase q lost one (more (see_frame tester units f l) (one.phase ∙ here)))
 
-  dropped : (l : Link) → Reads tester units l (drop_link l) [] Down true
+  dropped : (l : Link) → Reads tester units l (drop_link l) [] phase.Down true
   dropped l = record {
     phase = refl;
     losses = refl;
@@ -174,45 +175,45 @@ module _ (tester : ℕ) (units : List ℕ) where
     got = refl;
     rest = refl;
     owes = or_false l.owes;
-    words = λ a known. sym (append-nil (words_from a l.inbox));
+    words = λ a known. sym (append-nil (messages_from a l.inbox));
     others = λ a unknown. refl;
   }
 
-  refused : (code : ℕ) (fs : List Frame) (l : Link) → is_open l.phase ≡ true → Reads tester units l (see_all tester units (HeaderNack code ∷ fs) l) [] Down true
+  refused : (code : ℕ) (fs : List Frame) (l : Link) → is_open l.phase ≡ true → Reads tester units l (see_all tester units (HeaderNack code ∷ fs) l) [] phase.Down true
   refused code fs l is =
-      subst (λ (m : Link). Reads tester units l m [] Down true) (sym (ap (see_all tester units fs) (opened (HeaderNack code) l is) ∙ stays tester units fs (drop_link l) refl)) (dropped l)
+      subst (λ (m : Link). Reads tester units l m [] phase.Down true) (sym (ap (see_all tester units fs) (opened (HeaderNack code) l is) ∙ stays tester units fs (drop_link l) refl)) (dropped l)
 
   abbrev up_phase : Bool → Phase
-  up_phase lost = if lost then Down else Up
+  up_phase lost = if lost then phase.Down else phase.Up
 
-  pub up_reads : (fs : List Frame) (l : Link) → l.phase ≡ Up → Reads tester units l (see_all tester units fs l) (before_refusal fs) (up_phase (refuses_header fs)) (refuses_header fs)
+  pub up_reads : (fs : List Frame) (l : Link) → l.phase ≡ phase.Up → Reads tester units l (see_all tester units fs l) (before_refusal fs) (up_phase (refuses_header fs)) (refuses_header fs)
   up_reads [] l up = subst (λ (p : Phase). Reads tester units l l [] p false) up (none_read l)
   up_reads (HeaderNack code ∷ fs) l up = refused code fs l (ap is_open up)
-  up_reads (Activated t entity code oem ∷ fs) l up = next (Activated t entity code oem) fs (before_refusal fs) l Up _ (refuses_header fs) (ap is_open up) up
-      (subst (λ (m : Link). Reads tester units l m (Activated t entity code oem ∷ []) l.phase false) (sym (ap (λ (b : Bool). if b then record l { phase = if code == 16 then Up else Denied code } else l) (ap is_waiting up))) (nothing (Activated t entity code oem) l refl (λ a. refl))) (up_reads fs)
-  up_reads (AliveAsk ∷ fs) l up = next AliveAsk fs (before_refusal fs) l Up _ (refuses_header fs) (ap is_open up) up (alive_ask l) (up_reads fs)
-  up_reads (Message source target body ∷ fs) l up = next (Message source target body) fs (before_refusal fs) l Up _ (refuses_header fs) (ap is_open up) up
+  up_reads (Activated t entity code oem ∷ fs) l up = next (Activated t entity code oem) fs (before_refusal fs) l phase.Up _ (refuses_header fs) (ap is_open up) up
+      (subst (λ (m : Link). Reads tester units l m (Activated t entity code oem ∷ []) l.phase false) (sym (ap (λ (b : Bool). if b then record l { phase = if code == 16 then phase.Up else phase.Refused code } else l) (ap is_asked up))) (nothing (Activated t entity code oem) l refl (λ a. refl))) (up_reads fs)
+  up_reads (AliveAsk ∷ fs) l up = next AliveAsk fs (before_refusal fs) l phase.Up _ (refuses_header fs) (ap is_open up) up (alive_ask l) (up_reads fs)
+  up_reads (Message source target body ∷ fs) l up = next (Message source target body) fs (before_refusal fs) l phase.Up _ (refuses_header fs) (ap is_open up) up
       (message source target (Reply body) l (Message source target body) refl (λ a. refl)) (up_reads fs)
-  up_reads (Nack source target code old ∷ fs) l up = next (Nack source target code old) fs (before_refusal fs) l Up _ (refuses_header fs) (ap is_open up) up
-      (message source target (Unheard code) l (Nack source target code old) refl (λ a. refl)) (up_reads fs)
-  up_reads (Activate source kind oem ∷ fs) l up = next (Activate source kind oem) fs (before_refusal fs) l Up _ (refuses_header fs) (ap is_open up) up (nothing (Activate source kind oem) l refl (λ a. refl)) (up_reads fs)
-  up_reads (AliveSay source ∷ fs) l up = next (AliveSay source) fs (before_refusal fs) l Up _ (refuses_header fs) (ap is_open up) up (nothing (AliveSay source) l refl (λ a. refl)) (up_reads fs)
-  up_reads (Ack source target code old ∷ fs) l up = next (Ack source target code old) fs (before_refusal fs) l Up _ (refuses_header fs) (ap is_open up) up (nothing (Ack source target code old) l refl (λ a. refl)) (up_reads fs)
-  up_reads (Other kind payload ∷ fs) l up = next (Other kind payload) fs (before_refusal fs) l Up _ (refuses_header fs) (ap is_open up) up (nothing (Other kind payload) l refl (λ a. refl)) (up_reads fs)
+  up_reads (Nack source target code old ∷ fs) l up = next (Nack source target code old) fs (before_refusal fs) l phase.Up _ (refuses_header fs) (ap is_open up) up
+      (message source target (Nacked code) l (Nack source target code old) refl (λ a. refl)) (up_reads fs)
+  up_reads (Activate source kind oem ∷ fs) l up = next (Activate source kind oem) fs (before_refusal fs) l phase.Up _ (refuses_header fs) (ap is_open up) up (nothing (Activate source kind oem) l refl (λ a. refl)) (up_reads fs)
+  up_reads (AliveSay source ∷ fs) l up = next (AliveSay source) fs (before_refusal fs) l phase.Up _ (refuses_header fs) (ap is_open up) up (nothing (AliveSay source) l refl (λ a. refl)) (up_reads fs)
+  up_reads (Ack source target code old ∷ fs) l up = next (Ack source target code old) fs (before_refusal fs) l phase.Up _ (refuses_header fs) (ap is_open up) up (nothing (Ack source target code old) l refl (λ a. refl)) (up_reads fs)
+  up_reads (Other kind payload ∷ fs) l up = next (Other kind payload) fs (before_refusal fs) l phase.Up _ (refuses_header fs) (ap is_open up) up (nothing (Other kind payload) l refl (λ a. refl)) (up_reads fs)
 
   -- ------ while it is awaited
   abbrev pub lost_by : List Frame → Bool
   lost_by fs = not (is_denial (answer_in fs)) && refuses_header fs
 
   abbrev pub phase_by : List Frame → Phase
-  phase_by fs = if lost_by fs then Down else phase_for (answer_in fs)
+  phase_by fs = if lost_by fs then phase.Down else phase_for (answer_in fs)
 
   -- an answer of this code
-  answered : (t entity code : ℕ) (oem : Option ℕ) (l : Link) → l.phase ≡ Waits → see tester units (Activated t entity code oem) l ≡ record l { phase = if code == 16 then Up else Denied code }
+  answered : (t entity code : ℕ) (oem : Option ℕ) (l : Link) → l.phase ≡ phase.Asked → see tester units (Activated t entity code oem) l ≡ record l { phase = if code == 16 then phase.Up else phase.Refused code }
   answered t entity code oem l waits =
-      opened (Activated t entity code oem) l (ap is_open waits) ∙ ap (λ (b : Bool). if b then record l { phase = if code == 16 then Up else Denied code } else l) (ap is_waiting waits)
+      opened (Activated t entity code oem) l (ap is_open waits) ∙ ap (λ (b : Bool). if b then record l { phase = if code == 16 then phase.Up else phase.Refused code } else l) (ap is_asked waits)
 
-  in_phase : (l : Link) (p : Phase) (fs : List Frame) → checks_in fs ≡ 0 → ((a : ℕ) → words_in tester a fs ≡ []) → Reads tester units l (record l { phase = p }) fs p false
+  in_phase : (l : Link) (p : Phase) (fs : List Frame) → checks_in fs ≡ 0 → ((a : ℕ) → messages_in tester a fs ≡ []) → Reads tester units l (record l { phase = p }) fs p false
   in_phase l p fs no_check no_word = record {
     phase = refl;
     losses = add_none l.losses;
@@ -221,51 +222,51 @@ module _ (tester : ℕ) (units : List ℕ) where
     got = refl;
     rest = refl;
     owes = or_false l.owes ∙ ap (λ (n : ℕ). l.owes || nat_lt 0 n) (sym no_check);
-    words = λ a known. sym (append-nil (words_from a l.inbox)) ∙ ap (λ (ws : List Spoken). words_from a l.inbox ++ ws) (sym (no_word a));
+    words = λ a known. sym (append-nil (messages_from a l.inbox)) ∙ ap (λ (ws : List UnitMessage). messages_from a l.inbox ++ ws) (sym (no_word a));
     others = λ a unknown. refl;
   }
 
   -- what an answer that accepts, or does not, leaves of the frames behind it
   abbrev By : Link → Link → Frame → List Frame → ℕ → Bool → Type 0
-  By l m f fs code ten = Reads tester units l m (if not ten then [] else f ∷ before_refusal fs) (if not (not ten) && refuses_header fs then Down else (if ten then Up else Denied code)) (not (not ten) && refuses_header fs)
+  By l m f fs code ten = Reads tester units l m (if not ten then [] else f ∷ before_refusal fs) (if not (not ten) && refuses_header fs then phase.Down else (if ten then phase.Up else phase.Refused code)) (not (not ten) && refuses_header fs)
 
-  accepted : (t entity code : ℕ) (oem : Option ℕ) (fs : List Frame) (l : Link) → l.phase ≡ Waits → (code == 16) ≡ true
+  accepted : (t entity code : ℕ) (oem : Option ℕ) (fs : List Frame) (l : Link) → l.phase ≡ phase.Asked → (code == 16) ≡ true
       → Reads tester units l (see_all tester units (Activated t entity code oem ∷ fs) l) (looked_at (Activated t entity code oem ∷ fs)) (phase_by (Activated t entity code oem ∷ fs)) (lost_by (Activated t entity code oem ∷ fs))
   accepted t entity code oem fs l waits ten =
-      let is : see tester units (Activated t entity code oem) l ≡ record l { phase = Up } = answered t entity code oem l waits ∙ ap (λ (b : Bool). record l { phase = if b then Up else Denied code }) ten in
-      let both : Reads tester units l (see_all tester units fs (record l { phase = Up })) (Activated t entity code oem ∷ before_refusal fs) (up_phase (refuses_header fs)) (refuses_header fs) =
-      then_reads l (record l { phase = Up }) (see_all tester units fs (record l { phase = Up })) (Activated t entity code oem ∷ []) (before_refusal fs) Up (up_phase (refuses_header fs)) (refuses_header fs)
-      (in_phase l Up (Activated t entity code oem ∷ []) refl (λ a. refl)) (up_reads fs (record l { phase = Up }) refl) in
+      let is : see tester units (Activated t entity code oem) l ≡ record l { phase = phase.Up } = answered t entity code oem l waits ∙ ap (λ (b : Bool). record l { phase = if b then phase.Up else phase.Refused code }) ten in
+      let both : Reads tester units l (see_all tester units fs (record l { phase = phase.Up })) (Activated t entity code oem ∷ before_refusal fs) (up_phase (refuses_header fs)) (refuses_header fs) =
+      then_reads l (record l { phase = phase.Up }) (see_all tester units fs (record l { phase = phase.Up })) (Activated t entity code oem ∷ []) (before_refusal fs) phase.Up (up_phase (refuses_header fs)) (refuses_header fs)
+      (in_phase l phase.Up (Activated t entity code oem ∷ []) refl (λ a. refl)) (up_reads fs (record l { phase = phase.Up }) refl) in
       subst (By l (see_all tester units (Activated t entity code oem ∷ fs) l) (Activated t entity code oem) fs code) (sym ten)
       (subst (λ (m : Link). Reads tester units l (see_all tester units fs m) (Activated t entity code oem ∷ before_refusal fs) (up_phase (refuses_header fs)) (refuses_header fs)) (sym is) both)
 
-  denied : (t entity code : ℕ) (oem : Option ℕ) (fs : List Frame) (l : Link) → l.phase ≡ Waits → (code == 16) ≡ false
+  denied : (t entity code : ℕ) (oem : Option ℕ) (fs : List Frame) (l : Link) → l.phase ≡ phase.Asked → (code == 16) ≡ false
       → Reads tester units l (see_all tester units (Activated t entity code oem ∷ fs) l) (looked_at (Activated t entity code oem ∷ fs)) (phase_by (Activated t entity code oem ∷ fs)) (lost_by (Activated t entity code oem ∷ fs))
   denied t entity code oem fs l waits other =
-      let is : see tester units (Activated t entity code oem) l ≡ record l { phase = Denied code } = answered t entity code oem l waits ∙ ap (λ (b : Bool). record l { phase = if b then Up else Denied code }) other in
-      let whole : see_all tester units (Activated t entity code oem ∷ fs) l ≡ record l { phase = Denied code } = ap (see_all tester units fs) is ∙ stays tester units fs (record l { phase = Denied code }) refl in
+      let is : see tester units (Activated t entity code oem) l ≡ record l { phase = phase.Refused code } = answered t entity code oem l waits ∙ ap (λ (b : Bool). record l { phase = if b then phase.Up else phase.Refused code }) other in
+      let whole : see_all tester units (Activated t entity code oem ∷ fs) l ≡ record l { phase = phase.Refused code } = ap (see_all tester units fs) is ∙ stays tester units fs (record l { phase = phase.Refused code }) refl in
       subst (By l (see_all tester units (Activated t entity code oem ∷ fs) l) (Activated t entity code oem) fs code) (sym other)
-      (subst (λ (m : Link). Reads tester units l m [] (Denied code) false) (sym whole) (in_phase l (Denied code) [] refl (λ a. refl)))
+      (subst (λ (m : Link). Reads tester units l m [] (phase.Refused code) false) (sym whole) (in_phase l (phase.Refused code) [] refl (λ a. refl)))
 
   -- a plain frame in front
   cons_either : (b : Bool) (f : Frame) (x y : List Frame) → f ∷ (if b then x else y) ≡ (if b then f ∷ x else f ∷ y)
   cons_either true f x y = refl
   cons_either false f x y = refl
 
-  waits_next : (f : Frame) (fs : List Frame) (l : Link) → l.phase ≡ Waits → Reads tester units l (see_frame tester units f l) (f ∷ []) l.phase false
-      → ((m : Link) → m.phase ≡ Waits → Reads tester units m (see_all tester units fs m) (looked_at fs) (phase_by fs) (lost_by fs))
+  waits_next : (f : Frame) (fs : List Frame) (l : Link) → l.phase ≡ phase.Asked → Reads tester units l (see_frame tester units f l) (f ∷ []) l.phase false
+      → ((m : Link) → m.phase ≡ phase.Asked → Reads tester units m (see_all tester units fs m) (looked_at fs) (phase_by fs) (lost_by fs))
       → Reads tester units l (see_all tester units (f ∷ fs) l) (if is_denial (answer_in fs) then f ∷ before_answer fs else f ∷ before_refusal fs) (phase_by fs) (lost_by fs)
   waits_next f fs l waits one more =
       subst (λ (gs : List Frame). Reads tester units l (see_all tester units (f ∷ fs) l) gs (phase_by fs) (lost_by fs)) (cons_either (is_denial (answer_in fs)) f (before_answer fs) (before_refusal fs))
-      (next f fs (looked_at fs) l Waits (phase_by fs) (lost_by fs) (ap is_open waits) waits one more)
+      (next f fs (looked_at fs) l phase.Asked (phase_by fs) (lost_by fs) (ap is_open waits) waits one more)
 
-  pub waits_reads : (fs : List Frame) (l : Link) → l.phase ≡ Waits → Reads tester units l (see_all tester units fs l) (looked_at fs) (phase_by fs) (lost_by fs)
+  pub waits_reads : (fs : List Frame) (l : Link) → l.phase ≡ phase.Asked → Reads tester units l (see_all tester units fs l) (looked_at fs) (phase_by fs) (lost_by fs)
   waits_reads [] l waits = subst (λ (p : Phase). Reads tester units l l [] p false) waits (none_read l)
   waits_reads (HeaderNack code ∷ fs) l waits = refused code fs l (ap is_open waits)
   waits_reads (Activated t entity code oem ∷ fs) l waits = elim (cases_Bool (code == 16)) [ inl e ↦ accepted t entity code oem fs l waits e | inr e ↦ denied t entity code oem fs l waits e ]
   waits_reads (AliveAsk ∷ fs) l waits = waits_next AliveAsk fs l waits (alive_ask l) (waits_reads fs)
   waits_reads (Message source target body ∷ fs) l waits = waits_next (Message source target body) fs l waits (message source target (Reply body) l (Message source target body) refl (λ a. refl)) (waits_reads fs)
-  waits_reads (Nack source target code old ∷ fs) l waits = waits_next (Nack source target code old) fs l waits (message source target (Unheard code) l (Nack source target code old) refl (λ a. refl)) (waits_reads fs)
+  waits_reads (Nack source target code old ∷ fs) l waits = waits_next (Nack source target code old) fs l waits (message source target (Nacked code) l (Nack source target code old) refl (λ a. refl)) (waits_reads fs)
   waits_reads (Activate source kind oem ∷ fs) l waits = waits_next (Activate source kind oem) fs l waits (nothing (Activate source kind oem) l refl (λ a. refl)) (waits_reads fs)
   waits_reads (AliveSay source ∷ fs) l waits = waits_next (AliveSay source) fs l waits (nothing (AliveSay source) l refl (λ a. refl)) (waits_reads fs)
   waits_reads (Ack source target code old ∷ fs) l waits = waits_next (Ack source target code old) fs l waits (nothing (Ack source target code old) l refl (λ a. refl)) (waits_reads fs)
@@ -278,11 +279,11 @@ module _ (tester : ℕ) (units : List ℕ) where
       let stay : see_end (Some bad) m ≡ m = ap (λ (b : Bool). if b then drop_link m else m) (ap is_open r.phase ∙ shut) in
       subst (λ (x : Link). Reads tester units l x fs p lost) (sym stay) r
 
-  pub end_open : (bad : Option Bad) (l m : Link) (fs : List Frame) (p : Phase) → is_open p ≡ true → Reads tester units l m fs p false → Reads tester units l (see_end bad m) fs (if is_some bad then Down else p) (is_some bad)
+  pub end_open : (bad : Option Bad) (l m : Link) (fs : List Frame) (p : Phase) → is_open p ≡ true → Reads tester units l m fs p false → Reads tester units l (see_end bad m) fs (if is_some bad then phase.Down else p) (is_some bad)
   end_open None l m fs p open_now r = r
   end_open (Some bad) l m fs p open_now r =
       let gone : see_end (Some bad) m ≡ drop_link m = ap (λ (b : Bool). if b then drop_link m else m) (ap is_open r.phase ∙ open_now) in
-      subst (λ (x : Link). Reads tester units l x fs Down true) (sym gone) (record {
+      subst (λ (x : Link). Reads tester units l x fs phase.Down true) (sym gone) (record {
         phase = refl;
         losses = ap (λ (n : ℕ). n + 1) (r.losses ∙ sym (add_none l.losses));
         ticks = r.ticks;

@@ -6,13 +6,14 @@ use Rattle.std.proofs.lemmas.List.{append-nil}
 use Rattle.doip_frame.specs.Frame.{stream_of}
 use Rattle.flash_plan.specs.declared.unit.LinkRules.{LinkRules}
 use Rattle.flash_plan.specs.declared.unit.UnitPlan.{UnitPlan}
-use Rattle.run_model.specs.Link.{Link, Down, Fresh, Waits, is_down, is_fresh, is_waiting}
-use Rattle.run_model.specs.Ways.{words_from}
+use Rattle.run_model.specs.Link.{Link, is_down, is_dialed, is_asked}
+use Rattle.run_model.specs.Link as phase
+use Rattle.run_model.specs.Ways.{messages_from}
 use Rattle.bay_core.specs.LinkLaws.{phase_for}
 use Rattle.bay_core.specs.declared.event.Event.{Event}
 use Rattle.link_law.specs.Happened.{one, has, count, to_last}
 use Rattle.link_law.specs.Kinds.{event_bytes, bytes_in, is_dial, is_ask, is_say, is_quiet, is_quiet_wait, is_failed_call, dial_of}
-use Rattle.link_law.specs.Looked.{answer_in, is_broken, checks_of, words_of}
+use Rattle.link_law.specs.Looked.{answer_in, is_broken, checks_of, messages_of}
 use Rattle.link_law.specs.Follows.{last_dial, since_dial, is_ended, is_loss, phase_in, is_owed, takes, taken, IsLinkOf}
 use Rattle.link_law.proofs.Lists.{has_more, has_same, count_same, to_it, to_same, bytes_more, or_true, owed_more, brings}
 use Rattle.link_law.proofs.Words.{IsKept, untaken}
@@ -22,12 +23,12 @@ pub none_more : (n : ℕ) → n ≡ n + 0
 none_more n = omega arith
 
 -- the phase behind a call that failed
-pub phase_failed : (d : Option Bool) (w : List Event) (x : Event) → is_failed_call x ≡ true → phase_in d (w ++ (x ∷ [])) ≡ Down
+pub phase_failed : (d : Option Bool) (w : List Event) (x : Event) → is_failed_call x ≡ true → phase_in d (w ++ (x ∷ [])) ≡ phase.Down
 phase_failed None w x failed = refl
 phase_failed (Some true) w x failed = refl
 phase_failed (Some false) w x failed =
-    ap (λ (b : Bool). if b || is_broken (stream_of (bytes_in (w ++ (x ∷ [])))) || nat_le 1000 (count is_quiet_wait (w ++ (x ∷ []))) then Down
-    else if has is_ask (w ++ (x ∷ [])) then phase_for (answer_in (stream_of (bytes_in (w ++ (x ∷ [])))).frames) else Fresh)
+    ap (λ (b : Bool). if b || is_broken (stream_of (bytes_in (w ++ (x ∷ [])))) || nat_le 1000 (count is_quiet_wait (w ++ (x ∷ []))) then phase.Down
+    else if has is_ask (w ++ (x ∷ [])) then phase_for (answer_in (stream_of (bytes_in (w ++ (x ∷ [])))).frames) else phase.Dialed)
     (has_more is_failed_call x w ∙ ap (λ (b : Bool). has is_failed_call w || b) failed ∙ or_true (has is_failed_call w))
 
 -- an event that is not a dial, nor received bytes
@@ -72,16 +73,16 @@ module _ (w : List Event) (x : Event) (silent : IsSilent x) where
   phase_same None works no_wait no_ask = refl
   phase_same (Some true) works no_wait no_ask = refl
   phase_same (Some false) works no_wait no_ask = λ i.
-      if (ended_more works ∙ ap (λ (n : ℕ). has is_failed_call w || is_broken (stream_of (bytes_in w)) || nat_le 1000 n) (count_same is_quiet_wait x no_wait w)) i then Down
-      else if has_same is_ask x no_ask w i then phase_for (answer_in (stream_of (since_bytes i)).frames) else Fresh
+      if (ended_more works ∙ ap (λ (n : ℕ). has is_failed_call w || is_broken (stream_of (bytes_in w)) || nat_le 1000 n) (count_same is_quiet_wait x no_wait w)) i then phase.Down
+      else if has_same is_ask x no_ask w i then phase_for (answer_in (stream_of (since_bytes i)).frames) else phase.Dialed
 
 module _ (rules : LinkRules) (P : List UnitPlan) (es : List Event) (x : Event) (silent : IsSilent x) where
   pub untaken_words : (l l2 : Link) → ((a : ℕ) → takes rules.tester P a (since_dial es) x ≡ false) → IsLinkOf rules P es l → l2.inbox ≡ l.inbox → WordsMove rules P es x l2
   untaken_words l l2 takes_none is inbox = record {
-    known = λ a known. subst (λ (b : Bool). IsKept (words_from a l2.inbox) (taken rules.tester P a (since_dial es)) b (words_of rules.tester a (bytes_in (since_dial es) ++ event_bytes x))) (sym (takes_none a))
-        (subst (λ (bs : List ℕ). IsKept (words_from a l2.inbox) (taken rules.tester P a (since_dial es)) false (words_of rules.tester a bs)) (sym (all_bytes (since_dial es) x silent))
-        (untaken (words_from a l2.inbox) (taken rules.tester P a (since_dial es)) (words_of rules.tester a (bytes_in (since_dial es))) (is.came a known) (ap (words_from a) inbox ∙ is.inbox a known)));
-    others = λ a unknown. ap (words_from a) inbox ∙ is.others a unknown;
+    known = λ a known. subst (λ (b : Bool). IsKept (messages_from a l2.inbox) (taken rules.tester P a (since_dial es)) b (messages_of rules.tester a (bytes_in (since_dial es) ++ event_bytes x))) (sym (takes_none a))
+        (subst (λ (bs : List ℕ). IsKept (messages_from a l2.inbox) (taken rules.tester P a (since_dial es)) false (messages_of rules.tester a bs)) (sym (all_bytes (since_dial es) x silent))
+        (untaken (messages_from a l2.inbox) (taken rules.tester P a (since_dial es)) (messages_of rules.tester a (bytes_in (since_dial es))) (is.came a known) (ap (messages_from a) inbox ∙ is.inbox a known)));
+    others = λ a unknown. ap (messages_from a) inbox ∙ is.others a unknown;
   }
 
   pub asked_same : (l : Link) → is_ask x ≡ false → IsLinkOf rules P es l → l.asked ≡ count is_quiet (to_last is_ask (es ++ (x ∷ [])))
@@ -105,7 +106,7 @@ module _ (rules : LinkRules) (P : List UnitPlan) (es : List Event) (x : Event) (
     pub rest : l2.rest ≡ l.rest
     pub asked : l2.asked ≡ l.asked
     pub ticks : l2.ticks ≡ l.ticks + one (is_quiet x)
-    pub calm : l.phase ≡ Waits → is_quiet x ≡ false
+    pub calm : l.phase ≡ phase.Asked → is_quiet x ≡ false
     pub owes : l2.owes ≡ is_owed (since_dial es ++ (x ∷ []))
     pub words : WordsMove rules P es x l2
 
@@ -133,7 +134,7 @@ module _ (rules : LinkRules) (P : List UnitPlan) (es : List Event) (x : Event) (
     pub no_quiet : is_quiet x ≡ false
     pub loss : is_loss es x ≡ true
     pub stood : is_down l.phase ≡ false
-    pub phase : l2.phase ≡ Down
+    pub phase : l2.phase ≡ phase.Down
     pub losses : l2.losses ≡ l.losses + 1
     pub got : l2.got ≡ l.got
     pub rest : l2.rest ≡ l.rest
@@ -155,7 +156,7 @@ module _ (rules : LinkRules) (P : List UnitPlan) (es : List Event) (x : Event) (
     owes = k.owes;
     unasked = k.unasked;
     words = k.words;
-  }) (λ e. absurd (false≢true (ap is_fresh (sym k.phase ∙ e)))) (λ e. absurd (false≢true (ap is_waiting (sym k.phase ∙ e))))
+  }) (λ e. absurd (false≢true (ap is_dialed (sym k.phase ∙ e)))) (λ e. absurd (false≢true (ap is_asked (sym k.phase ∙ e))))
     where
       moved_one : (n : ℕ) → (n + 1) + 0 ≡ n + 1
       moved_one n = omega arith

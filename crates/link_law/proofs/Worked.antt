@@ -2,7 +2,7 @@
 use Rattle.std.proofs.Common.{◌≡◌, ℕ, zero, suc, true, false, [], ◌∷◌, ◌++◌, Some, None, refl, ◌∙◌, ap, arith}
 use Rattle.std.specs.Prelude.{Bool, ◌==◌, ◌&&◌, ◌||◌, ◌+◌, nat_le, if◌then◌else◌}
 use Rattle.doip_frame.specs.Frame.{stream_of}
-use Rattle.run_model.specs.Link.{Down, Waits}
+use Rattle.run_model.specs.Link as phase
 use Rattle.bay_core.specs.LinkLaws.{phase_for}
 use Rattle.bay_core.specs.declared.event.Heard.TheVariants.{Quiet}
 use Rattle.bay_core.specs.declared.event.Tend.TheVariants.{Asked, Polled}
@@ -12,7 +12,7 @@ use Rattle.link_law.specs.Happened.{one, has, count, behind_last}
 use Rattle.link_law.specs.Kinds.{bytes_in, is_dial, is_failed_call, is_quiet_wait}
 use Rattle.link_law.specs.Looked.{answer_in, is_broken}
 use Rattle.link_law.specs.Follows.{last_dial, phase_in, phase_of}
-use Rattle.link_law.specs.Rows.{AreWorked, asks, quiets, hears, accepts, denies}
+use Rattle.link_law.specs.Rows.{AreWorked, asks, quiets, hears, accepting, denies}
 use Rattle.link_law.specs.Stopped.{first_cause}
 
 -- ------ quiet polls
@@ -31,11 +31,11 @@ how_many (suc n) = ap (λ (k : ℕ). 1 + k) (how_many n) ∙ one_more n
     one_more : (n : ℕ) → 1 + n ≡ suc n
     one_more n = omega arith
 
-patient : (n : ℕ) → phase_of (asks ++ quiets n) ≡ (if nat_le 1000 n then Down else Waits)
+patient : (n : ℕ) → phase_of (asks ++ quiets n) ≡ (if nat_le 1000 n then phase.Down else phase.Asked)
 patient n =
     (λ i. phase_in (if none_of is_dial n refl i then (if none_of is_dial n refl i then last_dial (quiets n) else None) else Some false) (if none_of is_dial n refl i then behind_last is_dial (quiets n) else Tended (Asked false) ∷ quiets n))
-    ∙ (λ i. if none_of is_failed_call n refl i || is_broken (stream_of (no_bytes n i)) || nat_le 1000 (0 + how_many n i) then Down else phase_for (answer_in (stream_of (no_bytes n i)).frames))
-    ∙ ap (λ (k : ℕ). if nat_le 1000 k then Down else Waits) (none_more n)
+    ∙ (λ i. if none_of is_failed_call n refl i || is_broken (stream_of (no_bytes n i)) || nat_le 1000 (0 + how_many n i) then phase.Down else phase_for (answer_in (stream_of (no_bytes n i)).frames))
+    ∙ ap (λ (k : ℕ). if nat_le 1000 k then phase.Down else phase.Asked) (none_more n)
   where
     none_more : (n : ℕ) → 0 + n ≡ n
     none_more n = omega arith
@@ -66,7 +66,7 @@ worked = record {
   taken_now = λ u is. ap (λ (a : ℕ). 0 + (0 + (one (a == 4097 && true) + 0))) is;
   taken_later = λ u is. ap (λ (a : ℕ). 0 + (0 + (one (a == 4097 && true) + (one (a == 4097 && true) + 0)))) is;
   lost_once = λ rules is. ap (λ (n : ℕ). first_cause (record { tester = rules.tester; relinks = n }) [] (hears (3 ∷ 253 ∷ []))) is;
-  lost_again = λ rules is. ap (λ (n : ℕ). first_cause (record { tester = rules.tester; relinks = n }) [] (hears (3 ∷ 253 ∷ []) ++ hears accepts)) is;
+  lost_again = λ rules is. ap (λ (n : ℕ). first_cause (record { tester = rules.tester; relinks = n }) [] (hears (3 ∷ 253 ∷ []) ++ hears accepting)) is;
   lost_twice = λ rules is. ap (λ (n : ℕ). first_cause (record { tester = rules.tester; relinks = n }) [] (hears (3 ∷ 253 ∷ []) ++ hears (3 ∷ 253 ∷ []))) is;
   stopped = λ rules is. ap (λ (n : ℕ). first_cause (record { tester = rules.tester; relinks = n }) [] (hears denies)) is;
 }

@@ -4,7 +4,7 @@ use Rattle.bay_core.specs.LinkLaws.{refuses_header, first_code}
 use Rattle.doip_frame.specs.Frame.{Stream, stream_of}
 use Rattle.doip_frame.specs.declared.frame.Frame.{Frame}
 use Rattle.doip_frame.specs.declared.frame.Frame.TheVariants.{HeaderNack, Activated, AliveAsk}
-use Rattle.run_model.specs.Ways.{Spoken, words_in}
+use Rattle.run_model.specs.Ways.{UnitMessage, messages_in}
 
 -- the frames before the first refused header
 abbrev pub before_refusal : List Frame → List Frame
@@ -45,5 +45,5 @@ abbrev pub checks_of : List ℕ → ℕ
 checks_of bytes = checks_in (looked_at (stream_of bytes).frames)
 
 -- the messages of a unit to the tester that are looked at, in their order
-abbrev pub words_of : ℕ → ℕ → List ℕ → List Spoken
-words_of tester a bytes = words_in tester a (looked_at (stream_of bytes).frames)
+abbrev pub messages_of : ℕ → ℕ → List ℕ → List UnitMessage
+messages_of tester a bytes = messages_in tester a (looked_at (stream_of bytes).frames)

@@ -4,20 +4,20 @@ use Rattle.std.specs.Prelude.{◌≡◌, ℕ, zero, suc, true, false, nat_le, Li
 use Rattle.flash_plan.specs.declared.outcome.Outcome.TheVariants.{LinkLost, LinkRefused}
 use Rattle.flash_plan.specs.declared.unit.LinkRules.{LinkRules}
 use Rattle.flash_plan.specs.declared.unit.UnitPlan.{UnitPlan}
-use Rattle.run_model.specs.Link.{Down, Fresh, Waits, Up, Denied}
-use Rattle.run_model.specs.Ways.{Reply, Unheard}
+use Rattle.run_model.specs.Link as phase
+use Rattle.run_model.specs.Ways.{Reply, Nacked}
 use Rattle.bay_core.specs.declared.event.Heard.TheVariants.{Kept, Quiet, Piece}
 use Rattle.bay_core.specs.declared.event.Tend.TheVariants.{Dialed, Asked, Said, Polled}
 use Rattle.bay_core.specs.declared.event.Event.{Event}
 use Rattle.bay_core.specs.declared.event.Event.TheVariants.{Sent, Collected, Tended}
 use Rattle.link_law.specs.Happened.{count_after}
-use Rattle.link_law.specs.Looked.{words_of}
+use Rattle.link_law.specs.Looked.{messages_of}
 use Rattle.link_law.specs.Follows.{phase_of, is_loss, is_owed, since_dial, taken}
 use Rattle.link_law.specs.Stopped.{first_cause}
 
 -- 03 FC 00 06 00 00 00 09 0E 80 40 00 10 00 00 00 00: the activation is accepted
-abbrev pub accepts : List ℕ
-accepts = 3 ∷ 252 ∷ 0 ∷ 6 ∷ 0 ∷ 0 ∷ 0 ∷ 9 ∷ 14 ∷ 128 ∷ 64 ∷ 0 ∷ 16 ∷ 0 ∷ 0 ∷ 0 ∷ 0 ∷ []
+abbrev pub accepting : List ℕ
+accepting = 3 ∷ 252 ∷ 0 ∷ 6 ∷ 0 ∷ 0 ∷ 0 ∷ 9 ∷ 14 ∷ 128 ∷ 64 ∷ 0 ∷ 16 ∷ 0 ∷ 0 ∷ 0 ∷ 0 ∷ []
 
 -- the same with the code 01: it is denied
 abbrev pub denies : List ℕ
@@ -58,26 +58,26 @@ quiets (suc n) = Tended (Polled Quiet) ∷ quiets n
 
 -- it accepted, and these came to collecting steps of the first unit
 abbrev pub collects : List Event → List Event
-collects es = hears accepts ++ es
+collects es = hears accepting ++ es
 
 abbrev pub IsLostAtOnce : List ℕ → Type 0
-IsLostAtOnce bytes = (phase_of (hears bytes) ≡ Down) × (count_after is_loss [] (hears bytes) ≡ 1)
+IsLostAtOnce bytes = (phase_of (hears bytes) ≡ phase.Down) × (count_after is_loss [] (hears bytes) ≡ 1)
 
 pub record AreWorked : Type 0 where
-  pub begins : phase_of [] ≡ Down
-  pub dialed : phase_of (Tended (Dialed false) ∷ []) ≡ Fresh
-  pub undialed : phase_of (Tended (Dialed true) ∷ []) ≡ Down
-  pub again : phase_of (hears accepts ++ (Sent 0 0 true ∷ Tended (Dialed false) ∷ [])) ≡ Fresh
-  pub sixteen : phase_of (asks ++ polled (take 16 accepts)) ≡ Waits
-  pub seventeen : phase_of (asks ++ polled accepts) ≡ Up
-  pub denied : phase_of (hears denies) ≡ Denied 1
+  pub begins : phase_of [] ≡ phase.Down
+  pub dialed : phase_of (Tended (Dialed false) ∷ []) ≡ phase.Dialed
+  pub undialed : phase_of (Tended (Dialed true) ∷ []) ≡ phase.Down
+  pub again : phase_of (hears accepting ++ (Sent 0 0 true ∷ Tended (Dialed false) ∷ [])) ≡ phase.Dialed
+  pub sixteen : phase_of (asks ++ polled (take 16 accepting)) ≡ phase.Asked
+  pub seventeen : phase_of (asks ++ polled accepting) ≡ phase.Up
+  pub denied : phase_of (hears denies) ≡ phase.Refused 1
   -- the first answer counts
-  pub first : phase_of (hears (accepts ++ denies)) ≡ Up
+  pub first : phase_of (hears (accepting ++ denies)) ≡ phase.Up
   -- the 1,000th quiet poll is the last
-  pub patience : (n : ℕ) → phase_of (asks ++ quiets n) ≡ (if nat_le 1000 n then Down else Waits)
+  pub patience : (n : ℕ) → phase_of (asks ++ quiets n) ≡ (if nat_le 1000 n then phase.Down else phase.Asked)
   -- nothing behind a denial is looked at, no bytes that are no frame either
-  pub behind : phase_of (hears (denies ++ (3 ∷ 253 ∷ []))) ≡ Denied 1
-  pub unread : words_of 3712 4097 (denies ++ answers) ≡ []
+  pub behind : phase_of (hears (denies ++ (3 ∷ 253 ∷ []))) ≡ phase.Refused 1
+  pub unread : messages_of 3712 4097 (denies ++ answers) ≡ []
   -- 03 FD, a message without data, a length of 65,601, and a refused header
   pub pattern : IsLostAtOnce (3 ∷ 253 ∷ [])
   pub short : IsLostAtOnce (3 ∷ 252 ∷ 128 ∷ 1 ∷ 0 ∷ 0 ∷ 0 ∷ 4 ∷ 16 ∷ 1 ∷ 14 ∷ 128 ∷ [])
@@ -88,14 +88,14 @@ pub record AreWorked : Type 0 where
   pub said : is_owed (since_dial (collects (Collected 0 (Piece checks) ∷ Tended (Said false) ∷ []))) ≡ false
   pub twice : is_owed (since_dial (collects (Collected 0 (Piece checks) ∷ Tended (Said false) ∷ Collected 0 (Piece checks) ∷ []))) ≡ true
   -- messages for the tester 0E80 of the unit 1001, none for another tester or of another unit
-  pub words : words_of 3712 4097 (accepts ++ (pends ++ (checks ++ (answers ++ misses)))) ≡ Reply (127 ∷ 54 ∷ 120 ∷ []) ∷ Reply (118 ∷ 1 ∷ []) ∷ Unheard 3 ∷ []
-  pub tester : words_of 3713 4097 (accepts ++ pends) ≡ []
-  pub unit : words_of 3712 4098 (accepts ++ pends) ≡ []
+  pub words : messages_of 3712 4097 (accepting ++ (pends ++ (checks ++ (answers ++ misses)))) ≡ Reply (127 ∷ 54 ∷ 120 ∷ []) ∷ Reply (118 ∷ 1 ∷ []) ∷ Nacked 3 ∷ []
+  pub tester : messages_of 3713 4097 (accepting ++ pends) ≡ []
+  pub unit : messages_of 3712 4098 (accepting ++ pends) ≡ []
   -- two come at once: the first is taken with its piece, the second was kept
   pub taken_now : (u : UnitPlan) → u.address ≡ 4097 → taken 3712 (u ∷ []) 4097 (since_dial (collects (Collected 0 (Piece (pends ++ answers)) ∷ []))) ≡ 1
   pub taken_later : (u : UnitPlan) → u.address ≡ 4097 → taken 3712 (u ∷ []) 4097 (since_dial (collects (Collected 0 (Piece (pends ++ answers)) ∷ Collected 0 Kept ∷ []))) ≡ 2
   -- a loss stops a run that may make no connection anew; with one more it takes two; a denial stops it
   pub lost_once : (rules : LinkRules) → rules.relinks ≡ 0 → first_cause rules [] (hears (3 ∷ 253 ∷ [])) ≡ Some (LinkLost 1)
-  pub lost_again : (rules : LinkRules) → rules.relinks ≡ 1 → first_cause rules [] (hears (3 ∷ 253 ∷ []) ++ hears accepts) ≡ None
+  pub lost_again : (rules : LinkRules) → rules.relinks ≡ 1 → first_cause rules [] (hears (3 ∷ 253 ∷ []) ++ hears accepting) ≡ None
   pub lost_twice : (rules : LinkRules) → rules.relinks ≡ 1 → first_cause rules [] (hears (3 ∷ 253 ∷ []) ++ hears (3 ∷ 253 ∷ [])) ≡ Some (LinkLost 2)
   pub stopped : (rules : LinkRules) → rules.relinks ≡ 0 → first_cause rules [] (hears denies) ≡ Some (LinkRefused 1)

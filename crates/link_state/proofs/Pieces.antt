@@ -7,17 +7,11 @@ use Rattle.doip_frame.specs.Frame.{stream_of}
 use Rattle.doip_frame.specs.declared.frame.Bad.{Bad}
 use Rattle.doip_frame.specs.declared.frame.Frame.{Frame}
 use Rattle.run_model.proofs.Sees.{piece_keeps, piece_lives}
-use Rattle.run_model.specs.Link as link
+use Rattle.run_model.specs.Link as phase
 use Rattle.run_model.specs.Link.{Link, is_open, is_live, see_all, see_end, hear_piece}
 use Rattle.link_state.specs.State.{Shows, ShowsBody, SameButLoss, see_bad, is_open_now, loss_count}
 use Rattle.link_state.specs.declared.state.LinkState.{LinkState}
-
-pub open_lives : (p : link.Phase) → is_open p ≡ true → is_live p ≡ true
-open_lives link.Down e = absurd (false≢true e)
-open_lives link.Fresh e = refl
-open_lives link.Waits e = refl
-open_lives link.Up e = refl
-open_lives (link.Denied code) e = absurd (false≢true e)
+use Rattle.run_model.proofs.Phases.{open_live}
 
 end_is : (bad : Option Bad) (l : Link) → see_end bad l ≡ see_bad (is_some bad) l
 end_is None l = refl
@@ -35,7 +29,7 @@ piece_shows s t l tester units piece frames bad opened shows frames_are bad_is h
 }
   where
     was : s.deframer ≡ Some l.rest
-    was = shows.rest (open_lives l.phase opened)
+    was = shows.rest (open_live l.phase opened)
 
     same : see_bad (is_some bad) (see_all tester units frames (with_piece piece l)) ≡ hear_piece tester units piece l
     same =

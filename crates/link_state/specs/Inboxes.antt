@@ -1,17 +1,17 @@
 -- Inboxes, one for each unit.
 use Rattle.std.specs.Prelude.{◌≡◌, ℕ, ◌<◌, true, false, List, [], ◌∷◌, length, slice_index, slice_index_or, Option, Some, None}
 use Rattle.run_model.specs.Link.{is_known}
-use Rattle.run_model.specs.Ways.{Spoken, Reply, Unheard}
+use Rattle.run_model.specs.Ways.{UnitMessage, Reply, Nacked}
 use Rattle.link_state.specs.declared.inbox.Message.{Message}
 use Rattle.link_state.specs.declared.inbox.Message.TheVariants as message
 
-abbrev pub spoken_of : Message → Spoken
-spoken_of (message.Reply body) = Reply body
-spoken_of (message.Nack code) = Unheard code
+abbrev pub message_of : Message → UnitMessage
+message_of (message.Reply body) = Reply body
+message_of (message.Nack code) = Nacked code
 
-abbrev pub spoken_all : List Message → List Spoken
-spoken_all [] = []
-spoken_all (m ∷ ms) = spoken_of m ∷ spoken_all ms
+abbrev pub messages_all : List Message → List UnitMessage
+messages_all [] = []
+messages_all (m ∷ ms) = message_of m ∷ messages_all ms
 
 -- the oldest message
 abbrev pub first_of : List Message → Option Message

@@ -1,21 +1,21 @@
 -- What the state of a link shows of the link's definition.
 use Rattle.std.specs.Prelude.{◌≡◌, ◌⊎◌, ℕ, ◌+◌, ◌<◌, ◌==◌, ◌&&◌, Bool, true, false, if◌then◌else◌, List, [], length, slice_index, Option, Some, None}
-use Rattle.run_model.specs.Link as link
-use Rattle.run_model.specs.Link.{Link, is_live, is_open, is_waiting, drop_link}
-use Rattle.run_model.specs.Ways.{Spoken, words_from}
-use Rattle.link_state.specs.Inboxes.{spoken_of, spoken_all, queue_at}
+use Rattle.run_model.specs.Link as phase
+use Rattle.run_model.specs.Link.{Link, is_live, is_open, is_asked, drop_link}
+use Rattle.run_model.specs.Ways.{UnitMessage, messages_from}
+use Rattle.link_state.specs.Inboxes.{message_of, messages_all, queue_at}
 use Rattle.link_state.specs.declared.inbox.Message.{Message}
 use Rattle.link_state.specs.declared.state.LinkState.{LinkState}
 use Rattle.link_state.specs.declared.state.Standing.{Standing}
 use Rattle.link_state.specs.declared.state.Phase.{Phase}
 use Rattle.link_state.specs.declared.state.Phase.TheVariants.{Down, Dialed, Asked, Up, Refused}
 
-abbrev pub phase_of : Phase → link.Phase
-phase_of Down = link.Down
-phase_of Dialed = link.Fresh
-phase_of Asked = link.Waits
-phase_of Up = link.Up
-phase_of (Refused code) = link.Denied code
+abbrev pub link_phase : Phase → phase.Phase
+link_phase Down = phase.Down
+link_phase Dialed = phase.Dialed
+link_phase Asked = phase.Asked
+link_phase Up = phase.Up
+link_phase (Refused code) = phase.Refused code
 
 -- no two places have one address
 abbrev pub AreDistinct : List ℕ → Type 0
@@ -35,7 +35,7 @@ tick_count s = s.ticks
 
 -- frames are looked at
 abbrev pub is_open_now : LinkState → Bool
-is_open_now s = is_open (phase_of s.phase)
+is_open_now s = is_open (link_phase s.phase)
 
 -- it is the link of this tester to these units
 pub record IsOf (tester : ℕ) (units : List ℕ) (s : LinkState) : Type 0 where
@@ -74,17 +74,17 @@ pub record SameButLoss (old new : LinkState) : Type 0 where
 
 -- the first answer to an activation
 abbrev pub see_answer : ℕ → Link → Link
-see_answer code l = if is_waiting l.phase then record l { phase = if code == 16 then link.Up else link.Denied code } else l
+see_answer code l = if is_asked l.phase then record l { phase = if code == 16 then phase.Up else phase.Refused code } else l
 
 -- phase, counts and inboxes
 pub record ShowsBody (s : LinkState) (l : Link) : Type 0 where
-  pub phase : phase_of s.phase ≡ l.phase
+  pub phase : link_phase s.phase ≡ l.phase
   pub ticks : s.ticks ≡ l.ticks
   pub asked : s.asked ≡ l.asked
   pub losses : s.losses ≡ l.losses
   pub owes : s.owes ≡ l.owes
   pub distinct : AreDistinct s.units.items
-  pub inbox : (n : ℕ) → n < length s.units.items → spoken_all (queue_at s.inboxes.items n) ≡ words_from (slice_index s.units.items n) l.inbox
+  pub inbox : (n : ℕ) → n < length s.units.items → messages_all (queue_at s.inboxes.items n) ≡ messages_from (slice_index s.units.items n) l.inbox
 
 -- and while the connection lives, the bytes behind the last whole frame
 pub record Shows (s : LinkState) (l : Link) : Type 0 where
@@ -116,6 +116,6 @@ pub record HasGoneBack (before : Standing) (old new : LinkState) : Type 0 where
   pub deframer : new.deframer ≡ Some []
   pub inbox : (n : ℕ) → queue_at new.inboxes.items n ≡ []
 
-abbrev pub option_spoken : Option Message → Option Spoken
-option_spoken None = None
-option_spoken (Some m) = Some (spoken_of m)
+abbrev pub option_message : Option Message → Option UnitMessage
+option_message None = None
+option_message (Some m) = Some (message_of m)

@@ -51,10 +51,11 @@ const PATIENCE: u64 = 1000;
 
 impl LinkState {
     ghost use Rattle.std.specs.Prelude.{◌≡◌, ◌+◌, ◌<◌, ◌^◌, ◌==◌, ◌&&◌, true, false, is_some, IfOk, OnOk, OnErr};
-    ghost use Rattle.run_model.specs.Link.{Link, Down, link_start, dialed_link, asked_link, said_link, polled_quiet, drop_link, hear_piece, see, see_all, keep_word, is_known, is_live, is_open, take_word, first_word, see_frame, unanswered};
-    ghost use Rattle.run_model.specs.Ways.{Reply, Unheard};
-    ghost use Rattle.link_state.specs.Inboxes.{spoken_of};
-    ghost use Rattle.link_state.specs.State.{Shows, ShowsBody, IsOf, SameLabels, AreDistinct, phase_of, tester_of, units_of, loss_count, tick_count, option_spoken, is_open_now, see_answer, see_bad, SameDeframer, SameRest, SameButLoss, IsDropped, IsStandingOf, HasGoneBack, emptied_link};
+    ghost use Rattle.run_model.specs.Link.{Link, link_start, dialed_link, asked_link, said_link, polled_quiet, drop_link, hear_piece, see, see_all, keep_message, is_known, is_live, is_open, take_message, first_message, see_frame, unanswered};
+    ghost use Rattle.run_model.specs.Link as phase;
+    ghost use Rattle.run_model.specs.Ways.{Reply, Nacked};
+    ghost use Rattle.link_state.specs.Inboxes.{message_of};
+    ghost use Rattle.link_state.specs.State.{Shows, ShowsBody, IsOf, SameLabels, AreDistinct, link_phase, tester_of, units_of, loss_count, tick_count, option_message, is_open_now, see_answer, see_bad, SameDeframer, SameRest, SameButLoss, IsDropped, IsStandingOf, HasGoneBack, emptied_link};
 
     /// The link of a tester to these units: no connection yet.
     pub fn new(alloc: Global, tester: u16, units: &[u16]) -> Result<LinkState, NoMemory>
@@ -78,7 +79,7 @@ impl LinkState {
 
     /// Where the link stands.
     pub fn phase(&self) -> Phase
-        ensures { (l : Link) → Shows self.now l → phase_of result ≡ l.phase }
+        ensures { (l : Link) → Shows self.now l → link_phase result ≡ l.phase }
     {
         self.phase
     }
@@ -195,7 +196,7 @@ impl LinkState {
     /// Keeps a message of a unit of the plan, and drops any other.
     fn keep(&mut self, source: u16, message: Message) -> Result<(), NoMemory>
         ensures shows { OnOk result ((l : Link) → ShowsBody self.old l
-            → ShowsBody self.new (keep_word (is_known (units_of self.old) source) source (spoken_of message) l)) }
+            → ShowsBody self.new (keep_message (is_known (units_of self.old) source) source (message_of message) l)) }
         ensures rest { SameRest self.old self.new }
     {
         match place_of(&self.units, source) {
@@ -207,7 +208,7 @@ impl LinkState {
     /// A diagnostic message, where it is for this tester.
     fn hear(&mut self, source: u16, target: u16, body: &[u8]) -> Result<(), NoMemory>
         ensures shows { OnOk result ((l : Link) → ShowsBody self.old l
-            → ShowsBody self.new (keep_word (target == tester_of self.old && is_known (units_of self.old) source)
+            → ShowsBody self.new (keep_message (target == tester_of self.old && is_known (units_of self.old) source)
             source (Reply body.now) l)) }
         ensures rest { SameRest self.old self.new }
     {
@@ -221,8 +222,8 @@ impl LinkState {
     /// A message that was not delivered, where it is for this tester.
     fn miss(&mut self, source: u16, target: u16, code: u8) -> Result<(), NoMemory>
         ensures shows { OnOk result ((l : Link) → ShowsBody self.old l
-            → ShowsBody self.new (keep_word (target == tester_of self.old && is_known (units_of self.old) source)
-            source (Unheard code) l)) }
+            → ShowsBody self.new (keep_message (target == tester_of self.old && is_known (units_of self.old) source)
+            source (Nacked code) l)) }
         ensures rest { SameRest self.old self.new }
     {
         if target != self.tester {
@@ -374,7 +375,7 @@ impl LinkState {
 
     /// The link is used no more, and this is no loss.
     pub fn shut(&mut self)
-        ensures shows { (l : Link) → Shows self.old l → Shows self.new (record l { phase = Down }) }
+        ensures shows { (l : Link) → Shows self.old l → Shows self.new (record l { phase = phase.Down }) }
         ensures of { SameLabels self.old self.new }
     {
         self.phase = Phase::Down;
@@ -383,7 +384,7 @@ impl LinkState {
     /// Whether there is a message of a unit.
     pub fn has_message(&self, unit: u16) -> bool
         ensures { (l : Link) → Shows self.now l → is_known (units_of self.now) unit ≡ true
-            → result ≡ is_some (first_word unit l.inbox) }
+            → result ≡ is_some (first_message unit l.inbox) }
     {
         match place_of(&self.units, unit) {
             Some(n) => has_any(&self.inboxes, n),
@@ -394,9 +395,9 @@ impl LinkState {
     /// Takes the oldest message of a unit.
     pub fn take(&mut self, unit: u16) -> Option<Message>
         ensures word { (l : Link) → Shows self.old l → is_known (units_of self.old) unit ≡ true
-            → option_spoken result ≡ first_word unit l.inbox }
+            → option_message result ≡ first_message unit l.inbox }
         ensures shows { (l : Link) → Shows self.old l → is_known (units_of self.old) unit ≡ true
-            → Shows self.new (take_word unit l) }
+            → Shows self.new (take_message unit l) }
         ensures of { SameLabels self.old self.new }
     {
         match place_of(&self.units, unit) {

@@ -4,7 +4,7 @@ use Rattle.std.proofs.lemmas.Bool.{both_ways}
 use Rattle.std.proofs.lemmas.List.{take_all, get_or_append_left, get_or-append_right, get_or-take, get_or-drop}
 use Rattle.disk_model.specs.Disk.{DiskState, MissedWrite, Wrote as IsWritten}
 use Rattle.disk_model.specs.declared.device.DeviceFault.{DeviceFault}
-use Rattle.flash_base.specs.Counts.{Rises}
+use Rattle.flash_base.specs.Counts.{Rises, one_more}
 use Rattle.shop_model.specs.History.{History, Call, LAST, Passes, DiskCall, LinkCall, disk_now, WroteOrMissed}
 use Rattle.mem_disk.specs.declared.record.Done.{Done}
 use Rattle.mem_disk.specs.declared.record.Done.TheVariants.{Kept, Wrote, Missed}
@@ -12,7 +12,7 @@ use Rattle.mem_disk.specs.declared.disk.MemDisk.{MemDisk}
 use Rattle.std.specs.Bool.{OnTrue, OnFalse}
 use Rattle.mem_disk.specs.Made.{call_in}
 use Rattle.mem_disk.specs.Replay.{start, after, replay, spliced}
-use Rattle.mem_disk.specs.Disks.{history_of, moment_of, is_listed, FailsExactly, ListsMiss, Passed, Recorded, Starved, WroteSome, SameRecord, DiskFaulted, LinkFaulted, LinkCounted, one_more}
+use Rattle.mem_disk.specs.Disks.{history_of, moment_of, is_listed, FailsExactly, ListsMiss, Passed, Recorded, Starved, WroteSome, SameRecord, DiskFaulted, LinkFaulted, LinkCounted}
 use Rattle.mem_disk.proofs.Replays.{replay-append, same_past}
 
 -- the disk is what the whole record gives

@@ -11,6 +11,7 @@ use Rattle.mem_disk.specs.declared.record.Done.TheVariants.{Wrote}
 use Rattle.mem_disk.specs.declared.disk.MemDisk.{MemDisk}
 use Rattle.mem_disk.specs.Made.{call_in}
 use Rattle.mem_disk.specs.Replay.{start, replay}
+use Rattle.flash_base.specs.Counts.{one_more}
 
 -- nothing is behind the link
 abbrev pub no_vehicle : Vehicle
@@ -94,10 +95,6 @@ pub record Starved (call : Call) (old new : MemDisk) : Type 0 where
 
 abbrev pub WroteSome : Call → ℕ → List ℕ → MemDisk → MemDisk → Type 0
 WroteSome call at bytes old new = (v : Vec ℕ Global) × (v.items ≡ bytes) × Recorded call (Wrote at v) old new
-
--- a count that rose by one, or stands at its last value
-abbrev pub one_more : ℕ → ℕ
-one_more n = min (n + 1) (2 ^ 64 - 1)
 
 -- all but the counts of faults stays
 pub record SameRecord (old new : MemDisk) : Type 0 where

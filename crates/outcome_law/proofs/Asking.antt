@@ -21,11 +21,12 @@ use Rattle.run_model.specs.Link.{Link, is_up}
 use Rattle.run_model.specs.Script.{bytes_at}
 use Rattle.run_model.specs.States.{StateAt, StateIn, SameButCounts}
 use Rattle.run_model.specs.Talk.{Talk, talk_sent}
-use Rattle.run_model.specs.Ways.{Spoken, Reply, Unheard, words_from, words_in, words_later, on_way, is_empty_words, pending_words, final_word}
+use Rattle.run_model.specs.Ways.{UnitMessage, Reply, Nacked, messages_from, messages_in, messages_later, on_way, has_no_message, pending_messages, final_message}
 use Rattle.uds_codec.specs.Request.{sid_of}
 use Rattle.unit_model.specs.Feed.{tester_of, waits_for}
 use Rattle.unit_model.specs.Step.{CanSend, Obeys, Holds, Departs, Departure, Refuses as declines, Odd, Fails, Mutes, Busies, pendings, last_replies, last_tick, said_by, ascends, is_late, is_stalled, raise_if, raise_code, raised}
-use Rattle.unit_model.specs.Unit.{ControlUnit, Counts, obedient, one_more, heard_one}
+use Rattle.flash_base.specs.Counts.{one_more}
+use Rattle.unit_model.specs.Unit.{ControlUnit, Counts, obedient, heard_one}
 use Rattle.unit_model.specs.Vehicle.{HeldAnswer, Gateway, Vehicle, unit_at}
 use Rattle.unit_model.specs.declared.reply.Due.TheVariants.{At, Held}
 use Rattle.unit_model.specs.declared.reply.Due.{Due}
@@ -35,9 +36,9 @@ use Rattle.outcome_law.specs.Counting.{dues, come, Kept, KeptIn, Takes, TakesIn,
 
 -- words of another unit are due at no tick of this one
 module _ (tester a : ℕ) where
-  dues_more : (queue : List (ℕ × List ℕ)) (due : ℕ) (frame : List ℕ) → words_in tester a (stream_of frame).frames ≡ [] → dues tester a (queue ++ ((due, frame) ∷ [])) ≡ dues tester a queue
-  dues_more [] due frame none = let e : is_empty_words (words_in tester a (stream_of frame).frames) ≡ true = ap is_empty_words none in rw e refl
-  dues_more (q ∷ qs) due frame none = elim (cases_Bool (is_empty_words (words_in tester a (stream_of q.1).frames))) [
+  dues_more : (queue : List (ℕ × List ℕ)) (due : ℕ) (frame : List ℕ) → messages_in tester a (stream_of frame).frames ≡ [] → dues tester a (queue ++ ((due, frame) ∷ [])) ≡ dues tester a queue
+  dues_more [] due frame none = let e : has_no_message (messages_in tester a (stream_of frame).frames) ≡ true = ap has_no_message none in rw e refl
+  dues_more (q ∷ qs) due frame none = elim (cases_Bool (has_no_message (messages_in tester a (stream_of q.1).frames))) [
     | inl e ↦ rw e (dues_more qs due frame none)
     | inr e ↦ rw e (ap (λ (ds : List ℕ). q.0 ∷ ds) (dues_more qs due frame none))
   ]
@@ -93,16 +94,16 @@ later_late tick p (t ∷ ts) le up late =
 
 -- the unit's own replies
 module _ (tester a sid : ℕ) where
-  dues_last : (queue : List (ℕ × List ℕ)) (due : ℕ) (frame : List ℕ) (word : Spoken) → words_in tester a (stream_of frame).frames ≡ word ∷ [] → dues tester a (queue ++ ((due, frame) ∷ [])) ≡ dues tester a queue ++ (due ∷ [])
-  dues_last [] due frame word some = let e : is_empty_words (words_in tester a (stream_of frame).frames) ≡ false = ap is_empty_words some in rw e refl
-  dues_last (q ∷ qs) due frame word some = elim (cases_Bool (is_empty_words (words_in tester a (stream_of q.1).frames))) [
+  dues_last : (queue : List (ℕ × List ℕ)) (due : ℕ) (frame : List ℕ) (word : UnitMessage) → messages_in tester a (stream_of frame).frames ≡ word ∷ [] → dues tester a (queue ++ ((due, frame) ∷ [])) ≡ dues tester a queue ++ (due ∷ [])
+  dues_last [] due frame word some = let e : has_no_message (messages_in tester a (stream_of frame).frames) ≡ false = ap has_no_message some in rw e refl
+  dues_last (q ∷ qs) due frame word some = elim (cases_Bool (has_no_message (messages_in tester a (stream_of q.1).frames))) [
     | inl e ↦ rw e (dues_last qs due frame word some)
     | inr e ↦ rw e (ap (λ (ds : List ℕ). q.0 ∷ ds) (dues_last qs due frame word some))
   ]
 
-  word_here : (g : Gateway) (body : List ℕ) → g.active ≡ Some tester → CanSend body → words_in tester a (stream_of (message_bytes a (tester_of g) body)).frames ≡ Reply body ∷ []
+  word_here : (g : Gateway) (body : List ℕ) → g.active ≡ Some tester → CanSend body → messages_in tester a (stream_of (message_bytes a (tester_of g) body)).frames ≡ Reply body ∷ []
   word_here g body active can =
-      ap (words_in tester a) (message_frames a (tester_of g) body can)
+      ap (messages_in tester a) (message_frames a (tester_of g) body can)
       ∙ (λ i. (if eq-eqb (tester_of g) tester (ap (λ (o : Option ℕ). unwrap_or o 0) active) i && eq-eqb a a refl i then Reply body ∷ [] else []) ++ [])
 
   own_dues : (rs : List UnitReply) (from : ℕ) (g : Gateway) → Timely from rs → g.active ≡ Some tester → dues tester a (queue_replies g a sid rs).later ≡ dues tester a g.later ++ later_ticks g.tick (ticks_of rs)
@@ -140,13 +141,13 @@ module _ (tester t : ℕ) (bytes : List ℕ) (l : Link) (v w : Vehicle) (c : IsC
   WasHeard = Heard tester t bytes l v w c up
 
   -- ------ what another unit keeps
-  let_come : (a : ℕ) (inbox : List (ℕ × Spoken)) → come tester a inbox l.rest out ≡ [] → come tester a inbox l.rest v.gateway ≡ []
+  let_come : (a : ℕ) (inbox : List (ℕ × UnitMessage)) → come tester a inbox l.rest out ≡ [] → come tester a inbox l.rest v.gateway ≡ []
   let_come a inbox e =
-      let x : words_from a inbox ≡ [] = left_nil (words_from a inbox) _ e in
-      let y : words_in tester a (stream_of (l.rest ++ v.gateway.ready)).frames ≡ [] = left_nil (words_in tester a (stream_of (l.rest ++ v.gateway.ready)).frames) _ (sym (let_ready tester t bytes l v w c up a inbox) ∙ right_nil (words_from a inbox) _ e) in
+      let x : messages_from a inbox ≡ [] = left_nil (messages_from a inbox) _ e in
+      let y : messages_in tester a (stream_of (l.rest ++ v.gateway.ready)).frames ≡ [] = left_nil (messages_in tester a (stream_of (l.rest ++ v.gateway.ready)).frames) _ (sym (let_ready tester t bytes l v w c up a inbox) ∙ right_nil (messages_from a inbox) _ e) in
       λ i. x i ++ y i
 
-  let_back : (a : ℕ) (inbox : List (ℕ × Spoken)) (k : ℕ) → HoldsAtMost tester a k v.gateway → (one : HeldAnswer) → held_of a out.held ≡ one ∷ [] → held_of a v.gateway.held ≡ one ∷ []
+  let_back : (a : ℕ) (inbox : List (ℕ × UnitMessage)) (k : ℕ) → HoldsAtMost tester a k v.gateway → (one : HeldAnswer) → held_of a out.held ≡ one ∷ [] → held_of a v.gateway.held ≡ one ∷ []
   let_back a inbox k most one e = go most
     where
       filtered : held_of a out.held ≡ filter (λ h. not (waits h)) (held_of a v.gateway.held)
@@ -169,14 +170,14 @@ module _ (tester t : ℕ) (bytes : List ℕ) (l : Link) (v w : Vehicle) (c : IsC
       go (inl none) = absurd (cons_nil one [] (sym (sym (filtered ∙ ap (filter (λ h. not (waits h))) none) ∙ e)))
       go (inr lone) = lone.held ∙ kept_one lone.one (sym (filtered ∙ ap (filter (λ h. not (waits h))) lone.held) ∙ e)
 
-  pub others_on : (a k : ℕ) (inbox : List (ℕ × Spoken)) → (a ≡ t → ⊥) → HoldsAtMost tester a k v.gateway → WasRefused ⊎ WasHeard → IsStillOn tester a inbox inbox l.rest l.rest v.gateway w.gateway
+  pub others_on : (a k : ℕ) (inbox : List (ℕ × UnitMessage)) → (a ≡ t → ⊥) → HoldsAtMost tester a k v.gateway → WasRefused ⊎ WasHeard → IsStillOn tester a inbox inbox l.rest l.rest v.gateway w.gateway
   others_on a k inbox apart most (inl r) =
       let not_a : (t == a) ≡ false = ne_eqb t a (λ q. apart (sym q)) in
-      let none : words_in tester a (stream_of (nack_bytes t tester r.code)).frames ≡ [] = nack_words tester a t r.code ∙ (λ i. if not_a i then Unheard r.code ∷ [] else []) in
+      let none : messages_in tester a (stream_of (nack_bytes t tester r.code)).frames ≡ [] = nack_words tester a t r.code ∙ (λ i. if not_a i then Nacked r.code ∷ [] else []) in
       let x = answered_alike tester t bytes l v w c up a (nack_bytes t tester r.code) (nack_whole t tester r.code) none in
       subst (λ (g : Gateway). IsStillOn tester a inbox inbox l.rest l.rest v.gateway g) (sym r.gateway) (record {
         way = alike_way tester a inbox l.rest v.gateway _ x;
-        came = λ e. (λ i. words_from a inbox ++ sym x.ready i) ∙ e;
+        came = λ e. (λ i. messages_from a inbox ++ sym x.ready i) ∙ e;
         due = refl;
         later = refl;
         holds = λ one e. e;
@@ -187,7 +188,7 @@ module _ (tester t : ℕ) (bytes : List ℕ) (l : Link) (v w : Vehicle) (c : IsC
       let x = alike_words tester a l.rest t sid h.replies out not_a (let_whole tester t bytes l v w c up) h.step.sizes in
       subst (λ (g : Gateway). IsStillOn tester a inbox inbox l.rest l.rest v.gateway g) (sym h.gateway) (record {
         way = alike_way tester a inbox l.rest out _ x ∙ way_of most;
-        came = λ e. let_come a inbox ((λ i. words_from a inbox ++ sym x.ready i) ∙ e);
+        came = λ e. let_come a inbox ((λ i. messages_from a inbox ++ sym x.ready i) ∙ e);
         due = dues_words tester a t sid h.replies out not_a h.step.sizes;
         later = x.later;
         holds = λ one e. let_back a inbox k most one (sym x.held ∙ e);
@@ -199,22 +200,22 @@ module _ (tester t : ℕ) (bytes : List ℕ) (l : Link) (v w : Vehicle) (c : IsC
       way_of (inr lone) = let_lone tester t bytes l v w c up a inbox lone.one lone.held lone.later
 
   -- ------ the unit that the request was for: nothing was on the way from it
-  module _ (inbox : List (ℕ × Spoken)) (nothing : on_way tester t inbox l.rest v.gateway ≡ []) where
+  module _ (inbox : List (ℕ × UnitMessage)) (nothing : on_way tester t inbox l.rest v.gateway ≡ []) where
     -- nothing is due from it, whatever the answer will be
     no_dues : dues tester t v.gateway.later ≡ []
     no_dues = dues_none tester t v.gateway.later (no_later tester t bytes l v w c up inbox nothing)
 
     pub record RefusedIt (r : WasRefused) : Type 0 where
-      pub way : on_way tester t inbox l.rest w.gateway ≡ Unheard r.code ∷ []
+      pub way : on_way tester t inbox l.rest w.gateway ≡ Nacked r.code ∷ []
       pub held : held_of t w.gateway.held ≡ []
-      pub later : words_later tester t w.gateway.later ≡ []
+      pub later : messages_later tester t w.gateway.later ≡ []
       pub tick : w.gateway.tick ≡ v.gateway.tick
 
     pub refused_it : (r : WasRefused) → RefusedIt r
     refused_it r = record {
       way = refused_way tester t bytes l v w c up inbox nothing r;
       held = ap (λ (g : Gateway). held_of t g.held) r.gateway ∙ no_held tester t bytes l v w c up inbox nothing;
-      later = ap (λ (g : Gateway). words_later tester t g.later) r.gateway ∙ no_later tester t bytes l v w c up inbox nothing;
+      later = ap (λ (g : Gateway). messages_later tester t g.later) r.gateway ∙ no_later tester t bytes l v w c up inbox nothing;
       tick = ap (λ (g : Gateway). g.tick) r.gateway;
     }
 
@@ -230,7 +231,7 @@ module _ (tester t : ℕ) (bytes : List ℕ) (l : Link) (v w : Vehicle) (c : IsC
       way = ap (λ (g : Gateway). on_way tester t inbox l.rest g) h.gateway
           ∙ replies_way tester t sid inbox l.rest h.replies v.gateway.tick out timely
           (record { whole = let_whole tester t bytes l v w c up; active = active_is tester t bytes l v w c up; held = let_no_held tester t bytes l v w c up inbox nothing }) (inl (no_later tester t bytes l v w c up inbox nothing))
-          ∙ ap (λ (ws : List Spoken). ws ++ said_words h.replies) (let_nothing tester t bytes l v w c up inbox nothing);
+          ∙ ap (λ (ws : List UnitMessage). ws ++ said_words h.replies) (let_nothing tester t bytes l v w c up inbox nothing);
       held = ap (λ (g : Gateway). held_of t g.held) h.gateway ∙ ap (held_of t) (timely_held tester t t sid h.replies v.gateway.tick out timely) ∙ held_filter tester t (λ x. not (waits x)) v.gateway.held ∙ ap (filter (λ x. not (waits x))) (no_held tester t bytes l v w c up inbox nothing);
       due = ap (λ (g : Gateway). dues tester t g.later) h.gateway ∙ own_dues tester t sid h.replies v.gateway.tick out timely (active_is tester t bytes l v w c up) ∙ ap (λ (ds : List ℕ). ds ++ later_ticks v.gateway.tick (ticks_of h.replies)) no_dues;
       tick = ap (λ (g : Gateway). g.tick) h.gateway ∙ tick_kept t sid h.replies out;
@@ -240,7 +241,7 @@ module _ (tester t : ℕ) (bytes : List ℕ) (l : Link) (v w : Vehicle) (c : IsC
     pub record HoldsIt (h : WasHeard) (holds : Holds h.old bytes v.gateway.tick h.replies h.new) : Type 0 where
       pub way : on_way tester t inbox l.rest w.gateway ≡ said_words h.replies
       pub held : held_of t w.gateway.held ≡ record { unit = t; sid = sid; body = (obedient h.old bytes).1; every = holds.every; watch = holds.unit; service = holds.sid; from = v.gateway.tick; pending = 0 } ∷ []
-      pub later : words_later tester t w.gateway.later ≡ []
+      pub later : messages_later tester t w.gateway.later ≡ []
       pub tick : w.gateway.tick ≡ v.gateway.tick
 
     pub holds_it : (h : WasHeard) (holds : Holds h.old bytes v.gateway.tick h.replies h.new) → HoldsIt h holds
@@ -251,10 +252,10 @@ module _ (tester t : ℕ) (bytes : List ℕ) (l : Link) (v w : Vehicle) (c : IsC
         held_last tester t bytes l v w c up inbox nothing out.held _ (eq-eqb t t refl) (held_filter tester t (λ x. not (waits x)) v.gateway.held ∙ ap (filter (λ x. not (waits x))) (no_held tester t bytes l v w c up inbox nothing)) in
         record {
           way = ap (λ (g : Gateway). on_way tester t inbox l.rest g) is
-              ∙ (λ i. no_X tester t bytes l v w c up inbox nothing i ++ (left_nil (words_in tester t (stream_of (l.rest ++ out.ready)).frames) _ (right_nil (words_from t inbox) _ (let_nothing tester t bytes l v w c up inbox nothing)) i ++ (no_later tester t bytes l v w c up inbox nothing i ++ (held_bodies t _ ∙ ap bodies one) i)))
+              ∙ (λ i. no_X tester t bytes l v w c up inbox nothing i ++ (left_nil (messages_in tester t (stream_of (l.rest ++ out.ready)).frames) _ (right_nil (messages_from t inbox) _ (let_nothing tester t bytes l v w c up inbox nothing)) i ++ (no_later tester t bytes l v w c up inbox nothing i ++ (held_bodies t _ ∙ ap bodies one) i)))
               ∙ sym (ap said_words holds.gives);
           held = ap (λ (g : Gateway). held_of t g.held) is ∙ one;
-          later = ap (λ (g : Gateway). words_later tester t g.later) is ∙ no_later tester t bytes l v w c up inbox nothing;
+          later = ap (λ (g : Gateway). messages_later tester t g.later) is ∙ no_later tester t bytes l v w c up inbox nothing;
           tick = ap (λ (g : Gateway). g.tick) is;
         }
 
@@ -292,8 +293,8 @@ module _ (tester : ℕ) (plan : UnitPlan) (found : ℕ → Bool) (talk : Talk) (
       is_cons (y ∷ ys) = true
 
   -- it was not delivered
-  refused_awaits : (r : RefusedNow) (fo vo wo : Option ControlUnit) → KeptIn fo vo → KeptIn vo wo → IsNacked r.code vo wo → on_way tester plan.address l.inbox l.rest w.gateway ≡ Unheard r.code ∷ [] → IsAwaitCounted plan found now (held_of plan.address w.gateway.held) (on_way tester plan.address l.inbox l.rest w.gateway) fo wo
-  refused_awaits r None None None k k2 three way = way ∙ ap (λ (n : ℕ). Unheard n ∷ []) three
+  refused_awaits : (r : RefusedNow) (fo vo wo : Option ControlUnit) → KeptIn fo vo → KeptIn vo wo → IsNacked r.code vo wo → on_way tester plan.address l.inbox l.rest w.gateway ≡ Nacked r.code ∷ [] → IsAwaitCounted plan found now (held_of plan.address w.gateway.held) (on_way tester plan.address l.inbox l.rest w.gateway) fo wo
+  refused_awaits r None None None k k2 three way = way ∙ ap (λ (n : ℕ). Nacked n ∷ []) three
   refused_awaits r None None (Some x) k k2 count way = absurd k2
   refused_awaits r None (Some u) wo k k2 count way = absurd k
   refused_awaits r (Some f) None wo k k2 count way = absurd k
@@ -349,7 +350,7 @@ module _ (tester : ℕ) (plan : UnitPlan) (found : ℕ → Bool) (talk : Talk) (
     raised_counts Busies cs late stalled grows b is = let at : new.counts.busy ≡ one_more cs.busy = ap (λ (x : Counts). x.busy) is in omega (arith, at, b)
 
     -- a step with these counts, however the answer came
-    obeyed_counted : (held : List HeldAnswer) (way : List Spoken) (n : ℕ) → SameButCounts (obedient old asked).0 new → way ≡ pending_words (sid_of asked) n ++ final_word (Some (obedient old asked).1) → (0 + n ≤ 200) ⊎ Rose f.counts.stalled new.counts.stalled
+    obeyed_counted : (held : List HeldAnswer) (way : List UnitMessage) (n : ℕ) → SameButCounts (obedient old asked).0 new → way ≡ pending_messages (sid_of asked) n ++ final_message (Some (obedient old asked).1) → (0 + n ≤ 200) ⊎ Rose f.counts.stalled new.counts.stalled
         → ((one : HeldAnswer) → held ≡ one ∷ [] → (0 + n ≤ one.pending) × ((one.pending ≤ 200) ⊎ Rose f.counts.stalled new.counts.stalled)) → IsHeardCounted plan found now f held way new
     obeyed_counted held way n same is few holding = record {
       before = old;

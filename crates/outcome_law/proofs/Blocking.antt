@@ -24,7 +24,7 @@ use Rattle.outcome_law.specs.Keeping.{KeptCompleteLaw}
 use Rattle.outcome_law.specs.Law.{last_vehicle}
 use Rattle.outcome_law.specs.LinkCounting.{faults_of}
 use Rattle.outcome_law.specs.OutcomeCounting.{AreOutcomesCounted}
-use Rattle.outcome_law.specs.Outcomes.{IsBlockedBy, IsOutcomeCaused, IsUntroubled, AllMatch, LacksMemory, CompleteLaw}
+use Rattle.outcome_law.specs.Outcomes.{IsBlockedBy, IsOutcomeCaused, IsCalmOutcome, AllMatch, LacksMemory, CompleteLaw}
 
 -- ------ numbers below a bound, each once
 all_apart : (n : ℕ) (vs : List ℕ) → Each (λ v. n ≡ v → ⊥) vs → AllByRecursion (λ y. (n == y) ≡ false) vs
@@ -81,7 +81,7 @@ module _ (rules : LinkRules) (P : List UnitPlan) (found : Entry → Bool) (c : C
   cause_of : (n : ℕ) (o : Outcome) → n < count_of P → (c.slots n).outcome ≡ Some o → IsOutcomeCaused rules (plan_of P n) found c n failed faults first now o
   cause_of n o lt at = counted_law rules P found c failed faults first now t0 n o lt units outcomes at
 
-  untroubled_of : (n : ℕ) (o : Outcome) → n < count_of P → (c.slots n).outcome ≡ Some o → IsUntroubled o
+  untroubled_of : (n : ℕ) (o : Outcome) → n < count_of P → (c.slots n).outcome ≡ Some o → IsCalmOutcome o
   untroubled_of n o lt at = kept_untroubled rules P found c failed faults first now t0 n units fine none_failed calm (matching n lt) o (cause_of n o lt at)
 
   not_complete : (n : ℕ) (o : Outcome) → n < count_of P → (c.slots n).outcome ≡ Some o → c.recorded (entry.Complete n) ≡ false → o ≡ Complete → ⊥
@@ -89,7 +89,7 @@ module _ (rules : LinkRules) (P : List UnitPlan) (found : Entry → Bool) (c : C
 
   -- from a unit to the one that blocks it; vs are those that it stands before
   along : (fuel : ℕ) (vs : List ℕ) (n : ℕ) (o : Outcome) → n < count_of P → IsDistinct (λ a b. a == b) vs → Each (λ v. v < count_of P) vs → Each (StandsBefore P n) vs → count_of P ≤ fuel + length vs
-      → (c.slots n).outcome ≡ Some o → IsUntroubled o → IsOutcomeCaused rules (plan_of P n) found c n failed faults first now o → Ends o
+      → (c.slots n).outcome ≡ Some o → IsCalmOutcome o → IsOutcomeCaused rules (plan_of P n) found c n failed faults first now o → Ends o
   along fuel vs n Complete lt distinct below stands enough at is cause = inl refl
   along fuel vs n NoMemory lt distinct below stands enough at is cause = inr (record { unit = n; below = lt; none = at })
   along zero vs n (Blocked by) lt distinct below stands enough at is cause =

@@ -17,13 +17,14 @@ use Rattle.run_model.specs.Connected.{IsConnected}
 use Rattle.run_model.specs.Link.{Link, quiet_link}
 use Rattle.run_model.specs.Script.{bytes_at}
 use Rattle.run_model.specs.Talk.{Talk}
-use Rattle.run_model.specs.Ways.{Spoken, Reply, IsWhole, words_from, words_in, words_later, words_held, on_way, ascends_for, is_empty_words}
+use Rattle.run_model.specs.Ways.{UnitMessage, Reply, AreWholeFrames, messages_from, messages_in, messages_later, messages_held, on_way, ascends_for, has_no_message}
 use Rattle.uds_codec.specs.Request.{sid_of}
 use Rattle.unit_model.proofs.Units.{SameState, SameIn, raised_same}
 use Rattle.unit_model.specs.Feed.{tester_of}
 use Rattle.unit_model.specs.Poll.{bytes_due, not_due, is_turn, raises, raised_by, ticked}
 use Rattle.unit_model.specs.Step.{is_late, raise_if, pending_bytes}
-use Rattle.unit_model.specs.Unit.{ControlUnit, one_more}
+use Rattle.flash_base.specs.Counts.{one_more}
+use Rattle.unit_model.specs.Unit.{ControlUnit}
 use Rattle.unit_model.specs.Vehicle.{HeldAnswer, Gateway, Vehicle, unit_at}
 use Rattle.outcome_law.proofs.Growing.{VehicleGrows, ticks_up, raises_at}
 use Rattle.outcome_law.proofs.Waiting.{IsAwaited, awaits_on, timed_on, heard_on}
@@ -96,32 +97,32 @@ raised_rose b first old new on grows is = let at : new ≡ one_more old = is ∙
 
 -- ------ the ticks at which messages are due
 module _ (tester a : ℕ) where
-  abbrev words : List ℕ → List Spoken
-  words bytes = words_in tester a (stream_of bytes).frames
+  abbrev words : List ℕ → List UnitMessage
+  words bytes = messages_in tester a (stream_of bytes).frames
 
-  words_front : (q more : List ℕ) → IsWhole q → words (q ++ more) ≡ words q ++ words more
-  words_front q more w = ap (λ (s : Stream). words_in tester a s.frames) (stream_more q more w) ∙ words_more tester a (stream_of q).frames (stream_of more).frames
+  words_front : (q more : List ℕ) → AreWholeFrames q → words (q ++ more) ≡ words q ++ words more
+  words_front q more w = ap (λ (s : Stream). messages_in tester a s.frames) (stream_more q more w) ∙ words_more tester a (stream_of q).frames (stream_of more).frames
 
-  pub dues_none : (queue : List (ℕ × List ℕ)) → words_later tester a queue ≡ [] → dues tester a queue ≡ []
+  pub dues_none : (queue : List (ℕ × List ℕ)) → messages_later tester a queue ≡ [] → dues tester a queue ≡ []
   dues_none [] e = refl
   dues_none (q ∷ qs) e =
-      let here : is_empty_words (words q.1) ≡ true = ap is_empty_words (left_nil (words q.1) (words_later tester a qs) e) in
-      rw here (dues_none qs (right_nil (words q.1) (words_later tester a qs) e))
+      let here : has_no_message (words q.1) ≡ true = ap has_no_message (left_nil (words q.1) (messages_later tester a qs) e) in
+      rw here (dues_none qs (right_nil (words q.1) (messages_later tester a qs) e))
 
-  empty_is : (ws : List Spoken) → is_empty_words ws ≡ true → ws ≡ []
+  empty_is : (ws : List UnitMessage) → has_no_message ws ≡ true → ws ≡ []
   empty_is [] e = refl
   empty_is (x ∷ xs) e = absurd (false≢true e)
 
-  pub none_dues : (queue : List (ℕ × List ℕ)) → dues tester a queue ≡ [] → words_later tester a queue ≡ []
+  pub none_dues : (queue : List (ℕ × List ℕ)) → dues tester a queue ≡ [] → messages_later tester a queue ≡ []
   none_dues [] e = refl
-  none_dues (q ∷ qs) e = elim (cases_Bool (is_empty_words (words q.1))) [
+  none_dues (q ∷ qs) e = elim (cases_Bool (has_no_message (words q.1))) [
     | inl f ↦ (λ i. empty_is (words q.1) f i ++ none_dues qs (rw f at e) i)
     | inr f ↦ absurd (some_cons q.0 (dues tester a qs) (rw f at e))
   ]
 
   all_after : (tick from : ℕ) (queue : List (ℕ × List ℕ)) → tick < from → ascends_for tester a from queue ≡ true → dues tester a (not_due tick queue) ≡ dues tester a queue
   all_after tick from [] lt up = refl
-  all_after tick from (q ∷ qs) lt up = elim (cases_Bool (is_empty_words (words q.1))) [
+  all_after tick from (q ∷ qs) lt up = elim (cases_Bool (has_no_message (words q.1))) [
     | inl e ↦
         let rest = all_after tick from qs lt (rw e at up) in
         elim (cases_Bool (nat_le q.0 tick)) [ inl d ↦ rw (d, e) rest | inr d ↦ rw d (rw e rest) ]
@@ -136,10 +137,10 @@ module _ (tester a : ℕ) where
   or_parts true y e = absurd (false≢true (sym e))
   or_parts false y e = (refl, e)
 
-  tick_dues : (tick p from : ℕ) (queue : List (ℕ × List ℕ)) → Each (λ q. IsWhole q.1) queue → ascends_for tester a from queue ≡ true → Each (λ d. tick < d) (dues tester a queue) → is_late p (dues tester a queue) ≡ false
+  tick_dues : (tick p from : ℕ) (queue : List (ℕ × List ℕ)) → Each (λ q. AreWholeFrames q.1) queue → ascends_for tester a from queue ≡ true → Each (λ d. tick < d) (dues tester a queue) → is_late p (dues tester a queue) ≡ false
       → (dues tester a (not_due (tick + 1) queue) ≡ dues tester a queue) ⊎ ((words (bytes_due (tick + 1) queue) ≡ [] → ⊥) × (is_late (tick + 1) (dues tester a (not_due (tick + 1) queue)) ≡ false))
   tick_dues tick p from [] whole up after late = inl refl
-  tick_dues tick p from (q ∷ qs) whole up after late = elim (cases_Bool (is_empty_words (words q.1))) [
+  tick_dues tick p from (q ∷ qs) whole up after late = elim (cases_Bool (has_no_message (words q.1))) [
     | inl e ↦
         let rest = tick_dues tick p from qs whole.1 (rw e at up) (rw e at after) (rw e at late) in
         elim (cases_Bool (nat_le q.0 (tick + 1))) [
@@ -158,7 +159,7 @@ module _ (tester a : ℕ) where
           | inl d ↦
               let is : q.0 ≡ tick + 1 = omega (arith, first, leb-true q.0 (tick + 1) d) in
               rw d (inr (
-                λ z. both_ways _ e (ap is_empty_words (left_nil (words q.1) (words (bytes_due (tick + 1) qs)) (sym (words_front q.1 (bytes_due (tick + 1) qs) whole.0) ∙ z))),
+                λ z. both_ways _ e (ap has_no_message (left_nil (words q.1) (words (bytes_due (tick + 1) qs)) (sym (words_front q.1 (bytes_due (tick + 1) qs) whole.0) ∙ z))),
                 elim (tick_dues tick q.0 q.0 qs whole.1 parts.1 after2.1 late2.1) [
                   | inl same ↦ ap (λ (ds : List ℕ). is_late (tick + 1) ds) same ∙ ap (λ (k : ℕ). is_late k (dues tester a qs)) (sym is) ∙ late2.1
                   | inr (some, on) ↦ on
@@ -172,14 +173,14 @@ module _ (tester a : ℕ) where
   after_tick tick [] = tt
   after_tick tick (q ∷ qs) = elim (cases_Bool (nat_le q.0 tick)) [
     | inl d ↦ rw d (after_tick tick qs)
-    | inr d ↦ rw d (elim (cases_Bool (is_empty_words (words q.1))) [
+    | inr d ↦ rw d (elim (cases_Bool (has_no_message (words q.1))) [
       | inl e ↦ rw e (after_tick tick qs)
       | inr e ↦ rw e (leb-false q.0 tick d, after_tick tick qs)
     ])
   ]
 
 -- ------ one unit
-no_words : (ws : List Spoken) → length ws ≡ 0 → ws ≡ []
+no_words : (ws : List UnitMessage) → length ws ≡ 0 → ws ≡ []
 no_words [] e = refl
 no_words (w ∷ ws) e = absurd (omega (arith, e))
 
@@ -190,8 +191,8 @@ module _ (tester : ℕ) (plan : UnitPlan) (found : ℕ → Bool) (t0 : ℕ) (t :
   abbrev next : Gateway
   next = (ticked v).gateway
 
-  abbrev D : List Spoken
-  D = words_in tester plan.address (stream_of (bytes_due (v.gateway.tick + 1) v.gateway.later)).frames
+  abbrev D : List UnitMessage
+  D = messages_in tester plan.address (stream_of (bytes_due (v.gateway.tick + 1) v.gateway.later)).frames
 
   grows : VehicleGrows v (ticked v)
   grows = ticks_up v (ticked v) (record { none = none; becomes = refl })
@@ -199,10 +200,10 @@ module _ (tester : ℕ) (plan : UnitPlan) (found : ℕ → Bool) (t0 : ℕ) (t :
   same : SameIn (unit_at v.units plan.address) (unit_at (ticked v).units plan.address)
   same = raised_same (v.gateway.tick + 1) v.gateway.held v.units plan.address
 
-  due : D ++ words_later tester plan.address (not_due (v.gateway.tick + 1) v.gateway.later) ≡ words_later tester plan.address v.gateway.later
+  due : D ++ messages_later tester plan.address (not_due (v.gateway.tick + 1) v.gateway.later) ≡ messages_later tester plan.address v.gateway.later
   due = due_words tester plan.address (v.gateway.tick + 1) v.gateway.tick v.gateway.later c.later order
 
-  later_on : words_later tester plan.address v.gateway.later ≡ [] → words_later tester plan.address next.later ≡ []
+  later_on : messages_later tester plan.address v.gateway.later ≡ [] → messages_later tester plan.address next.later ≡ []
   later_on e = right_nil D _ (due ∙ e)
 
   -- ------ nothing of the unit is held
@@ -216,20 +217,20 @@ module _ (tester : ℕ) (plan : UnitPlan) (found : ℕ → Bool) (t0 : ℕ) (t :
     -- where nothing has come then, nothing had come, and nothing was due
     free_come : come tester plan.address l.inbox l.rest next ≡ [] → (come tester plan.address l.inbox l.rest v.gateway ≡ []) × (D ≡ [])
     free_come e =
-        let n : length (come tester plan.address l.inbox l.rest v.gateway) + (length (words_later tester plan.address v.gateway.later) + 0) ≡ length (come tester plan.address l.inbox l.rest next) + (length (words_later tester plan.address next.later) + 0) = sizes in
-        let m : length D + length (words_later tester plan.address next.later) ≡ length (words_later tester plan.address v.gateway.later) = sym (length-append D _) ∙ ap (λ (ws : List Spoken). length ws) due in
-        let z : length (come tester plan.address l.inbox l.rest next) ≡ 0 = ap (λ (ws : List Spoken). length ws) e in
+        let n : length (come tester plan.address l.inbox l.rest v.gateway) + (length (messages_later tester plan.address v.gateway.later) + 0) ≡ length (come tester plan.address l.inbox l.rest next) + (length (messages_later tester plan.address next.later) + 0) = sizes in
+        let m : length D + length (messages_later tester plan.address next.later) ≡ length (messages_later tester plan.address v.gateway.later) = sym (length-append D _) ∙ ap (λ (ws : List UnitMessage). length ws) due in
+        let z : length (come tester plan.address l.inbox l.rest next) ≡ 0 = ap (λ (ws : List UnitMessage). length ws) e in
         (no_words _ (omega (arith, n, m, z)), no_words _ (omega (arith, n, m, z)))
       where
-        size : (g : Gateway) → held_of plan.address g.held ≡ [] → length (on_way tester plan.address l.inbox l.rest g) ≡ length (come tester plan.address l.inbox l.rest g) + (length (words_later tester plan.address g.later) + 0)
+        size : (g : Gateway) → held_of plan.address g.held ≡ [] → length (on_way tester plan.address l.inbox l.rest g) ≡ length (come tester plan.address l.inbox l.rest g) + (length (messages_later tester plan.address g.later) + 0)
         size g h =
-            ap (λ (ws : List Spoken). length ws) (sym (append_assoc (words_from plan.address l.inbox) (words_in tester plan.address (stream_of (l.rest ++ g.ready)).frames) (words_later tester plan.address g.later ++ words_held plan.address g.held)))
-            ∙ length-append (come tester plan.address l.inbox l.rest g) (words_later tester plan.address g.later ++ words_held plan.address g.held)
-            ∙ ap (λ (n : ℕ). length (come tester plan.address l.inbox l.rest g) + n) (length-append (words_later tester plan.address g.later) (words_held plan.address g.held)
-            ∙ ap (λ (ws : List Spoken). length (words_later tester plan.address g.later) + length ws) (held_bodies plan.address g.held ∙ ap bodies h))
+            ap (λ (ws : List UnitMessage). length ws) (sym (append_assoc (messages_from plan.address l.inbox) (messages_in tester plan.address (stream_of (l.rest ++ g.ready)).frames) (messages_later tester plan.address g.later ++ messages_held plan.address g.held)))
+            ∙ length-append (come tester plan.address l.inbox l.rest g) (messages_later tester plan.address g.later ++ messages_held plan.address g.held)
+            ∙ ap (λ (n : ℕ). length (come tester plan.address l.inbox l.rest g) + n) (length-append (messages_later tester plan.address g.later) (messages_held plan.address g.held)
+            ∙ ap (λ (ws : List UnitMessage). length (messages_later tester plan.address g.later) + length ws) (held_bodies plan.address g.held ∙ ap bodies h))
 
-        sizes : length (come tester plan.address l.inbox l.rest v.gateway) + (length (words_later tester plan.address v.gateway.later) + 0) ≡ length (come tester plan.address l.inbox l.rest next) + (length (words_later tester plan.address next.later) + 0)
-        sizes = sym (size v.gateway empty) ∙ ap (λ (ws : List Spoken). length ws) (sym free_way) ∙ size next free_held
+        sizes : length (come tester plan.address l.inbox l.rest v.gateway) + (length (messages_later tester plan.address v.gateway.later) + 0) ≡ length (come tester plan.address l.inbox l.rest next) + (length (messages_later tester plan.address next.later) + 0)
+        sizes = sym (size v.gateway empty) ∙ ap (λ (ws : List UnitMessage). length ws) (sym free_way) ∙ size next free_held
 
     free_time : (sent : ℕ) → IsOnTime tester plan.address sent l.inbox l.rest v.gateway → IsOnTime tester plan.address sent l.inbox l.rest next
     free_time sent on = elim (tick_dues tester plan.address v.gateway.tick on.last v.gateway.tick v.gateway.later c.later order on.after on.next) [
@@ -265,10 +266,10 @@ module _ (tester : ℕ) (plan : UnitPlan) (found : ℕ → Bool) (t0 : ℕ) (t :
     abbrev now : ℕ
     now = v.gateway.tick + 1
 
-    abbrev A : List Spoken
-    A = words_from plan.address l.inbox ++ words_in tester plan.address (stream_of l.rest).frames
+    abbrev A : List UnitMessage
+    A = messages_from plan.address l.inbox ++ messages_in tester plan.address (stream_of l.rest).frames
 
-    ways : (on_way tester plan.address l.inbox l.rest next ≡ A ++ (turn_word now one ++ (Reply one.body ∷ []))) × (on_way tester plan.address l.inbox l.rest v.gateway ≡ A ++ (Reply one.body ∷ [])) × (words_later tester plan.address next.later ≡ [])
+    ways : (on_way tester plan.address l.inbox l.rest next ≡ A ++ (turn_word now one ++ (Reply one.body ∷ []))) × (on_way tester plan.address l.inbox l.rest v.gateway ≡ A ++ (Reply one.body ∷ [])) × (messages_later tester plan.address next.later ≡ [])
     ways = way_lone tester plan.address l.inbox l v.gateway c none order one tester_is lone.held lone.later
 
     lone_held : held_of plan.address next.held ≡ turned now one ∷ []
@@ -280,23 +281,23 @@ module _ (tester : ℕ) (plan : UnitPlan) (found : ℕ → Bool) (t0 : ℕ) (t :
     -- where nothing has come then, nothing had come, and it was not its turn
     lone_come : come tester plan.address l.inbox l.rest next ≡ [] → (A ≡ []) × (turn_word now one ≡ [])
     lone_come e =
-        let n : length A + (length (turn_word now one) + 1) ≡ length (come tester plan.address l.inbox l.rest next) + (length (words_later tester plan.address next.later) + 1) = sizes in
-        let z : length (come tester plan.address l.inbox l.rest next) ≡ 0 = ap (λ (ws : List Spoken). length ws) e in
-        let y : length (words_later tester plan.address next.later) ≡ 0 = ap (λ (ws : List Spoken). length ws) ways.2 in
+        let n : length A + (length (turn_word now one) + 1) ≡ length (come tester plan.address l.inbox l.rest next) + (length (messages_later tester plan.address next.later) + 1) = sizes in
+        let z : length (come tester plan.address l.inbox l.rest next) ≡ 0 = ap (λ (ws : List UnitMessage). length ws) e in
+        let y : length (messages_later tester plan.address next.later) ≡ 0 = ap (λ (ws : List UnitMessage). length ws) ways.2 in
         (no_words _ (omega (arith, n, z, y)), no_words _ (omega (arith, n, z, y)))
       where
-        size : length (on_way tester plan.address l.inbox l.rest next) ≡ length (come tester plan.address l.inbox l.rest next) + (length (words_later tester plan.address next.later) + 1)
+        size : length (on_way tester plan.address l.inbox l.rest next) ≡ length (come tester plan.address l.inbox l.rest next) + (length (messages_later tester plan.address next.later) + 1)
         size =
-            ap (λ (ws : List Spoken). length ws) (sym (append_assoc (words_from plan.address l.inbox) (words_in tester plan.address (stream_of (l.rest ++ next.ready)).frames) (words_later tester plan.address next.later ++ words_held plan.address next.held)))
-            ∙ length-append (come tester plan.address l.inbox l.rest next) (words_later tester plan.address next.later ++ words_held plan.address next.held)
-            ∙ ap (λ (n : ℕ). length (come tester plan.address l.inbox l.rest next) + n) (length-append (words_later tester plan.address next.later) (words_held plan.address next.held)
-            ∙ ap (λ (ws : List Spoken). length (words_later tester plan.address next.later) + length ws) (held_bodies plan.address next.held ∙ ap bodies lone_held))
+            ap (λ (ws : List UnitMessage). length ws) (sym (append_assoc (messages_from plan.address l.inbox) (messages_in tester plan.address (stream_of (l.rest ++ next.ready)).frames) (messages_later tester plan.address next.later ++ messages_held plan.address next.held)))
+            ∙ length-append (come tester plan.address l.inbox l.rest next) (messages_later tester plan.address next.later ++ messages_held plan.address next.held)
+            ∙ ap (λ (n : ℕ). length (come tester plan.address l.inbox l.rest next) + n) (length-append (messages_later tester plan.address next.later) (messages_held plan.address next.held)
+            ∙ ap (λ (ws : List UnitMessage). length (messages_later tester plan.address next.later) + length ws) (held_bodies plan.address next.held ∙ ap bodies lone_held))
 
-        sizes : length A + (length (turn_word now one) + 1) ≡ length (come tester plan.address l.inbox l.rest next) + (length (words_later tester plan.address next.later) + 1)
-        sizes = sym (length-append A (turn_word now one ++ (Reply one.body ∷ [])) ∙ ap (λ (n : ℕ). length A + n) (length-append (turn_word now one) (Reply one.body ∷ []))) ∙ ap (λ (ws : List Spoken). length ws) (sym ways.0) ∙ size
+        sizes : length A + (length (turn_word now one) + 1) ≡ length (come tester plan.address l.inbox l.rest next) + (length (messages_later tester plan.address next.later) + 1)
+        sizes = sym (length-append A (turn_word now one ++ (Reply one.body ∷ [])) ∙ ap (λ (n : ℕ). length A + n) (length-append (turn_word now one) (Reply one.body ∷ []))) ∙ ap (λ (ws : List UnitMessage). length ws) (sym ways.0) ∙ size
 
     was_come : A ≡ [] → come tester plan.address l.inbox l.rest v.gateway ≡ []
-    was_come e = ap (λ (x : List ℕ). words_from plan.address l.inbox ++ words_in tester plan.address (stream_of (l.rest ++ x)).frames) none ∙ ap (λ (x : List ℕ). words_from plan.address l.inbox ++ words_in tester plan.address (stream_of x).frames) (append-nil l.rest) ∙ e
+    was_come e = ap (λ (x : List ℕ). messages_from plan.address l.inbox ++ messages_in tester plan.address (stream_of (l.rest ++ x)).frames) none ∙ ap (λ (x : List ℕ). messages_from plan.address l.inbox ++ messages_in tester plan.address (stream_of x).frames) (append-nil l.rest) ∙ e
 
     -- 1,000 ticks of holding are counted
     early_or : (f u w : ControlUnit) → unit_at first.units plan.address ≡ Some f → unit_at v.units plan.address ≡ Some u → unit_at (ticked v).units plan.address ≡ Some w → Kept f u → (one.every < 1000) ⊎ (v.gateway.tick < one.from + 1000)

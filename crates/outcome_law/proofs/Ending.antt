@@ -11,7 +11,8 @@ use Rattle.flash_plan.specs.declared.outcome.Outcome.{Outcome}
 use Rattle.flash_plan.specs.declared.outcome.Outcome.TheVariants.{Complete, IdentMismatch, Refused, BadAnswer, CheckFailed, Undelivered, NoAnswer, PendingLimit, BusyLimit, LinkLost, LinkRefused, DiskFault, NoMemory, Blocked}
 use Rattle.flash_plan.specs.declared.unit.LinkRules.{LinkRules}
 use Rattle.flash_plan.specs.declared.unit.UnitPlan.{UnitPlan}
-use Rattle.run_model.specs.Link.{Link, Phase, Down, Fresh, Waits, Up, Denied}
+use Rattle.run_model.specs.Link.{Link, Phase}
+use Rattle.run_model.specs.Link as phase
 use Rattle.run_model.specs.Script.{Place, AtIdent, AtBegin, AtProgram, AtSeed, AtKey, AtErase, AtDownload, AtBlock, AtExit, AtCheck, AtMark, AtFinish, AtReset, AtDone, AtEnd}
 use Rattle.run_model.specs.Talk.{Talk, talk_lost, keeps_on_loss}
 use Rattle.unit_model.specs.Vehicle.{Vehicle}
@@ -345,11 +346,11 @@ stop_on rules failed failed2 faults more first v w (Blocked a) on grow is = absu
 stop_on rules failed failed2 faults more first v w NoMemory on grow is = absurd is
 
 refused_counted : (rules : LinkRules) (failed : Bool) (faults losses : ℕ) (first w : Vehicle) (p : Phase) → losses ≤ rules.relinks → IsPhaseCounted first.gateway.denied w.gateway.denied p → StopCounted rules failed faults first w losses (refused_stop p)
-refused_counted rules failed faults losses first w Down few is = few
-refused_counted rules failed faults losses first w Fresh few is = few
-refused_counted rules failed faults losses first w Waits few is = few
-refused_counted rules failed faults losses first w Up few is = few
-refused_counted rules failed faults losses first w (Denied code) few is = is
+refused_counted rules failed faults losses first w phase.Down few is = few
+refused_counted rules failed faults losses first w phase.Dialed few is = few
+refused_counted rules failed faults losses first w phase.Asked few is = few
+refused_counted rules failed faults losses first w phase.Up few is = few
+refused_counted rules failed faults losses first w (phase.Refused code) few is = is
 
 pub stop_step : (rules : LinkRules) (e : Event) (l l2 : Link) (s : Option Outcome) (failed failed2 : Bool) (faults more : ℕ) (first v w : Vehicle) → Steps l l2 → VehicleGrows v w → (failed ≡ true → failed2 ≡ true) → (is_disk_failure e ≡ true → failed2 ≡ true)
     → StopCounted rules failed faults first v l.losses s → IsLinkCounted l2 (faults + more) first w → StopCounted rules failed2 (faults + more) first w l2.losses (stop_after s e rules l2)

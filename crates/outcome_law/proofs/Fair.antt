@@ -7,7 +7,7 @@ use Rattle.std.proofs.lemmas.List.{append-nil}
 use Rattle.std.proofs.lemmas.List.Elements.{Contains-append_right}
 use Rattle.sha2.proofs.Facts256.{length-sha256}
 use Rattle.sha2.specs.Sha256.{sha256}
-use Rattle.flash_base.specs.ByteMaps.{ByteMap, byte_at, byte_or_0, has_each, bytes_of}
+use Rattle.flash_base.specs.ByteMaps.{MemoryMap, byte_at, byte_or_0, has_each, bytes_of}
 use Rattle.flash_base.specs.Lists.{Each, same_bytes}
 use Rattle.flash_base.specs.Numbers.{big_endian, number_of, number2}
 use Rattle.flash_base.specs.declared.unit.KeyRule.{KeyRule}
@@ -19,7 +19,7 @@ use Rattle.flash_plan.specs.declared.unit.Segment.{Segment}
 use Rattle.flash_plan.specs.declared.unit.UnitPlan.{UnitPlan}
 use Rattle.flash_plan.specs.declared.unit.Wanted.{Wanted}
 use Rattle.uds_codec.proofs.Numbers.{big_number}
-use Rattle.uds_codec.specs.Answer.{Verdict, Later, Again, Refusal, Good, Bad_status, Strange, judge, form_of, form_in, seed_form, block_form}
+use Rattle.uds_codec.specs.Answer.{Verdict, Pending, Busy, Refusal, Accepted, BadStatus, Malformed, judge, form_of, form_in, seed_form, block_form}
 use Rattle.uds_codec.specs.Key.{key_of, level_of, all_zero}
 use Rattle.uds_codec.specs.Request.{Range, range_of, request_of, sid_of}
 use Rattle.uds_codec.specs.declared.request.Request.{Request}
@@ -55,19 +55,19 @@ not_value (v ∷ vs) value e (k, lt, is) = at (λ later. not_value vs value (or_
     at again zero lt is = both_ways _ (or_parts _ _ e).0 (ap (λ (x : List ℕ). same_bytes x value) is ∙ same_self value)
     at again (suc k) lt is = again (k, omega (arith, lt), is)
 
-pub room_held : (at n : ℕ) (m : ByteMap) → ((k : ℕ) → k < n → is_some (byte_at m (at + k)) ≡ true) → has_each at n m ≡ true
+pub room_held : (at n : ℕ) (m : MemoryMap) → ((k : ℕ) → k < n → is_some (byte_at m (at + k)) ≡ true) → has_each at n m ≡ true
 room_held at zero m has = refl
 room_held at (suc n) m has =
     let e : at ≡ at + 0 = omega arith in
     and_from _ _ (ap (λ (a : ℕ). is_some (byte_at m a)) e ∙ has 0 (omega arith))
     (room_held (at + 1) n m (λ k lt. (let f : at + 1 + k ≡ at + suc k = omega arith in ap (λ (a : ℕ). is_some (byte_at m a)) f) ∙ has (suc k) (omega (arith, lt))))
 
-room_of : (at n : ℕ) (m : ByteMap) → has_each at n m ≡ true → (k : ℕ) → k < n → is_some (byte_at m (at + k)) ≡ true
+room_of : (at n : ℕ) (m : MemoryMap) → has_each at n m ≡ true → (k : ℕ) → k < n → is_some (byte_at m (at + k)) ≡ true
 room_of at zero m all k lt = absurd (omega (arith, lt))
 room_of at (suc n) m all zero lt = ap (λ (a : ℕ). is_some (byte_at m a)) (omega arith) ∙ (and_parts _ _ all).0
 room_of at (suc n) m all (suc k) lt = ap (λ (a : ℕ). is_some (byte_at m a)) (omega arith) ∙ room_of (at + 1) n m (and_parts _ _ all).1 k (omega (arith, lt))
 
-bytes_held : (at : ℕ) (xs : List ℕ) (m : ByteMap) → HoldsBytes at xs m → bytes_of at (length xs) m ≡ xs
+bytes_held : (at : ℕ) (xs : List ℕ) (m : MemoryMap) → HoldsBytes at xs m → bytes_of at (length xs) m ≡ xs
 bytes_held at [] m holds = refl
 bytes_held at (x ∷ xs) m holds =
     let first : byte_at m at ≡ Some x = (let e : at ≡ at + 0 = omega arith in ap (byte_at m) e) ∙ holds 0 (omega arith) in
@@ -99,12 +99,12 @@ IsFairStatus plan found first place = ((routine_at plan place).0 ≡ 65281) × H
 
 -- found: the segments that were found marked; skipped: those that are left out now
 abbrev pub IsFair : UnitPlan → Bool → (ℕ → Bool) → (ℕ → Bool) → ControlUnit → Place → ControlUnit → Verdict → Type 0
-IsFair plan begun found skipped first place w Later = ⊥
-IsFair plan begun found skipped first place w Again = ⊥
+IsFair plan begun found skipped first place w Pending = ⊥
+IsFair plan begun found skipped first place w Busy = ⊥
 IsFair plan begun found skipped first place w (Refusal nrc) = Unfit plan begun first (Refused (sid_of (bytes_at plan place)) nrc)
-IsFair plan begun found skipped first place w (Good rest) = IsFairNext plan begun first w (place_next plan skipped place rest)
-IsFair plan begun found skipped first place w (Bad_status status) = IsFairStatus plan found first place
-IsFair plan begun found skipped first place w Strange = Unfit plan begun first (BadAnswer (sid_of (bytes_at plan place)))
+IsFair plan begun found skipped first place w (Accepted rest) = IsFairNext plan begun first w (place_next plan skipped place rest)
+IsFair plan begun found skipped first place w (BadStatus status) = IsFairStatus plan found first place
+IsFair plan begun found skipped first place w Malformed = Unfit plan begun first (BadAnswer (sid_of (bytes_at plan place)))
 
 level_not : (rule : KeyRule) (level : ℕ) → has_level rule level ≡ false → level_of rule ≡ Some level → ⊥
 level_not Free level e is = false≢true (ap (is_some {T = ℕ}) is)
@@ -297,7 +297,7 @@ module _ (plan : UnitPlan) (ok : IsAcceptedUnit plan) (begun : Bool) (found skip
 
   -- m: what the bytes say, of a unit with block number n
   in_bytes : (c : Cursor) (w : ControlUnit) (n m : ℕ) (bytes : List ℕ) → first.block ≡ n → w.block ≡ n → number_of bytes ≡ m → m ≤ n → (m < 3 → n < 3)
-      → IsFair plan begun found skipped first (AtDownload c) w (if nat_le 3 (number_of bytes) then Good bytes else Strange)
+      → IsFair plan begun found skipped first (AtDownload c) w (if nat_le 3 (number_of bytes) then Accepted bytes else Malformed)
   in_bytes c w n m bytes is block said few low = elim (cases_Bool (nat_le 3 (number_of bytes))) [
     | inl e ↦ rw e (blocks_on c (record { sent = []; rest = c.now.body; counter = 1; limit = min (number_of bytes) 65535 }) w (omega (arith, said, few, block)))
     | inr e ↦ rw e (odd_block (

@@ -15,7 +15,7 @@ use Rattle.run_model.proofs.Replies.{queue_reply, queue_replies}
 use Rattle.run_model.proofs.Whole.{stream_one, stream_more, whole_append, whole_none, message_whole, message_frames, ack_whole, ack_frames, nack_whole, nack_frames}
 use Rattle.run_model.specs.Connected.{IsConnected}
 use Rattle.run_model.specs.Link.{Link, quiet_link}
-use Rattle.run_model.specs.Ways.{IsWhole}
+use Rattle.run_model.specs.Ways.{AreWholeFrames}
 use Rattle.unit_model.specs.Feed.{Activation, Accepts, Denies, Delays, Ignores, activation, tester_of}
 use Rattle.unit_model.specs.Poll.{bytes_due, not_due, alive_bytes, has_tick, is_turn, pending_of, ticked_gateway}
 use Rattle.unit_model.specs.Step.{CanSend, pending_bytes}
@@ -66,7 +66,7 @@ module _ (old new : ℕ → ℕ) where
 
   -- whole frames, all fair
   pub record IsFor (bytes : List ℕ) : Type 0 where
-    pub whole : IsWhole bytes
+    pub whole : AreWholeFrames bytes
     pub all : Each (IsFairFrame old new) (stream_of bytes).frames
 
   by_frames : (bytes : List ℕ) (fs : List Frame) → (stream_of bytes).frames ≡ fs → Each Fair fs → Each Fair (stream_of bytes).frames
@@ -144,7 +144,7 @@ module _ (old new : ℕ → ℕ) where
     | inr e ↦ rw e (pending_for tick t hs)
   ]
 
-  zip_for : (queue : List (ℕ × List ℕ)) → Each (λ q. IsWhole q.1) queue → Each (λ q. Each (IsFairFrame old new) (stream_of q.1).frames) queue → Each (λ q. IsFor q.1) queue
+  zip_for : (queue : List (ℕ × List ℕ)) → Each (λ q. AreWholeFrames q.1) queue → Each (λ q. Each (IsFairFrame old new) (stream_of q.1).frames) queue → Each (λ q. IsFor q.1) queue
   zip_for [] a b = tt
   zip_for (q ∷ qs) a b = (record { whole = a.0; all = b.0 }, zip_for qs a.1 b.1)
 

@@ -13,13 +13,14 @@ use Rattle.flash_plan.specs.declared.unit.LinkRules.{LinkRules}
 use Rattle.flash_plan.specs.declared.unit.Segment.{Segment}
 use Rattle.flash_plan.specs.declared.unit.UnitPlan.{UnitPlan}
 use Rattle.flash_plan.specs.declared.unit.Wanted.{Wanted}
-use Rattle.uds_codec.specs.Answer.{Verdict, Later, Again, Refusal, Good, Bad_status, Strange, judge}
+use Rattle.uds_codec.specs.Answer.{Verdict, Pending, Busy, Refusal, Accepted, BadStatus, Malformed, judge}
 use Rattle.uds_codec.specs.Key.{all_zero}
 use Rattle.run_model.specs.Entries.{with_mark}
-use Rattle.run_model.specs.Link.{Link, Phase, Down, Fresh, Waits, Up, Denied, first_word}
+use Rattle.run_model.specs.Link.{Link, Phase, first_message}
+use Rattle.run_model.specs.Link as phase
 use Rattle.run_model.specs.Script.{Place, AtIdent, AtBegin, AtProgram, AtSeed, AtKey, AtErase, AtDownload, AtBlock, AtExit, AtCheck, AtMark, AtFinish, AtReset, AtDone, AtEnd, bytes_at, idents_from, segments_from, after_program, start_place, has_value, is_empty, after_block, place_next, place_marked}
 use Rattle.run_model.specs.Talk.{Talk, talk_lost, talk_judged, talk_takes, talk_quiet, keeps_on_loss}
-use Rattle.run_model.specs.Ways.{Spoken, Reply, Unheard}
+use Rattle.run_model.specs.Ways.{UnitMessage, Reply, Nacked}
 use Rattle.bay_core.specs.Core.{Slot, Core, Halt, core_start, core_after, core_of, with_slot, slots_own, collects, heard_link, recorded_after, link_after, link_stop, refused_stop, stop_after, is_disk_failure}
 use Rattle.bay_core.specs.Legal.{is_allowed, is_legal}
 use Rattle.bay_core.specs.Stops.{has_failure}
@@ -102,17 +103,17 @@ marked_other marks (AtEnd outcome) is = is
 
 module _ (plan : UnitPlan) (tick : ℕ) (t : Talk) (is : IsOther t.place) where
   judged_other : (v : Verdict) → IsOther (talk_judged plan tick v t).place
-  judged_other Later = elim (cases_Bool (t.pendings == 200)) [ inl e ↦ rw e refl | inr e ↦ rw e is ]
-  judged_other Again = elim (cases_Bool (t.busies == 20)) [ inl e ↦ rw e refl | inr e ↦ rw e is ]
+  judged_other Pending = elim (cases_Bool (t.pendings == 200)) [ inl e ↦ rw e refl | inr e ↦ rw e is ]
+  judged_other Busy = elim (cases_Bool (t.busies == 20)) [ inl e ↦ rw e refl | inr e ↦ rw e is ]
   judged_other (Refusal nrc) = refl
-  judged_other (Good rest) = next_other plan t.marks t.place rest is
-  judged_other (Bad_status status) = refl
-  judged_other Strange = refl
+  judged_other (Accepted rest) = next_other plan t.marks t.place rest is
+  judged_other (BadStatus status) = refl
+  judged_other Malformed = refl
 
-  takes_other : (word : Option Spoken) → IsOther (talk_takes plan tick word t).place
+  takes_other : (word : Option UnitMessage) → IsOther (talk_takes plan tick word t).place
   takes_other None = is
   takes_other (Some (Reply body)) = judged_other (judge (bytes_at plan t.place) body)
-  takes_other (Some (Unheard code)) = refl
+  takes_other (Some (Nacked code)) = refl
 
   quiet_other : IsOther (talk_quiet plan tick t).place
   quiet_other = elim (cases_Bool (nat_le (t.since + 1000) tick)) [ inl e ↦ rw e refl | inr e ↦ rw e is ]
@@ -126,9 +127,9 @@ module _ (rules : LinkRules) (P : List UnitPlan) (c : Core) (is : (n : ℕ) → 
   by_slot u n s own = elim (cases_Bool (n == u)) [ inl e ↦ rw e own | inr e ↦ rw e (is n) ]
 
   collected_other : (u : ℕ) (h : Heard) → IsOther (collects P rules u h c.link (c.slots u).talk).place
-  collected_other u Kept = takes_other (plan_of P u) c.link.ticks (c.slots u).talk (is u) (first_word (plan_of P u).address c.link.inbox)
+  collected_other u Kept = takes_other (plan_of P u) c.link.ticks (c.slots u).talk (is u) (first_message (plan_of P u).address c.link.inbox)
   collected_other u Quiet = quiet_other (plan_of P u) (c.link.ticks + 1) (c.slots u).talk (is u)
-  collected_other u (Piece bytes) = takes_other (plan_of P u) c.link.ticks (c.slots u).talk (is u) (first_word (plan_of P u).address (heard_link rules P (Piece bytes) c.link).inbox)
+  collected_other u (Piece bytes) = takes_other (plan_of P u) c.link.ticks (c.slots u).talk (is u) (first_message (plan_of P u).address (heard_link rules P (Piece bytes) c.link).inbox)
   collected_other u Lost = is u
 
   own_other : (e : Event) (n : ℕ) → IsOther (slots_own rules P e c n).talk.place
@@ -170,11 +171,11 @@ none_fault : None ≡ Some DiskFault → ⊥
 none_fault is = false≢true (ap (is_some {T = Outcome}) is)
 
 refused_not : (p : Phase) → refused_stop p ≡ Some DiskFault → ⊥
-refused_not Down is = none_fault is
-refused_not Fresh is = none_fault is
-refused_not Waits is = none_fault is
-refused_not Up is = none_fault is
-refused_not (Denied code) is = not_fault (LinkRefused code) refl is
+refused_not phase.Down is = none_fault is
+refused_not phase.Dialed is = none_fault is
+refused_not phase.Asked is = none_fault is
+refused_not phase.Up is = none_fault is
+refused_not (phase.Refused code) is = not_fault (LinkRefused code) refl is
 
 link_not : (rules : LinkRules) (l : Link) → link_stop rules l ≡ Some DiskFault → ⊥
 link_not rules l = elim (cases_Bool (nat_lt rules.relinks l.losses)) [

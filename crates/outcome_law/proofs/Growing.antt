@@ -5,7 +5,7 @@ use Rattle.std.proofs.lemmas.Bool.{cases_Bool, cases_eq}
 use Rattle.doip_frame.specs.Frame.{Cut, Partial, Wrong, Whole, cut_frame, message_bytes}
 use Rattle.doip_frame.specs.declared.frame.Frame.{Frame}
 use Rattle.doip_frame.specs.declared.frame.Frame.TheVariants.{HeaderNack, Activate, Activated, AliveAsk, AliveSay, Message, Ack, Nack, Other}
-use Rattle.flash_base.specs.ByteMaps.{ByteMap, byte_at, fill, put, bytes_of, has_each}
+use Rattle.flash_base.specs.ByteMaps.{MemoryMap, byte_at, fill, put, bytes_of, has_each}
 use Rattle.flash_base.specs.Lists.{same_bytes}
 use Rattle.sha2.specs.Sha256.{sha256}
 use Rattle.uds_codec.specs.Key.{key_of}
@@ -14,10 +14,11 @@ use Rattle.uds_codec.specs.declared.request.Request.{Request}
 use Rattle.uds_codec.specs.declared.request.Request.TheVariants.{Session, Reset, ReadId, Seed, Key, Routine, Download, Upload, Transfer, Pull, Exit, Setting, Messages}
 use Rattle.unit_model.proofs.Steps.{step_frames}
 use Rattle.unit_model.proofs.Units.{hit, miss, with_same, with_other}
-use Rattle.unit_model.specs.Feed.{Word, with_unit, enqueue, queue_words, tester_of, Handles, HandlesMessage, HandlesAt, Refuses, Activation, Accepts, Denies, Delays, Ignores, activation, Nothing, AfterCut, FeedsAll, Feeds, FeedsHearing, FeedsPart}
+use Rattle.unit_model.specs.Feed.{DueReply, with_unit, enqueue, queue_replies, tester_of, Handles, HandlesMessage, HandlesAt, Refuses, Activation, Accepts, Denies, Delays, Ignores, activation, Nothing, AfterCut, FeedsAll, Feeds, FeedsHearing, FeedsPart}
 use Rattle.unit_model.specs.Poll.{Ticks, Carries, Misses, raises, raised_by}
 use Rattle.unit_model.specs.Step.{UnitStep, Obeys, Holds, Departs, Departure, Refuses as refuses, Odd, Fails, Mutes, Busies, Leaves, raised, raise_code, raise_if}
-use Rattle.unit_model.specs.Unit.{ControlUnit, OpenTransfer, Counts, one_more, obey, obey_in, obedient, read_in, has_level, key_in, is_locked, erase_in, check_in, finish_in, receive_in, give_in, exit_in, ident_of, is_repeat, block_number, in_default, in_session}
+use Rattle.flash_base.specs.Counts.{one_more}
+use Rattle.unit_model.specs.Unit.{ControlUnit, OpenTransfer, Counts, obey, obey_in, obedient, read_in, has_level, key_in, is_locked, erase_in, check_in, finish_in, receive_in, give_in, exit_in, ident_of, is_repeat, block_number, in_default, in_session}
 use Rattle.unit_model.specs.Vehicle.{HeldAnswer, Gateway, Vehicle, unit_at, redialed}
 use Rattle.unit_model.specs.declared.reply.UnitReply.{UnitReply}
 use Rattle.run_model.proofs.Hearing.{found_address}
@@ -179,11 +180,11 @@ make_then u w x f g = frame u x (g.idents ∙ f.idents) (g.key ∙ f.key) (g.che
 pub make_is : (u w x : ControlUnit) → x ≡ w → SameMake u w → SameMake u x
 make_is u w x is m = subst (λ (y : ControlUnit). SameMake u y) (sym is) m
 
-pub fill_domain : (at n x : ℕ) (m : ByteMap) (a : ℕ) → is_some (byte_at (fill at n x m) a) ≡ is_some (byte_at m a)
+pub fill_domain : (at n x : ℕ) (m : MemoryMap) (a : ℕ) → is_some (byte_at (fill at n x m) a) ≡ is_some (byte_at m a)
 fill_domain at n x [] a = refl
 fill_domain at n x (p ∷ ps) a = elim (cases_Bool (p.0 == a)) [ inl e ↦ rw e refl | inr e ↦ rw e (fill_domain at n x ps a) ]
 
-pub put_domain : (at : ℕ) (xs : List ℕ) (m : ByteMap) (a : ℕ) → is_some (byte_at (put at xs m) a) ≡ is_some (byte_at m a)
+pub put_domain : (at : ℕ) (xs : List ℕ) (m : MemoryMap) (a : ℕ) → is_some (byte_at (put at xs m) a) ≡ is_some (byte_at m a)
 put_domain at xs [] a = refl
 put_domain at xs (p ∷ ps) a = elim (cases_Bool (p.0 == a)) [ inl e ↦ rw e refl | inr e ↦ rw e (put_domain at xs ps a) ]
 
@@ -347,7 +348,7 @@ gateway_up v w denied silent units = record {
 pub moved_up : (v w x : Vehicle) → x ≡ w → VehicleGrows v w → VehicleGrows v x
 moved_up v w x is up = subst (λ (y : Vehicle). VehicleGrows v y) (sym is) up
 
-nothing_up : (old new : Vehicle) (out : List Word) → Nothing old new out → VehicleGrows old new
+nothing_up : (old new : Vehicle) (out : List DueReply) → Nothing old new out → VehicleGrows old new
 nothing_up old new out did = moved_up old old new did.becomes (vehicle_same old)
 
 activation_up : (how : Activation) (source : ℕ) (v : Vehicle) → VehicleGrows v (activation how source v)
@@ -356,7 +357,7 @@ activation_up (Denies code) source v = record { denied = up_code code v.gateway.
 activation_up (Delays ticks) source v = record { denied = λ code. up_same _; silent = up_one _; units = λ a. unit_up_same _ }
 activation_up Ignores source v = record { denied = λ code. up_same _; silent = up_one _; units = λ a. unit_up_same _ }
 
-message_up : (source target : ℕ) (body : List ℕ) (old new : Vehicle) (out : List Word) → HandlesMessage source target body old.gateway.active old new out → VehicleGrows old new
+message_up : (source target : ℕ) (body : List ℕ) (old new : Vehicle) (out : List DueReply) → HandlesMessage source target body old.gateway.active old new out → VehicleGrows old new
 message_up source target body old new out did = go old.gateway.active did
   where
     refused : (code : ℕ) → Refuses source target code old new out → VehicleGrows old new
@@ -372,7 +373,7 @@ message_up source target body old new out did = go old.gateway.active did
     go None r = refused 2 r
     go (Some tester) h = at (unit_at old.units target) refl h
 
-handles_up : (f : Frame) (old new : Vehicle) (out : List Word) → Handles f old new out → VehicleGrows old new
+handles_up : (f : Frame) (old new : Vehicle) (out : List DueReply) → Handles f old new out → VehicleGrows old new
 handles_up (Activate source kind oem) old new out did = moved_up old _ new did.becomes (activation_up did.how source old)
 handles_up (Message source target body) old new out did = message_up source target body old new out did
 handles_up (HeaderNack code) old new out did = nothing_up old new out did
@@ -383,13 +384,13 @@ handles_up (Ack source target code before) old new out did = nothing_up old new 
 handles_up (Nack source target code before) old new out did = nothing_up old new out did
 handles_up (Other kind payload) old new out did = nothing_up old new out did
 
-cut_up : (n : ℕ) (bytes : List ℕ) (old new : Vehicle) (out : List Word) → ((rest : List ℕ) (mid : Vehicle) (second : List Word) → FeedsAll n rest mid new second → VehicleGrows mid new)
+cut_up : (n : ℕ) (bytes : List ℕ) (old new : Vehicle) (out : List DueReply) → ((rest : List ℕ) (mid : Vehicle) (second : List DueReply) → FeedsAll n rest mid new second → VehicleGrows mid new)
     → (c : Cut) → AfterCut c (FeedsAll n) bytes old new out → VehicleGrows old new
 cut_up n bytes old new out further Partial did = moved_up old _ new did.0 (gateway_up old _ refl refl (λ a. unit_up_same _))
 cut_up n bytes old new out further (Wrong bad) did = moved_up old _ new did.0 (gateway_up old _ refl refl (λ a. unit_up_same _))
 cut_up n bytes old new out further (Whole kind payload rest) (mid, first, second, handles, more, joined) = vehicle_then old mid new (handles_up _ old mid first handles) (further rest mid second more)
 
-fed_up : (n : ℕ) (bytes : List ℕ) (old new : Vehicle) (out : List Word) → FeedsAll n bytes old new out → VehicleGrows old new
+fed_up : (n : ℕ) (bytes : List ℕ) (old new : Vehicle) (out : List DueReply) → FeedsAll n bytes old new out → VehicleGrows old new
 fed_up zero bytes old new out did = moved_up old old new did.0 (vehicle_same old)
 fed_up (suc n) bytes old new out did = cut_up n bytes old new out (λ rest mid second more. fed_up n rest mid new second more) (cut_frame bytes) did
 
@@ -401,7 +402,7 @@ record KeepsOwn (old new : Gateway) : Type 0 where
 word_keeps : (g : Gateway) (due : ℕ) (frame : List ℕ) → KeepsOwn g (enqueue g due frame)
 word_keeps g due frame = elim (cases_Bool (nat_le due g.tick)) [ inl e ↦ rw e (record { denied = refl; silent = refl }) | inr e ↦ rw e (record { denied = refl; silent = refl }) ]
 
-words_keep : (g : Gateway) (ws : List Word) → KeepsOwn g (queue_words g ws)
+words_keep : (g : Gateway) (ws : List DueReply) → KeepsOwn g (queue_replies g ws)
 words_keep g [] = record { denied = refl; silent = refl }
 words_keep g (w ∷ ws) =
     let frame : List ℕ = message_bytes w.unit (tester_of g) w.body in

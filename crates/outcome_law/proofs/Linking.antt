@@ -3,7 +3,6 @@ use Rattle.std.proofs.Common.{◌≡◌, ◌⊎◌, inl, inr, ℕ, ◌+◌, ◌�
 use Rattle.std.specs.Prelude.{Bool, ◌==◌}
 use Rattle.std.proofs.lemmas.Bool.{false≢true, both_ways, and_parts, eq-eqb}
 use Rattle.bay_core.proofs.Allowed.{SentFacts, sent_facts, collected_facts}
-use Rattle.bay_core.proofs.Joined.{up_open, open_live, waiting_open, fresh_live}
 use Rattle.bay_core.proofs.Ticks.{between, sent_can}
 use Rattle.bay_core.specs.Core.{Core, link_after, heard_link, taken_link, tended_link}
 use Rattle.bay_core.specs.Joint.{IsVehicleJoint}
@@ -25,13 +24,14 @@ use Rattle.flash_plan.specs.declared.unit.UnitPlan.{UnitPlan}
 use Rattle.run_model.proofs.Connected.{FreshParts, fresh_parts}
 use Rattle.run_model.proofs.Sends.{message_sends, activate_sends, alive_sends}
 use Rattle.run_model.proofs.Whole.{stream_one}
-use Rattle.run_model.specs.Link.{Link, Phase, Down, Fresh, Waits, Up, Denied, is_live, is_up, is_open, is_waiting, drop_link, fresh_link, take_word}
+use Rattle.run_model.specs.Link.{Link, Phase, is_live, is_up, is_open, is_asked, drop_link, new_link, take_message}
+use Rattle.run_model.specs.Link as phase
 use Rattle.run_model.specs.Script.{bytes_at}
 use Rattle.uds_codec.specs.Request.{sid_of}
-use Rattle.unit_model.specs.Feed.{Activation, Accepts, Denies, Delays, Ignores, activation, Activates, Nothing, queue_words}
+use Rattle.unit_model.specs.Feed.{Activation, Accepts, Denies, Delays, Ignores, activation, Activates, Nothing, queue_replies}
 use Rattle.unit_model.specs.Poll.{ticked}
 use Rattle.unit_model.specs.Step.{raise_code}
-use Rattle.unit_model.specs.Unit.{one_more}
+use Rattle.flash_base.specs.Counts.{one_more}
 use Rattle.unit_model.specs.Vehicle.{Gateway, Vehicle}
 use Rattle.bay_core.proofs.Sending.{came_out, Refused as refused_request, Heard as heard_request}
 use Rattle.outcome_law.proofs.Fairness.{fair_on, nacked_fair, heard_fair, asked_fair}
@@ -40,13 +40,7 @@ use Rattle.outcome_law.proofs.Losing.{phase_on, piece_counted, quiet_counted}
 use Rattle.outcome_law.proofs.Steps.{moves_grow}
 use Rattle.outcome_law.specs.LinkCounting.{is_fault, is_heard_fault, fault_of, has_answer, IsFairFrame, AreFair, IsPhaseCounted, IsLinkCounted}
 use Rattle.outcome_law.specs.Rising.{RoseBy, Rose, Grows}
-
-not_waiting : (p : Phase) → is_up p ≡ true → is_waiting p ≡ false
-not_waiting Down e = refl
-not_waiting Fresh e = refl
-not_waiting Waits e = absurd (false≢true e)
-not_waiting Up e = refl
-not_waiting (Denied code) e = refl
+use Rattle.run_model.proofs.Phases.{up_open, asked_open, open_live, dialed_live, up_not_asked}
 
 -- a call that failed
 dropped : (l m : Link) (faults : ℕ) (first v w : Vehicle) → m.losses ≡ l.losses → VehicleGrows v w → IsLinkCounted l faults first v → IsLinkCounted (drop_link m) (faults + 1) first w
@@ -72,7 +66,7 @@ alike l m faults first w phase losses got rest is = record {
     silent = is.losses.silent;
     losses = let a : l.losses ≤ faults + is.losses.silent = is.losses.losses in omega (arith, a, losses);
     count = is.losses.count;
-    awaits = λ x. subst (λ (b : List ℕ). (has_answer (stream_of (b ++ w.gateway.ready)).frames ≡ true) ⊎ RoseBy (is.losses.silent + 1) first.gateway.silent w.gateway.silent) (sym rest) (is.losses.awaits (sym (ap is_waiting phase) ∙ x));
+    awaits = λ x. subst (λ (b : List ℕ). (has_answer (stream_of (b ++ w.gateway.ready)).frames ≡ true) ⊎ RoseBy (is.losses.silent + 1) first.gateway.silent w.gateway.silent) (sym rest) (is.losses.awaits (sym (ap is_asked phase) ∙ x));
   };
   denials = is.denials;
   denied = subst (λ (p : Phase). IsPhaseCounted first.gateway.denied w.gateway.denied p) (sym phase) is.denied;
@@ -80,15 +74,15 @@ alike l m faults first w phase losses got rest is = record {
 }
 
 taken : (a : ℕ) (h : Heard) (l : Link) (faults : ℕ) (first w : Vehicle) → IsLinkCounted l faults first w → IsLinkCounted (taken_link a h l) faults first w
-taken a Kept l faults first w is = alike l (take_word a l) faults first w refl refl refl refl is
+taken a Kept l faults first w is = alike l (take_message a l) faults first w refl refl refl refl is
 taken a Quiet l faults first w is = is
-taken a (Piece bytes) l faults first w is = alike l (take_word a l) faults first w refl refl refl refl is
+taken a (Piece bytes) l faults first w is = alike l (take_message a l) faults first w refl refl refl refl is
 taken a Lost l faults first w is = is
 
 -- the link as it was, with another gateway that is as fair
 up_counted : (l : Link) (faults : ℕ) (first v w : Vehicle) → is_up l.phase ≡ true → VehicleGrows v w → AreFair first.gateway.denied w.gateway.denied l w.gateway → IsLinkCounted l faults first v → IsLinkCounted l faults first w
 up_counted l faults first v w up grow fair is = record {
-  losses = record { silent = is.losses.silent; losses = is.losses.losses; count = rose_then _ _ _ _ is.losses.count grow.silent; awaits = λ x. absurd (both_ways _ (not_waiting l.phase up) x) };
+  losses = record { silent = is.losses.silent; losses = is.losses.losses; count = rose_then _ _ _ _ is.losses.count grow.silent; awaits = λ x. absurd (both_ways _ (up_not_asked l.phase up) x) };
   denials = λ code. up_then _ _ _ (is.denials code) (grow.denied code);
   denied = phase_on first.gateway.denied v.gateway.denied w.gateway.denied l.phase grow.denied is.denied;
   fair = λ lives. fair;
@@ -135,14 +129,14 @@ module _ (rules : LinkRules) (P : List UnitPlan) (found : Entry → Bool) (c : C
           (heard_fair first.gateway.denied w.gateway.denied rules.tester (plan_of P u).address (sid_of (bytes_at (plan_of P u) (c.slots u).talk.place)) _ _ c.link v.gateway h.replies (joint.connected (open_live c.link.phase (up_open c.link.phase f.up))) fair h.step.sizes)
 
   -- the activation was asked for
-  asked_counted : (w : Vehicle) (how : Activation) → FreshParts c.link v.gateway → w.gateway ≡ record (activation how rules.tester v).gateway { unfinished = [] } → VehicleGrows v w → Goal (record c.link { phase = Waits; asked = c.link.ticks }) 0 w
-  asked_counted w how parts at grow = no_fault (record c.link { phase = Waits; asked = c.link.ticks }) faults first w (record {
+  asked_counted : (w : Vehicle) (how : Activation) → FreshParts c.link v.gateway → w.gateway ≡ record (activation how rules.tester v).gateway { unfinished = [] } → VehicleGrows v w → Goal (record c.link { phase = phase.Asked; asked = c.link.ticks }) 0 w
+  asked_counted w how parts at grow = no_fault (record c.link { phase = phase.Asked; asked = c.link.ticks }) faults first w (record {
     losses = record { silent = is.losses.silent; losses = is.losses.losses; count = rose_then _ _ _ _ is.losses.count grow.silent; awaits = λ x. awaits how parts at };
     denials = λ code. up_then _ _ _ (is.denials code) (grow.denied code);
     denied = tt;
     fair = λ lives.
-        let f = asked_fair first.gateway.denied w.gateway.denied rules.tester c.link (record c.link { phase = Waits; asked = c.link.ticks }) v how parts refl (λ code e. rose code e) in
-        subst (λ (g : Gateway). AreFair first.gateway.denied w.gateway.denied (record c.link { phase = Waits; asked = c.link.ticks }) g) (sym at) (record { ready = f.ready; later = f.later });
+        let f = asked_fair first.gateway.denied w.gateway.denied rules.tester c.link (record c.link { phase = phase.Asked; asked = c.link.ticks }) v how parts refl (λ code e. rose code e) in
+        subst (λ (g : Gateway). AreFair first.gateway.denied w.gateway.denied (record c.link { phase = phase.Asked; asked = c.link.ticks }) g) (sym at) (record { ready = f.ready; later = f.later });
   })
     where
       rose : (code : ℕ) → how ≡ Denies code → Rose (first.gateway.denied code) (w.gateway.denied code)
@@ -159,34 +153,34 @@ module _ (rules : LinkRules) (P : List UnitPlan) (found : Entry → Bool) (c : C
       awaits Ignores parts at = inr (let now : w.gateway.silent ≡ one_more v.gateway.silent = ap (λ (g : Gateway). g.silent) at in let was = is.losses.count in omega (arith, now, was))
 
   tended_counted : (step : Tend) (w : Vehicle) → fits_link c step ≡ true → Tends rules step v w → VehicleGrows v w → Goal (tended_link rules P step c.link) (fault_of (is_fault (Tended step) v w)) w
-  tended_counted (Dialed true) w may did grow = dropped c.link (fresh_link c.link) faults first v w refl grow is
-  tended_counted (Dialed false) w may did grow = no_fault (fresh_link c.link) faults first w (record {
+  tended_counted (Dialed true) w may did grow = dropped c.link (new_link c.link) faults first v w refl grow is
+  tended_counted (Dialed false) w may did grow = no_fault (new_link c.link) faults first w (record {
     losses = record { silent = is.losses.silent; losses = is.losses.losses; count = rose_then _ _ _ _ is.losses.count grow.silent; awaits = λ x. absurd (false≢true x) };
     denials = λ code. up_then _ _ _ (is.denials code) (grow.denied code);
     denied = tt;
-    fair = λ lives. subst (λ (g : Gateway). AreFair first.gateway.denied w.gateway.denied (fresh_link c.link) g) (sym (ap (λ (x : Vehicle). x.gateway) did)) (record { ready = tt; later = tt });
+    fair = λ lives. subst (λ (g : Gateway). AreFair first.gateway.denied w.gateway.denied (new_link c.link) g) (sym (ap (λ (x : Vehicle). x.gateway) did)) (record { ready = tt; later = tt });
   })
-  tended_counted (Asked true) w may did grow = dropped c.link (record c.link { phase = Waits; asked = c.link.ticks }) faults first v w refl grow is
+  tended_counted (Asked true) w may did grow = dropped c.link (record c.link { phase = phase.Asked; asked = c.link.ticks }) faults first v w refl grow is
   tended_counted (Asked false) w may did grow =
-      let now = joint.connected (fresh_live c.link.phase may) in
+      let now = joint.connected (dialed_live c.link.phase may) in
       let h = (activate_sends rules.tester v w (between rules c.link v.gateway now) did).handled in
       let a : Activates rules.tester v h.mid h.out = h.handles in
       asked_counted w a.how (fresh_parts rules.tester c.link.phase c.link v.gateway may now.phase)
-      (ap (λ (x : Vehicle). x.gateway) (h.becomes ∙ (λ j. record (a.becomes j) { gateway = queue_words (record (a.becomes j).gateway { unfinished = [] }) (a.none j) }))) grow
+      (ap (λ (x : Vehicle). x.gateway) (h.becomes ∙ (λ j. record (a.becomes j) { gateway = queue_replies (record (a.becomes j).gateway { unfinished = [] }) (a.none j) }))) grow
   tended_counted (Said true) w may did grow = dropped c.link (record c.link { owes = false }) faults first v w refl grow is
   tended_counted (Said false) w may did grow =
       let up = (and_parts _ _ may).0 in
       let live = open_live c.link.phase (up_open c.link.phase up) in
       let h = (alive_sends rules.tester v w (between rules c.link v.gateway (joint.connected live)) did).handled in
       let a : Nothing v h.mid h.out = h.handles in
-      let at : w.gateway ≡ record v.gateway { unfinished = [] } = ap (λ (x : Vehicle). x.gateway) (h.becomes ∙ (λ j. record (a.becomes j) { gateway = queue_words (record (a.becomes j).gateway { unfinished = [] }) (a.none j) })) in
+      let at : w.gateway ≡ record v.gateway { unfinished = [] } = ap (λ (x : Vehicle). x.gateway) (h.becomes ∙ (λ j. record (a.becomes j) { gateway = queue_replies (record (a.becomes j).gateway { unfinished = [] }) (a.none j) })) in
       let f = fair_on first.gateway.denied v.gateway.denied w.gateway.denied c.link v.gateway grow.denied (is.fair live) in
       no_fault (record c.link { owes = false }) faults first w (alike c.link (record c.link { owes = false }) faults first w refl refl refl refl
       (up_counted c.link faults first v w up grow (subst (λ (g : Gateway). AreFair first.gateway.denied w.gateway.denied c.link g) (sym at) (record { ready = f.ready; later = f.later })) is))
   tended_counted (Polled Kept) w may did grow = absurd (false≢true may)
-  tended_counted (Polled Quiet) w may did grow = heard_counted Quiet w (waiting_open c.link.phase may) did grow
-  tended_counted (Polled (Piece bytes)) w may did grow = heard_counted (Piece bytes) w (waiting_open c.link.phase may) did grow
-  tended_counted (Polled Lost) w may did grow = heard_counted Lost w (waiting_open c.link.phase may) did grow
+  tended_counted (Polled Quiet) w may did grow = heard_counted Quiet w (asked_open c.link.phase may) did grow
+  tended_counted (Polled (Piece bytes)) w may did grow = heard_counted (Piece bytes) w (asked_open c.link.phase may) did grow
+  tended_counted (Polled Lost) w may did grow = heard_counted Lost w (asked_open c.link.phase may) did grow
 
   pub link_step : (e : Event) (w : Vehicle) → is_allowed P c e ≡ true → MovesVehicle rules P c e v w → Goal (link_after rules P e c.link) (fault_of (is_fault e v w)) w
   link_step (Claimed u) w ok did = still w did

@@ -3,7 +3,6 @@ use Rattle.std.proofs.Common.{◌≡◌, ◌⊎◌, inl, inr, ℕ, zero, suc, �
 use Rattle.std.specs.Prelude.{Option, ◌==◌, is_some, unwrap_or}
 use Rattle.std.proofs.lemmas.Bool.{cases_Bool, false≢true, both_ways, and_parts, eqb-true, eq-eqb}
 use Rattle.std.proofs.lemmas.List.{append-nil}
-use Rattle.bay_core.proofs.Joined.{open_live}
 use Rattle.bay_core.proofs.LinkLaws.{link_laws}
 use Rattle.bay_core.proofs.Links.{heard_steps}
 use Rattle.bay_core.proofs.Piecing.{frames_first}
@@ -22,13 +21,15 @@ use Rattle.flash_plan.specs.declared.unit.LinkRules.{LinkRules}
 use Rattle.flash_plan.specs.declared.unit.UnitPlan.{UnitPlan}
 use Rattle.run_model.proofs.Sees.{piece_keeps, piece_lives}
 use Rattle.run_model.specs.Connected.{IsConnected, accepts}
-use Rattle.run_model.specs.Link.{Link, Phase, Down, Fresh, Waits, Up, Denied, is_live, is_open, is_up, is_waiting, see_all, see_end, hear_piece, quiet_link, polled_quiet, unanswered}
+use Rattle.run_model.specs.Link.{Link, Phase, is_live, is_open, is_up, is_asked, see_all, see_end, hear_piece, quiet_link, polled_quiet, unanswered}
+use Rattle.run_model.specs.Link as phase
 use Rattle.unit_model.specs.Poll.{IsShown, IsPlain, IsSeen, ticked}
 use Rattle.unit_model.specs.Vehicle.{Vehicle}
 use Rattle.outcome_law.proofs.Fairness.{fair_front, fair_back, fair_on, ticked_fair}
 use Rattle.outcome_law.proofs.Growing.{VehicleGrows, rose_then, up_then}
 use Rattle.outcome_law.specs.LinkCounting.{is_garbled, fault_of, has_answer, IsFairFrame, AreFair, IsPhaseCounted, IsLinkCounted}
 use Rattle.outcome_law.specs.Rising.{RoseBy, Rose, Grows}
+use Rattle.run_model.proofs.Phases.{asked_is, asked_open, open_live}
 
 -- ------ bytes
 bytes_same : (xs ys : List ℕ) → same_bytes xs ys ≡ true → xs ≡ ys
@@ -148,33 +149,19 @@ code_more (Nack s t n before ∷ fs) gs e = code_more fs gs e
 code_more (Other kind payload ∷ fs) gs e = code_more fs gs e
 
 -- ------ phases
-waits_is : (p : Phase) → is_waiting p ≡ true → p ≡ Waits
-waits_is Down e = absurd (false≢true e)
-waits_is Fresh e = absurd (false≢true e)
-waits_is Waits e = refl
-waits_is Up e = absurd (false≢true e)
-waits_is (Denied code) e = absurd (false≢true e)
-
-waiting_open : (p : Phase) → is_waiting p ≡ true → is_open p ≡ true
-waiting_open Waits e = refl
-waiting_open Down e = absurd (false≢true e)
-waiting_open Fresh e = absurd (false≢true e)
-waiting_open Up e = refl
-waiting_open (Denied code) e = absurd (false≢true e)
-
-end_phase : (bad : Option Bad) (m : Link) → ((see_end bad m).phase ≡ m.phase) ⊎ ((see_end bad m).phase ≡ Down)
+end_phase : (bad : Option Bad) (m : Link) → ((see_end bad m).phase ≡ m.phase) ⊎ ((see_end bad m).phase ≡ phase.Down)
 end_phase None m = inl refl
 end_phase (Some bad) m = elim (cases_Bool (is_open m.phase)) [ inl e ↦ rw e (inr refl) | inr e ↦ rw e (inl refl) ]
 
-phase_counted_down : (old new : ℕ → ℕ) (p : Phase) → p ≡ Down → IsPhaseCounted old new p
+phase_counted_down : (old new : ℕ → ℕ) (p : Phase) → p ≡ phase.Down → IsPhaseCounted old new p
 phase_counted_down old new p is = subst (λ (x : Phase). IsPhaseCounted old new x) (sym is) tt
 
 phase_counted_up : (old new : ℕ → ℕ) (p : Phase) → is_up p ≡ true → IsPhaseCounted old new p
-phase_counted_up old new Down e = tt
-phase_counted_up old new Fresh e = tt
-phase_counted_up old new Waits e = tt
-phase_counted_up old new Up e = tt
-phase_counted_up old new (Denied code) e = absurd (false≢true e)
+phase_counted_up old new phase.Down e = tt
+phase_counted_up old new phase.Dialed e = tt
+phase_counted_up old new phase.Asked e = tt
+phase_counted_up old new phase.Up e = tt
+phase_counted_up old new (phase.Refused code) e = absurd (false≢true e)
 
 answer_counted : (old new : ℕ → ℕ) (o : Option ℕ) → ((code : ℕ) → o ≡ Some code → (code ≡ 16) ⊎ Rose (old code) (new code)) → IsPhaseCounted old new (phase_for o)
 answer_counted old new None how = tt
@@ -184,11 +171,11 @@ answer_counted old new (Some code) how = elim (cases_Bool (code == 16)) [
 ]
 
 pub phase_on : (old a b : ℕ → ℕ) (p : Phase) → ((code : ℕ) → Grows (a code) (b code)) → IsPhaseCounted old a p → IsPhaseCounted old b p
-phase_on old a b Down grow is = tt
-phase_on old a b Fresh grow is = tt
-phase_on old a b Waits grow is = tt
-phase_on old a b Up grow is = tt
-phase_on old a b (Denied code) grow is = rose_then 1 _ _ _ is (grow code)
+phase_on old a b phase.Down grow is = tt
+phase_on old a b phase.Dialed grow is = tt
+phase_on old a b phase.Asked grow is = tt
+phase_on old a b phase.Up grow is = tt
+phase_on old a b (phase.Refused code) grow is = rose_then 1 _ _ _ is (grow code)
 
 -- ------ a piece
 module _ (rules : LinkRules) (P : List UnitPlan) (piece : List ℕ) (l : Link) (first v w : Vehicle) (faults : ℕ) (c : IsConnected rules.tester l v.gateway) (opened : is_open l.phase ≡ true) (shown : IsShown piece v w) (grow : VehicleGrows v w) (is : IsLinkCounted l faults first v) where
@@ -213,11 +200,11 @@ module _ (rules : LinkRules) (P : List UnitPlan) (piece : List ℕ) (l : Link) (
   abbrev start : Link
   start = record l { got = l.got ++ piece; rest = (stream_of (l.rest ++ piece)).rest }
 
-  decided : is_waiting l.phase ≡ true → (see_all rules.tester (addresses_of P) (stream_of (l.rest ++ piece)).frames start).phase ≡ phase_for (first_code (stream_of (l.rest ++ piece)).frames)
-  decided waits = link_laws.first rules.tester (addresses_of P) (stream_of (l.rest ++ piece)).frames start (waits_is l.phase waits) (no_refusal first.gateway.denied w.gateway.denied _ fs_fair)
+  decided : is_asked l.phase ≡ true → (see_all rules.tester (addresses_of P) (stream_of (l.rest ++ piece)).frames start).phase ≡ phase_for (first_code (stream_of (l.rest ++ piece)).frames)
+  decided waits = link_laws.first rules.tester (addresses_of P) (stream_of (l.rest ++ piece)).frames start (asked_is l.phase waits) (no_refusal first.gateway.denied w.gateway.denied _ fs_fair)
 
   piece_denied : IsPhaseCounted first.gateway.denied w.gateway.denied (hear_piece rules.tester (addresses_of P) piece l).phase
-  piece_denied = elim (cases_Bool (is_waiting l.phase)) [
+  piece_denied = elim (cases_Bool (is_asked l.phase)) [
     | inl waits ↦ elim (end_phase (stream_of (l.rest ++ piece)).bad (see_all rules.tester (addresses_of P) (stream_of (l.rest ++ piece)).frames start)) [
       | inl same ↦ subst (λ (p : Phase). IsPhaseCounted first.gateway.denied w.gateway.denied p) (sym (same ∙ decided waits)) (answer_counted first.gateway.denied w.gateway.denied (first_code (stream_of (l.rest ++ piece)).frames) (λ code e. code_fair first.gateway.denied w.gateway.denied _ code fs_fair e))
       | inr down ↦ phase_counted_down first.gateway.denied w.gateway.denied _ down
@@ -228,12 +215,12 @@ module _ (rules : LinkRules) (P : List UnitPlan) (piece : List ℕ) (l : Link) (
     ]
   ]
     where
-      up_of : (p : Phase) → is_open p ≡ true → is_waiting p ≡ false → is_up p ≡ true
-      up_of Down o n = absurd (false≢true o)
-      up_of Fresh o n = absurd (false≢true o)
-      up_of Waits o n = absurd (false≢true (sym n))
-      up_of Up o n = refl
-      up_of (Denied code) o n = absurd (false≢true o)
+      up_of : (p : Phase) → is_open p ≡ true → is_asked p ≡ false → is_up p ≡ true
+      up_of phase.Down o n = absurd (false≢true o)
+      up_of phase.Dialed o n = absurd (false≢true o)
+      up_of phase.Asked o n = absurd (false≢true (sym n))
+      up_of phase.Up o n = refl
+      up_of (phase.Refused code) o n = absurd (false≢true o)
 
   -- a loss is a fault
   piece_losses : (hear_piece rules.tester (addresses_of P) piece l).losses ≤ l.losses + fault_of (is_garbled piece v w)
@@ -249,8 +236,8 @@ module _ (rules : LinkRules) (P : List UnitPlan) (piece : List ℕ) (l : Link) (
     ])
   ]
 
-  piece_awaits : is_waiting (hear_piece rules.tester (addresses_of P) piece l).phase ≡ true → (has_answer (stream_of ((hear_piece rules.tester (addresses_of P) piece l).rest ++ w.gateway.ready)).frames ≡ true) ⊎ RoseBy (is.losses.silent + 1) first.gateway.silent w.gateway.silent
-  piece_awaits waiting = elim (cases_Bool (is_waiting l.phase)) [
+  piece_awaits : is_asked (hear_piece rules.tester (addresses_of P) piece l).phase ≡ true → (has_answer (stream_of ((hear_piece rules.tester (addresses_of P) piece l).rest ++ w.gateway.ready)).frames ≡ true) ⊎ RoseBy (is.losses.silent + 1) first.gateway.silent w.gateway.silent
+  piece_awaits waiting = elim (cases_Bool (is_asked l.phase)) [
     | inr not_waits ↦ absurd (both_ways _ (waiting_not not_waits) waiting)
     | inl waits ↦ elim (is.losses.awaits waits) [
       | inr rose ↦ inr (rose_then _ _ _ _ rose grow.silent)
@@ -259,31 +246,31 @@ module _ (rules : LinkRules) (P : List UnitPlan) (piece : List ℕ) (l : Link) (
   ]
     where
       life : (stream_of (l.rest ++ piece)).bad ≡ None
-      life = (piece_lives rules.tester (addresses_of P) piece l opened (open_live _ (waiting_open _ waiting))).0
+      life = (piece_lives rules.tester (addresses_of P) piece l opened (open_live _ (asked_open _ waiting))).0
 
       ready : v.gateway.ready ≡ piece ++ w.gateway.ready
-      ready = good_plain rules.tester l v c piece w shown (piece_lives rules.tester (addresses_of P) piece l opened (open_live _ (waiting_open _ waiting))).0
+      ready = good_plain rules.tester l v c piece w shown (piece_lives rules.tester (addresses_of P) piece l opened (open_live _ (asked_open _ waiting))).0
 
       whole : (stream_of (l.rest ++ v.gateway.ready)).frames ≡ (stream_of (l.rest ++ piece)).frames ++ (stream_of ((hear_piece rules.tester (addresses_of P) piece l).rest ++ w.gateway.ready)).frames
       whole = ap (λ (x : List ℕ). (stream_of (l.rest ++ x)).frames) ready ∙ ap (λ (x : List ℕ). (stream_of x).frames) (sym (append_assoc l.rest piece w.gateway.ready)) ∙ ap (λ (x : Stream). x.frames) (split (l.rest ++ piece) w.gateway.ready life)
           ∙ ap (λ (x : List ℕ). (stream_of (l.rest ++ piece)).frames ++ (stream_of (x ++ w.gateway.ready)).frames) (sym (piece_keeps rules.tester (addresses_of P) piece l).rest)
 
-      waiting_not : is_waiting l.phase ≡ false → is_waiting (hear_piece rules.tester (addresses_of P) piece l).phase ≡ false
-      waiting_not n = go (piece_lives rules.tester (addresses_of P) piece l opened (open_live _ (waiting_open _ waiting))).1
+      waiting_not : is_asked l.phase ≡ false → is_asked (hear_piece rules.tester (addresses_of P) piece l).phase ≡ false
+      waiting_not n = go (piece_lives rules.tester (addresses_of P) piece l opened (open_live _ (asked_open _ waiting))).1
         where
-          go : ((hear_piece rules.tester (addresses_of P) piece l).phase ≡ l.phase) ⊎ (((hear_piece rules.tester (addresses_of P) piece l).phase ≡ Up) × (accepts (stream_of (l.rest ++ piece)).frames ≡ true)) → is_waiting (hear_piece rules.tester (addresses_of P) piece l).phase ≡ false
-          go (inl same) = ap is_waiting same ∙ n
-          go (inr up) = ap is_waiting up.0
+          go : ((hear_piece rules.tester (addresses_of P) piece l).phase ≡ l.phase) ⊎ (((hear_piece rules.tester (addresses_of P) piece l).phase ≡ phase.Up) × (accepts (stream_of (l.rest ++ piece)).frames ≡ true)) → is_asked (hear_piece rules.tester (addresses_of P) piece l).phase ≡ false
+          go (inl same) = ap is_asked same ∙ n
+          go (inr up) = ap is_asked up.0
 
-      none_yet : is_waiting l.phase ≡ true → first_code (stream_of (l.rest ++ piece)).frames ≡ None
+      none_yet : is_asked l.phase ≡ true → first_code (stream_of (l.rest ++ piece)).frames ≡ None
       none_yet waits = go (first_code (stream_of (l.rest ++ piece)).frames) refl (end_phase (stream_of (l.rest ++ piece)).bad (see_all rules.tester (addresses_of P) (stream_of (l.rest ++ piece)).frames start))
         where
-          go : (o : Option ℕ) → first_code (stream_of (l.rest ++ piece)).frames ≡ o → ((hear_piece rules.tester (addresses_of P) piece l).phase ≡ (see_all rules.tester (addresses_of P) (stream_of (l.rest ++ piece)).frames start).phase) ⊎ ((hear_piece rules.tester (addresses_of P) piece l).phase ≡ Down) → o ≡ None
+          go : (o : Option ℕ) → first_code (stream_of (l.rest ++ piece)).frames ≡ o → ((hear_piece rules.tester (addresses_of P) piece l).phase ≡ (see_all rules.tester (addresses_of P) (stream_of (l.rest ++ piece)).frames start).phase) ⊎ ((hear_piece rules.tester (addresses_of P) piece l).phase ≡ phase.Down) → o ≡ None
           go None e how = refl
-          go (Some code) e (inr down) = absurd (false≢true (sym (ap is_waiting down) ∙ waiting))
-          go (Some code) e (inl same) = absurd (both_ways _ (answers code) (sym (ap is_waiting (same ∙ decided waits ∙ ap phase_for e)) ∙ waiting))
+          go (Some code) e (inr down) = absurd (false≢true (sym (ap is_asked down) ∙ waiting))
+          go (Some code) e (inl same) = absurd (both_ways _ (answers code) (sym (ap is_asked (same ∙ decided waits ∙ ap phase_for e)) ∙ waiting))
             where
-              answers : (code : ℕ) → is_waiting (phase_for (Some code)) ≡ false
+              answers : (code : ℕ) → is_asked (phase_for (Some code)) ≡ false
               answers code = elim (cases_Bool (code == 16)) [ inl f ↦ rw f refl | inr f ↦ rw f refl ]
 
   pub piece_counted : IsLinkCounted (hear_piece rules.tester (addresses_of P) piece l) (faults + fault_of (is_garbled piece v w)) first w
@@ -316,7 +303,7 @@ quiet_counted tester l first v faults c opened none grow is = elim (cases_Bool (
     losses = record {
       silent = is.losses.silent + 1;
       losses = let a : l.losses ≤ faults + is.losses.silent = is.losses.losses in omega (arith, a);
-      count = waited (and_parts (is_waiting l.phase) _ e).0;
+      count = waited (and_parts (is_asked l.phase) _ e).0;
       awaits = λ x. absurd (false≢true x);
     };
     denials = λ code. up_then _ _ _ (is.denials code) (grow.denied code);
@@ -331,7 +318,7 @@ quiet_counted tester l first v faults c opened none grow is = elim (cases_Bool (
   })
 ]
   where
-    waited : is_waiting l.phase ≡ true → RoseBy (is.losses.silent + 1) first.gateway.silent (ticked v).gateway.silent
+    waited : is_asked l.phase ≡ true → RoseBy (is.losses.silent + 1) first.gateway.silent (ticked v).gateway.silent
     waited waits = elim (is.losses.awaits waits) [
       | inr rose ↦ rose_then _ _ _ _ rose grow.silent
       | inl answered ↦ absurd (false≢true (sym (ap has_answer (rest_frames tester l v c none)) ∙ answered))

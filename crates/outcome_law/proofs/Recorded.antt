@@ -31,7 +31,7 @@ use Rattle.outcome_law.specs.Keeping.{KeptRecordedLaw, KeptUntroubledLaw}
 use Rattle.outcome_law.specs.Law.{IsRun, last_vehicle, IsCalmUnit, IsMatchingRun}
 use Rattle.outcome_law.specs.LinkCounting.{is_fault, fault_of, faults_of}
 use Rattle.outcome_law.specs.OutcomeCounting.{Rests, IsStopCounted, StopCounted, AreOutcomesCounted, OutcomeCountingLaw, StartLaw, CountedLaw}
-use Rattle.outcome_law.specs.Outcomes.{IsOutcomeCaused, OutcomeLaw, IsUntroubled, MatchesAt, IsOfRun, RecordedLaw, UntroubledLaw}
+use Rattle.outcome_law.specs.Outcomes.{IsOutcomeCaused, OutcomeLaw, IsCalmOutcome, MatchesAt, IsOfRun, RecordedLaw, UntroubledLaw}
 
 -- ------ one event
 pub outcome_counting_law : OutcomeCountingLaw
@@ -193,7 +193,7 @@ module _ (rules : LinkRules) (P : List UnitPlan) (found : Entry → Bool) (c : C
     never : (o : Outcome) → IsCaused (plan_of P n) (c.recorded (entry.Begun n)) (marks_of found n) (unit_at first.units (plan_of P n).address) (unit_at now.units (plan_of P n).address) o → ⊥
     never o is = no_cause rules P found c first now t0 units n o (calm_unit (plan_of P n) (found (entry.Begun n)) (marks_of found n) _ _ matching (calm.units (plan_of P n).address)) is
 
-    pub kept_untroubled : (o : Outcome) → IsOutcomeCaused rules (plan_of P n) found c n failed faults first now o → IsUntroubled o
+    pub kept_untroubled : (o : Outcome) → IsOutcomeCaused rules (plan_of P n) found c n failed faults first now o → IsCalmOutcome o
     kept_untroubled Complete is = tt
     kept_untroubled NoMemory is = tt
     kept_untroubled (Blocked by) is = tt

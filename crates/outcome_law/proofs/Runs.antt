@@ -12,9 +12,10 @@ use Rattle.flash_plan.specs.declared.outcome.Outcome.TheVariants.{Refused, BadAn
 use Rattle.flash_plan.specs.declared.unit.LinkRules.{LinkRules}
 use Rattle.flash_plan.specs.declared.unit.Segment.{Segment}
 use Rattle.flash_plan.specs.declared.unit.UnitPlan.{UnitPlan}
-use Rattle.uds_codec.specs.Answer.{Verdict, Later, Again, Refusal, Good, Bad_status, Strange, judge}
+use Rattle.uds_codec.specs.Answer.{Verdict, Pending, Busy, Refusal, Accepted, BadStatus, Malformed, judge}
 use Rattle.uds_codec.specs.Key.{all_zero, level_of}
-use Rattle.unit_model.specs.Unit.{ControlUnit, Counts, has_key, ident_of, LAST_COUNT, obedient}
+use Rattle.flash_base.specs.Counts.{LAST_COUNT}
+use Rattle.unit_model.specs.Unit.{ControlUnit, Counts, has_key, ident_of, obedient}
 use Rattle.unit_model.specs.Vehicle.{Vehicle, unit_at}
 use Rattle.run_model.specs.Entries.{marks_of}
 use Rattle.run_model.specs.Matching.{IsMatching, HasIdent, HasValue}
@@ -302,14 +303,14 @@ obedient_law plan begun found place first u ok is asked ident needs state takes 
     takes_own = takes_with plan none_found u place u (λ e none. absurd (some (subst (λ (p : Place). Takes plan found first p u) e takes none))) (takes_on plan found first place u takes)
 
     go : (v : Verdict) → judge (bytes_at plan place) (obedient u (bytes_at plan place)).1 ≡ v → ((skipped : ℕ → Bool) → IsFair plan begun none_found skipped u place (obedient u (bytes_at plan place)).0 v) → AnswersWell plan place u
-    go Later e f = absurd (f none_found)
-    go Again e f = absurd (f none_found)
+    go Pending e f = absurd (f none_found)
+    go Busy e f = absurd (f none_found)
     go (Refusal nrc) e f = absurd (unfit_not plan begun begun u _ (λ x. x) m (f none_found))
-    go (Good rest) e f = record {
+    go (Accepted rest) e f = record {
       rest = rest;
       good = e;
       on = λ skipped. not_end plan begun u (place_next plan skipped place rest) m (f skipped).0;
-      fewer = λ skipped. left_judged plan skipped place (Good rest) (record { place_is = is; asked = asked }) needs tt;
+      fewer = λ skipped. left_judged plan skipped place (Accepted rest) (record { place_is = is; asked = asked }) needs tt;
     }
-    go (Bad_status status) e f = absurd (false≢true ((f none_found).1.marked 0 ok.some))
-    go Strange e f = absurd (unfit_not plan begun begun u _ (λ x. x) m (f none_found))
+    go (BadStatus status) e f = absurd (false≢true ((f none_found).1.marked 0 ok.some))
+    go Malformed e f = absurd (unfit_not plan begun begun u _ (λ x. x) m (f none_found))

@@ -11,11 +11,11 @@ use Rattle.doip_frame.specs.declared.frame.Frame.{Frame}
 use Rattle.flash_base.specs.Lists.{Each}
 use Rattle.flash_plan.specs.declared.unit.UnitPlan.{UnitPlan}
 use Rattle.run_model.specs.Connected.{IsConnected}
-use Rattle.run_model.specs.Link.{Link, first_word}
+use Rattle.run_model.specs.Link.{Link, first_message}
 use Rattle.run_model.specs.Script.{bytes_at}
 use Rattle.run_model.specs.States.{Obeyed, Departed}
 use Rattle.run_model.specs.Talk.{Talk}
-use Rattle.run_model.specs.Ways.{Spoken, Reply, Unheard, words_from, words_in, words_later, on_way, pending_words, final_word}
+use Rattle.run_model.specs.Ways.{UnitMessage, Reply, Nacked, messages_from, messages_in, messages_later, on_way, pending_messages, final_message}
 use Rattle.uds_codec.specs.Request.{sid_of}
 use Rattle.unit_model.specs.Poll.{is_turn, ticked}
 use Rattle.unit_model.specs.Step.{Departure, Refuses, Odd, Fails, Mutes, Busies, said_by, is_late}
@@ -29,7 +29,7 @@ use Rattle.outcome_law.specs.Counting.{KeptIn, IsCounted, IsHeardCounted, IsMiss
 use Rattle.outcome_law.specs.Rising.{Rose}
 
 -- no word of the unit is in the inbox
-pub no_word : (a : ℕ) (ms : List (ℕ × Spoken)) → is_some (first_word a ms) ≡ false → words_from a ms ≡ []
+pub no_word : (a : ℕ) (ms : List (ℕ × UnitMessage)) → is_some (first_message a ms) ≡ false → messages_from a ms ≡ []
 no_word a [] e = refl
 no_word a (m ∷ ms) e = elim (cases_Bool (m.0 == a)) [
   | inl f ↦ absurd (false≢true (sym (rw f at e)))
@@ -53,7 +53,7 @@ cons_nil {T} x xs e = false≢true (sym (ap is_cons e))
     is_cons (y ∷ ys) = true
 
 -- nothing said is nothing answered
-silent_is : (sid k : ℕ) (said : Option (List ℕ)) → [] ≡ pending_words sid k ++ final_word said → said ≡ None
+silent_is : (sid k : ℕ) (said : Option (List ℕ)) → [] ≡ pending_messages sid k ++ final_message said → said ≡ None
 silent_is sid zero None e = refl
 silent_is sid zero (Some body) e = absurd (cons_nil (Reply body) [] (sym e))
 silent_is sid (suc k) said e = absurd (cons_nil _ _ (sym e))
@@ -68,32 +68,32 @@ muted_kind (Fails body) sid busies a b e rose = absurd (none_some _ (sym e))
 muted_kind Mutes sid busies a b e rose = rose
 muted_kind Busies sid busies a b e rose = absurd (none_some _ (sym e))
 
-one_reply : (body : List ℕ) (code : ℕ) → Reply body ∷ [] ≡ Unheard code ∷ [] → ⊥
+one_reply : (body : List ℕ) (code : ℕ) → Reply body ∷ [] ≡ Nacked code ∷ [] → ⊥
 one_reply body code e = false≢true (ap is_unheard (ap (head_or (Reply body)) e))
   where
-    head_or : Spoken → List Spoken → Spoken
+    head_or : UnitMessage → List UnitMessage → UnitMessage
     head_or w [] = w
     head_or w (x ∷ xs) = x
 
-    is_unheard : Spoken → Bool
+    is_unheard : UnitMessage → Bool
     is_unheard (Reply b) = false
-    is_unheard (Unheard n) = true
+    is_unheard (Nacked n) = true
 
 late_head : (x y : Bool) → (x || y) ≡ false → x ≡ false
 late_head true y e = absurd (false≢true (sym e))
 late_head false y e = refl
 
-module _ (tester : ℕ) (plan : UnitPlan) (found : ℕ → Bool) (t0 : ℕ) (t : Talk) (l : Link) (first v : Vehicle) (c : IsConnected tester l v.gateway) (none : v.gateway.ready ≡ []) (no_more : is_some (first_word plan.address l.inbox) ≡ false)
+module _ (tester : ℕ) (plan : UnitPlan) (found : ℕ → Bool) (t0 : ℕ) (t : Talk) (l : Link) (first v : Vehicle) (c : IsConnected tester l v.gateway) (none : v.gateway.ready ≡ []) (no_more : is_some (first_message plan.address l.inbox) ≡ false)
     (ticks : v.gateway.tick ≡ t0 + l.ticks) (over : t.since + 1000 ≤ l.ticks + 1) (most : HoldsAtMost tester plan.address (sid_of (bytes_at plan t.place)) v.gateway) where
   abbrev a : ℕ
   a = plan.address
 
   nothing : come tester plan.address l.inbox l.rest v.gateway ≡ []
-  nothing = λ i. no_word plan.address l.inbox no_more i ++ (ap (λ (x : List ℕ). words_in tester plan.address (stream_of x).frames) (ap (λ (x : List ℕ). l.rest ++ x) none ∙ append-nil l.rest) ∙ ap (words_in tester plan.address) (rest_frames tester l v.gateway c)) i
+  nothing = λ i. no_word plan.address l.inbox no_more i ++ (ap (λ (x : List ℕ). messages_in tester plan.address (stream_of x).frames) (ap (λ (x : List ℕ). l.rest ++ x) none ∙ append-nil l.rest) ∙ ap (messages_in tester plan.address) (rest_frames tester l v.gateway c)) i
 
   -- what is on the way is held, where nothing more is due
-  way_held : words_later tester plan.address v.gateway.later ≡ [] → on_way tester plan.address l.inbox l.rest v.gateway ≡ bodies (held_of plan.address v.gateway.held)
-  way_held later = λ i. no_word plan.address l.inbox no_more i ++ ((ap (λ (x : List ℕ). words_in tester plan.address (stream_of x).frames) (ap (λ (x : List ℕ). l.rest ++ x) none ∙ append-nil l.rest) ∙ ap (words_in tester plan.address) (rest_frames tester l v.gateway c)) i
+  way_held : messages_later tester plan.address v.gateway.later ≡ [] → on_way tester plan.address l.inbox l.rest v.gateway ≡ bodies (held_of plan.address v.gateway.held)
+  way_held later = λ i. no_word plan.address l.inbox no_more i ++ ((ap (λ (x : List ℕ). messages_in tester plan.address (stream_of x).frames) (ap (λ (x : List ℕ). l.rest ++ x) none ∙ append-nil l.rest) ∙ ap (messages_in tester plan.address) (rest_frames tester l v.gateway c)) i
       ++ (later i ++ held_bodies plan.address v.gateway.held i))
 
   none_later : (sent : ℕ) → sent ≡ t0 + t.since → IsOnTime tester plan.address sent l.inbox l.rest v.gateway → dues tester plan.address v.gateway.later ≡ []
@@ -107,7 +107,7 @@ module _ (tester : ℕ) (plan : UnitPlan) (found : ℕ → Bool) (t0 : ℕ) (t :
           let now : v.gateway.tick < d = after.0 in
           absurd (omega (arith, soon, past, now, at, over, ticks))
 
-  no_reply : (code : ℕ) → on_way tester plan.address l.inbox l.rest v.gateway ≡ bodies (held_of plan.address v.gateway.held) → on_way tester plan.address l.inbox l.rest v.gateway ≡ Unheard code ∷ [] → ⊥
+  no_reply : (code : ℕ) → on_way tester plan.address l.inbox l.rest v.gateway ≡ bodies (held_of plan.address v.gateway.held) → on_way tester plan.address l.inbox l.rest v.gateway ≡ Nacked code ∷ [] → ⊥
   no_reply code is way = go most
     where
       go : HoldsAtMost tester plan.address (sid_of (bytes_at plan t.place)) v.gateway → ⊥
@@ -155,7 +155,7 @@ module _ (tester : ℕ) (plan : UnitPlan) (found : ℕ → Bool) (t0 : ℕ) (t :
   silence (Some f) (Some u) (Some w) begun sid kept awaits (inl rose) after = inr (rose_then 1 _ _ _ rose kept.counts.late)
   silence (Some f) (Some u) (Some w) begun sid kept awaits (inr on) after = go most awaits
     where
-      later : words_later tester plan.address v.gateway.later ≡ []
+      later : messages_later tester plan.address v.gateway.later ≡ []
       later = none_dues tester plan.address v.gateway.later (none_later (t0 + t.since) refl on)
 
       go : HoldsAtMost tester plan.address (sid_of (bytes_at plan t.place)) v.gateway → IsMissedCounted f (on_way tester plan.address l.inbox l.rest v.gateway) u ⊎ IsHeardCounted plan found t f (held_of plan.address v.gateway.held) (on_way tester plan.address l.inbox l.rest v.gateway) u

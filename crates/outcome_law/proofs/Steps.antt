@@ -3,7 +3,6 @@ use Rattle.std.proofs.Common.{◌≡◌, ◌⊎◌, inl, inr, ℕ, ◌+◌, ◌<
 use Rattle.std.specs.Prelude.{Bool, Option, ◌==◌, ◌&&◌, ◌||◌, nat_le, nat_lt, is_some, length}
 use Rattle.std.proofs.lemmas.Bool.{cases_Bool, false≢true, both_ways, eqb-true, eq-eqb, le-ltb, lt-ltb, leb-true, and_parts}
 use Rattle.bay_core.proofs.Allowed.{SentFacts, sent_facts, collected_facts, MarkFacts, mark_facts, open_slot, asks_needs, not_true}
-use Rattle.bay_core.proofs.Joined.{up_open, open_live}
 use Rattle.bay_core.proofs.Links.{Steps}
 use Rattle.bay_core.proofs.Piecing.{piece_first, known_address}
 use Rattle.bay_core.proofs.Sane.{event_steps}
@@ -39,18 +38,20 @@ use Rattle.run_model.proofs.Alike.{weaker}
 use Rattle.run_model.proofs.Hearing.{HeardAtMost, sent_heard}
 use Rattle.run_model.proofs.Sends.{message_sends, alive_sends}
 use Rattle.run_model.specs.Connected.{IsConnected}
-use Rattle.run_model.specs.Entries.{with_entry, with_mark, marks_of}
-use Rattle.run_model.specs.Link.{Link, Phase, Down, Fresh, Waits, Up, Denied, is_up, is_live, is_down, is_fresh, is_waiting, hear_piece, take_word, first_word, without_first, quiet_link, polled_quiet}
+use Rattle.flash_plan.specs.Outcomes.{with_entry}
+use Rattle.run_model.specs.Entries.{with_mark, marks_of}
+use Rattle.run_model.specs.Link.{Link, Phase, is_up, is_live, is_down, is_dialed, is_asked, hear_piece, take_message, first_message, without_first, quiet_link, polled_quiet}
+use Rattle.run_model.specs.Link as phase
 use Rattle.run_model.specs.Places.{is_ended, needs_request}
 use Rattle.run_model.specs.Script.{Cursor, Place, AtIdent, AtBegin, AtProgram, AtSeed, AtKey, AtErase, AtDownload, AtBlock, AtExit, AtCheck, AtMark, AtFinish, AtReset, AtDone, AtEnd, bytes_at, start_place, idents_from, segments_from, place_marked}
 use Rattle.run_model.specs.States.{StateIn}
 use Rattle.run_model.specs.Talk.{Talk, talk_start, talk_lost, talk_marked, talk_sent, talk_hears, talk_judged, talk_takes, talk_quiet, keeps_on_loss, sid_at}
-use Rattle.run_model.specs.Ways.{Spoken, Reply, Unheard, words_from, words_in, words_later, words_held, on_way}
+use Rattle.run_model.specs.Ways.{UnitMessage, Reply, Nacked, messages_from, messages_in, messages_later, messages_held, on_way}
 use Rattle.doip_frame.specs.Frame.{stream_of}
-use Rattle.uds_codec.specs.Answer.{Verdict, Later, Again, Refusal, Good, Bad_status, Strange, judge}
+use Rattle.uds_codec.specs.Answer.{Verdict, Pending, Busy, Refusal, Accepted, BadStatus, Malformed, judge}
 use Rattle.uds_codec.specs.Request.{sid_of}
 use Rattle.unit_model.proofs.Units.{SameIn, SameUnits, same_self}
-use Rattle.unit_model.specs.Feed.{Nothing, queue_words}
+use Rattle.unit_model.specs.Feed.{Nothing, queue_replies}
 use Rattle.unit_model.specs.Poll.{Ticks, IsShown, ticked}
 use Rattle.unit_model.specs.Unit.{ControlUnit, Counts}
 use Rattle.unit_model.specs.Vehicle.{Gateway, Vehicle, unit_at}
@@ -66,6 +67,7 @@ use Rattle.outcome_law.proofs.Waiting.{IsAwaited, IsStillOn, still_awaited, othe
 use Rattle.outcome_law.specs.Causes.{IsCaused, IsCausedBy}
 use Rattle.outcome_law.specs.Counting.{KeptIn, Takes, TakesIn, IsIdentPlace, IsEndCaused, BusyBy, IsTalkCounted, IsAwaitCounted, IsTimed, SameChecked, IsUnitCounted, AreUnitsCounted}
 use Rattle.outcome_law.specs.Rising.{CountsGrow}
+use Rattle.run_model.proofs.Phases.{up_open, open_live, down_not_up, dialed_not_up, asked_not_up, quiet_up}
 
 -- ------ what the vehicle's counts do
 feeds_or : (lost : Bool) (frame : List ℕ) (v w : Vehicle) → FeedsOr lost frame v w → VehicleGrows v w
@@ -274,17 +276,17 @@ checked_on plan found (Some f) (Some u) None same is = tt
 checked_on plan found (Some f) (Some u) (Some w) same is = λ all. (λ i. (same.same i).checked) ∙ is all
 
 -- what was taken is counted from now on
-hears_since : (plan : UnitPlan) (tick : ℕ) (w : Spoken) (t : Talk) → (talk_hears plan tick w t).awaiting ≡ true → (talk_hears plan tick w t).since ≡ tick
-hears_since plan tick (Unheard code) t e = absurd (false≢true e)
+hears_since : (plan : UnitPlan) (tick : ℕ) (w : UnitMessage) (t : Talk) → (talk_hears plan tick w t).awaiting ≡ true → (talk_hears plan tick w t).since ≡ tick
+hears_since plan tick (Nacked code) t e = absurd (false≢true e)
 hears_since plan tick (Reply body) t e = go (judge (bytes_at plan t.place) body) e
   where
     go : (v : Verdict) → (talk_judged plan tick v t).awaiting ≡ true → (talk_judged plan tick v t).since ≡ tick
-    go Later = elim (cases_Bool (t.pendings == 200)) [ inl f ↦ rw f (λ a. absurd (false≢true a)) | inr f ↦ rw f (λ a. refl) ]
-    go Again = elim (cases_Bool (t.busies == 20)) [ inl f ↦ rw f (λ a. absurd (false≢true a)) | inr f ↦ rw f (λ a. absurd (false≢true a)) ]
+    go Pending = elim (cases_Bool (t.pendings == 200)) [ inl f ↦ rw f (λ a. absurd (false≢true a)) | inr f ↦ rw f (λ a. refl) ]
+    go Busy = elim (cases_Bool (t.busies == 20)) [ inl f ↦ rw f (λ a. absurd (false≢true a)) | inr f ↦ rw f (λ a. absurd (false≢true a)) ]
     go (Refusal nrc) = λ a. absurd (false≢true a)
-    go (Good rest) = λ a. absurd (false≢true a)
-    go (Bad_status status) = λ a. absurd (false≢true a)
-    go Strange = λ a. absurd (false≢true a)
+    go (Accepted rest) = λ a. absurd (false≢true a)
+    go (BadStatus status) = λ a. absurd (false≢true a)
+    go Malformed = λ a. absurd (false≢true a)
 
 -- ------ one unit after an event
 module _ (rules : LinkRules) (P : List UnitPlan) (found : Entry → Bool) (c : Core) (v first : Vehicle) (t0 : ℕ) (accepted : IsAccepted P) (joint : IsVehicleJoint rules P found c v t0) (counted : AreUnitsCounted rules P found t0 c first v) where
@@ -562,16 +564,6 @@ module _ (rules : LinkRules) (P : List UnitPlan) (found : Entry → Bool) (c : C
       awaits false ok did losses live o a = sent_awaited u number w (sent_facts P c u number false ok) did grows n lt o a
 
   -- ------ a step that collects
-  not_waiting : (p : Phase) → is_up p ≡ true → is_waiting p ≡ false
-  not_waiting Down e = refl
-  not_waiting Fresh e = refl
-  not_waiting Waits e = absurd (false≢true e)
-  not_waiting Up e = refl
-  not_waiting (Denied code) e = refl
-
-  quiet_up : (l : Link) → is_up l.phase ≡ true → polled_quiet l ≡ quiet_link l
-  quiet_up l up = rw (not_waiting l.phase up) refl
-
   module _ (u : ℕ) (lu : u < count_of P) (opened : is_open_slot (c.slots u) ≡ true) (awaiting : (c.slots u).talk.awaiting ≡ true) (up : is_up c.link.phase ≡ true) where
     live : is_live c.link.phase ≡ true
     live = open_live c.link.phase (up_open c.link.phase up)
@@ -589,29 +581,29 @@ module _ (rules : LinkRules) (P : List UnitPlan) (found : Entry → Bool) (c : C
     finish_u = finishes_in rules P found c v t0 joint u lu (First u) (counted.units u lu).checked
 
     -- where the word came first on the way
-    word_talk : (o : Option Spoken) (words : List (ℕ × Spoken)) → first_word (plan_of P u).address words ≡ o → BeginsWith (words_from (plan_of P u).address words) (on_way rules.tester (plan_of P u).address c.link.inbox c.link.rest v.gateway)
+    word_talk : (o : Option UnitMessage) (words : List (ℕ × UnitMessage)) → first_message (plan_of P u).address words ≡ o → BeginsWith (messages_from (plan_of P u).address words) (on_way rules.tester (plan_of P u).address c.link.inbox c.link.rest v.gateway)
         → IsTalkCounted (plan_of P u) (c.recorded (Begun u)) (marks_of found u) (First u) (Now u) (talk_takes (plan_of P u) c.link.ticks o (c.slots u).talk)
     word_talk None words is begins = (counted.units u lu).talk
     word_talk (Some w) words is begins =
-        let way : on_way rules.tester (plan_of P u).address c.link.inbox c.link.rest v.gateway ≡ w ∷ (words_from (plan_of P u).address (without_first (plan_of P u).address words) ++ begins.0) =
-        begins.1 ∙ ap (λ (ws : List Spoken). ws ++ begins.0) (first_is (plan_of P u).address words w is) in
+        let way : on_way rules.tester (plan_of P u).address c.link.inbox c.link.rest v.gateway ≡ w ∷ (messages_from (plan_of P u).address (without_first (plan_of P u).address words) ++ begins.0) =
+        begins.1 ∙ ap (λ (ws : List UnitMessage). ws ++ begins.0) (first_is (plan_of P u).address words w is) in
         (word_goes (plan_of P u) (accepted.each u lu) (c.recorded (Begun u)) (c.recorded (Begun u)) (marks_of found u) (marks_of c.recorded u) c.link.ticks (c.slots u).talk (joint.sane.slots u lu).talk awaiting (held_of (plan_of P u).address v.gateway.held) w _ (First u) (Now u) kept_u talk_u finish_u
-        (subst (λ (ws : List Spoken). IsAwaitCounted (plan_of P u) (marks_of found u) (c.slots u).talk (held_of (plan_of P u).address v.gateway.held) ws (First u) (Now u)) way (awaited u lu live opened awaiting).awaits)).talk
+        (subst (λ (ws : List UnitMessage). IsAwaitCounted (plan_of P u) (marks_of found u) (c.slots u).talk (held_of (plan_of P u).address v.gateway.held) ws (First u) (Now u)) way (awaited u lu live opened awaiting).awaits)).talk
 
     -- what is awaited after it
-    take_own : (o : Option Spoken) (l : Link) (w : Vehicle) → first_word (plan_of P u).address l.inbox ≡ o → w.gateway.tick ≤ t0 + c.link.ticks → KeptIn (First u) (unit_at w.units (plan_of P u).address) → KeptIn (unit_at w.units (plan_of P u).address) (unit_at w.units (plan_of P u).address)
+    take_own : (o : Option UnitMessage) (l : Link) (w : Vehicle) → first_message (plan_of P u).address l.inbox ≡ o → w.gateway.tick ≤ t0 + c.link.ticks → KeptIn (First u) (unit_at w.units (plan_of P u).address) → KeptIn (unit_at w.units (plan_of P u).address) (unit_at w.units (plan_of P u).address)
         → IsTalkCounted (plan_of P u) (c.recorded (Begun u)) (marks_of found u) (First u) (unit_at w.units (plan_of P u).address) (c.slots u).talk
         → FinishesIn (plan_of P u) (marks_of found u) (c.slots u).talk.marks (First u) (unit_at w.units (plan_of P u).address) → IsAwaited rules.tester (plan_of P u) (marks_of found u) t0 (c.slots u).talk l first w
-        → (talk_takes (plan_of P u) c.link.ticks o (c.slots u).talk).awaiting ≡ true → IsAwaited rules.tester (plan_of P u) (marks_of found u) t0 (talk_takes (plan_of P u) c.link.ticks o (c.slots u).talk) (take_word (plan_of P u).address l) first w
+        → (talk_takes (plan_of P u) c.link.ticks o (c.slots u).talk).awaiting ≡ true → IsAwaited rules.tester (plan_of P u) (marks_of found u) t0 (talk_takes (plan_of P u) c.link.ticks o (c.slots u).talk) (take_message (plan_of P u).address l) first w
     take_own None l w is le kept same talk finish a waits = subst (λ (x : Link). IsAwaited rules.tester (plan_of P u) (marks_of found u) t0 (c.slots u).talk x first w) (sym (take_none (plan_of P u).address l is)) a
     take_own (Some word) l w is le kept same talk finish a waits =
         let way : on_way rules.tester (plan_of P u).address l.inbox l.rest w.gateway ≡ word ∷ on_way rules.tester (plan_of P u).address (without_first (plan_of P u).address l.inbox) l.rest w.gateway =
-        ap (λ (ws : List Spoken). ws ++ (words_in rules.tester (plan_of P u).address (stream_of (l.rest ++ w.gateway.ready)).frames ++ (words_later rules.tester (plan_of P u).address w.gateway.later ++ words_held (plan_of P u).address w.gateway.held))) (first_is (plan_of P u).address l.inbox word is) in
+        ap (λ (ws : List UnitMessage). ws ++ (messages_in rules.tester (plan_of P u).address (stream_of (l.rest ++ w.gateway.ready)).frames ++ (messages_later rules.tester (plan_of P u).address w.gateway.later ++ messages_held (plan_of P u).address w.gateway.held))) (first_is (plan_of P u).address l.inbox word is) in
         let goes = word_goes (plan_of P u) (accepted.each u lu) (c.recorded (Begun u)) (c.recorded (Begun u)) (marks_of found u) (marks_of c.recorded u) c.link.ticks (c.slots u).talk (joint.sane.slots u lu).talk awaiting (held_of (plan_of P u).address w.gateway.held) word _ (First u) (unit_at w.units (plan_of P u).address) kept talk finish
-        (subst (λ (ws : List Spoken). IsAwaitCounted (plan_of P u) (marks_of found u) (c.slots u).talk (held_of (plan_of P u).address w.gateway.held) ws (First u) (unit_at w.units (plan_of P u).address)) way a.awaits) in
+        (subst (λ (ws : List UnitMessage). IsAwaitCounted (plan_of P u) (marks_of found u) (c.slots u).talk (held_of (plan_of P u).address w.gateway.held) ws (First u) (unit_at w.units (plan_of P u).address)) way a.awaits) in
         record {
           awaits = goes.awaits waits;
-          timed = subst (λ (n : ℕ). IsTimed rules.tester (plan_of P u).address (t0 + n) (take_word (plan_of P u).address l).inbox l.rest w.gateway (First u) (unit_at w.units (plan_of P u).address)) (sym (hears_since (plan_of P u) c.link.ticks word (c.slots u).talk waits))
+          timed = subst (λ (n : ℕ). IsTimed rules.tester (plan_of P u).address (t0 + n) (take_message (plan_of P u).address l).inbox l.rest w.gateway (First u) (unit_at w.units (plan_of P u).address)) (sym (hears_since (plan_of P u) c.link.ticks word (c.slots u).talk waits))
               (own_taken rules.tester (plan_of P u).address (t0 + (c.slots u).talk.since) (t0 + c.link.ticks) l w.gateway (First u) (unit_at w.units (plan_of P u).address) same le a.timed);
         }
 
@@ -619,20 +611,20 @@ module _ (rules : LinkRules) (P : List UnitPlan) (found : Entry → Bool) (c : C
     pub kept_step : (n : ℕ) (w : Vehicle) → is_allowed P c (Collected u kept_word) ≡ true → w ≡ v → VehicleGrows v w → n < count_of P → Counted (Collected u kept_word) n w
     kept_step n w ok is grows lt = after (Collected u kept_word) n w ok lt grows (checked_still n w lt is)
         (by_talk u n _ w c.recorded lt
-        (λ x. subst (λ (y : Vehicle). IsTalkCounted (plan_of P u) (c.recorded (Begun u)) (marks_of found u) (First u) (unit_at y.units (plan_of P u).address) (talk_takes (plan_of P u) c.link.ticks (first_word (plan_of P u).address c.link.inbox) (c.slots u).talk)) (sym is)
-        (word_talk (first_word (plan_of P u).address c.link.inbox) c.link.inbox refl (words_in rules.tester (plan_of P u).address (stream_of (c.link.rest ++ v.gateway.ready)).frames ++ (words_later rules.tester (plan_of P u).address v.gateway.later ++ words_held (plan_of P u).address v.gateway.held), refl)))
+        (λ x. subst (λ (y : Vehicle). IsTalkCounted (plan_of P u) (c.recorded (Begun u)) (marks_of found u) (First u) (unit_at y.units (plan_of P u).address) (talk_takes (plan_of P u) c.link.ticks (first_message (plan_of P u).address c.link.inbox) (c.slots u).talk)) (sym is)
+        (word_talk (first_message (plan_of P u).address c.link.inbox) c.link.inbox refl (messages_in rules.tester (plan_of P u).address (stream_of (c.link.rest ++ v.gateway.ready)).frames ++ (messages_later rules.tester (plan_of P u).address v.gateway.later ++ messages_held (plan_of P u).address v.gateway.held), refl)))
         (λ e. moved n w is lt (counted.units n lt).talk))
-        (λ losses x. by_awaited u n _ (take_word (plan_of P u).address c.link) w lt
-        (λ y o a. subst (λ (z : Vehicle). IsAwaited rules.tester (plan_of P u) (marks_of found u) t0 (talk_takes (plan_of P u) c.link.ticks (first_word (plan_of P u).address c.link.inbox) (c.slots u).talk) (take_word (plan_of P u).address c.link) first z) (sym is)
-        (take_own (first_word (plan_of P u).address c.link.inbox) c.link v refl (let e : v.gateway.tick ≡ t0 + c.link.ticks = joint.ticks in omega (arith, e)) kept_u (unit_up_same (Now u)) talk_u finish_u (awaited u lu live opened awaiting) a))
-        (λ e o a. subst (λ (z : Vehicle). IsAwaited rules.tester (plan_of P n) (marks_of found n) t0 (c.slots n).talk (take_word (plan_of P u).address c.link) first z) (sym is)
-        (still_awaited rules.tester (plan_of P n) (marks_of found n) t0 (c.slots n).talk c.link (take_word (plan_of P u).address c.link) first v v (other_taken rules.tester (plan_of P n).address (plan_of P u).address c.link v.gateway (apart u n lt lu e)) (same_self (Now n)) (unit_up_same (Now n)) (awaited n lt live o a))))
+        (λ losses x. by_awaited u n _ (take_message (plan_of P u).address c.link) w lt
+        (λ y o a. subst (λ (z : Vehicle). IsAwaited rules.tester (plan_of P u) (marks_of found u) t0 (talk_takes (plan_of P u) c.link.ticks (first_message (plan_of P u).address c.link.inbox) (c.slots u).talk) (take_message (plan_of P u).address c.link) first z) (sym is)
+        (take_own (first_message (plan_of P u).address c.link.inbox) c.link v refl (let e : v.gateway.tick ≡ t0 + c.link.ticks = joint.ticks in omega (arith, e)) kept_u (unit_up_same (Now u)) talk_u finish_u (awaited u lu live opened awaiting) a))
+        (λ e o a. subst (λ (z : Vehicle). IsAwaited rules.tester (plan_of P n) (marks_of found n) t0 (c.slots n).talk (take_message (plan_of P u).address c.link) first z) (sym is)
+        (still_awaited rules.tester (plan_of P n) (marks_of found n) t0 (c.slots n).talk c.link (take_message (plan_of P u).address c.link) first v v (other_taken rules.tester (plan_of P n).address (plan_of P u).address c.link v.gateway (apart u n lt lu e)) (same_self (Now n)) (unit_up_same (Now n)) (awaited n lt live o a))))
 
     -- a tick
     ticked_awaited : (n : ℕ) → n < count_of P → v.gateway.ready ≡ [] → is_open_slot (c.slots n) ≡ true → (c.slots n).talk.awaiting ≡ true → IsAwaited rules.tester (plan_of P n) (marks_of found n) t0 (c.slots n).talk (quiet_link c.link) first (ticked v)
     ticked_awaited n lt none o a = tick_awaited rules.tester (plan_of P n) (marks_of found n) t0 (c.slots n).talk c.link first v connected none ((joint.units n lt).order live) (up_tester rules.tester c.link v.gateway connected up) ((joint.units n lt).held live o a) (counted.units n lt).kept (awaited n lt live o a)
 
-    quiet_talk : (none : v.gateway.ready ≡ []) → is_some (first_word (plan_of P u).address c.link.inbox) ≡ false → VehicleGrows v (ticked v) → SameIn (Now u) (unit_at (ticked v).units (plan_of P u).address)
+    quiet_talk : (none : v.gateway.ready ≡ []) → is_some (first_message (plan_of P u).address c.link.inbox) ≡ false → VehicleGrows v (ticked v) → SameIn (Now u) (unit_at (ticked v).units (plan_of P u).address)
         → IsTalkCounted (plan_of P u) (c.recorded (Begun u)) (marks_of found u) (First u) (unit_at (ticked v).units (plan_of P u).address) (talk_quiet (plan_of P u) (c.link.ticks + 1) (c.slots u).talk)
     quiet_talk none no_more grows same = elim (cases_Bool (nat_le ((c.slots u).talk.since + 1000) (c.link.ticks + 1))) [
       | inr e ↦ rw e (rests u (ticked v) lu grows same)
@@ -648,7 +640,7 @@ module _ (rules : LinkRules) (P : List UnitPlan) (found : Entry → Bool) (c : C
       | inl e ↦ rw e (λ a. absurd (false≢true a))
     ]
 
-    pub quiet_step : (n : ℕ) (w : Vehicle) → is_allowed P c (Collected u Quiet) ≡ true → is_some (first_word (plan_of P u).address c.link.inbox) ≡ false → Ticks v w → VehicleGrows v w → VehicleGrows v (ticked v) → SameUnits v.units (ticked v).units → n < count_of P → Counted (Collected u Quiet) n w
+    pub quiet_step : (n : ℕ) (w : Vehicle) → is_allowed P c (Collected u Quiet) ≡ true → is_some (first_message (plan_of P u).address c.link.inbox) ≡ false → Ticks v w → VehicleGrows v w → VehicleGrows v (ticked v) → SameUnits v.units (ticked v).units → n < count_of P → Counted (Collected u Quiet) n w
     quiet_step n w ok no_more did grows grows2 same lt = after (Collected u Quiet) n w ok lt grows (subst (λ (x : Vehicle). CheckedIn n x) (sym did.becomes) (checked_same n (ticked v) lt (same (plan_of P n).address)))
         (subst (λ (x : Vehicle). TalkAfter (Collected u Quiet) n x) (sym did.becomes)
         (by_talk u n _ (ticked v) c.recorded lt (λ x. quiet_talk did.none no_more grows2 (same (plan_of P u).address)) (λ e. rests n (ticked v) lt grows2 (same (plan_of P n).address))))
@@ -660,13 +652,13 @@ module _ (rules : LinkRules) (P : List UnitPlan) (found : Entry → Bool) (c : C
     piece_step bytes n w ok shown grows same lt = after (Collected u (Piece bytes)) n w ok lt grows (checked_same n w lt (same (plan_of P n).address))
         (by_talk u n _ w c.recorded lt
         (λ x. moved_talk (plan_of P u) (c.recorded (Begun u)) (marks_of found u) (First u) (Now u) _ _ (grows.units (plan_of P u).address) (same (plan_of P u).address)
-        (word_talk (first_word (plan_of P u).address (hear_piece rules.tester (addresses_of P) bytes c.link).inbox) (hear_piece rules.tester (addresses_of P) bytes c.link).inbox refl
+        (word_talk (first_message (plan_of P u).address (hear_piece rules.tester (addresses_of P) bytes c.link).inbox) (hear_piece rules.tester (addresses_of P) bytes c.link).inbox refl
         (piece_first rules.tester (addresses_of P) (plan_of P u).address (known_address P u lu) bytes c.link v w connected shown)))
         (λ e. rests n w lt grows (same (plan_of P n).address)))
-        (λ losses lives. by_awaited u n _ (take_word (plan_of P u).address (hear_piece rules.tester (addresses_of P) bytes c.link)) w lt
-        (λ y o a. take_own (first_word (plan_of P u).address (hear_piece rules.tester (addresses_of P) bytes c.link).inbox) (hear_piece rules.tester (addresses_of P) bytes c.link) w refl tick (kept_of u w lu grows) (unit_up_same _) (rests u w lu grows (same (plan_of P u).address))
+        (λ losses lives. by_awaited u n _ (take_message (plan_of P u).address (hear_piece rules.tester (addresses_of P) bytes c.link)) w lt
+        (λ y o a. take_own (first_message (plan_of P u).address (hear_piece rules.tester (addresses_of P) bytes c.link).inbox) (hear_piece rules.tester (addresses_of P) bytes c.link) w refl tick (kept_of u w lu grows) (unit_up_same _) (rests u w lu grows (same (plan_of P u).address))
         (finishes_on (plan_of P u) (marks_of found u) (c.slots u).talk.marks (First u) (Now u) _ (same (plan_of P u).address) finish_u) (heard lives u lu opened awaiting) a)
-        (λ e o a. still_awaited rules.tester (plan_of P n) (marks_of found n) t0 (c.slots n).talk (hear_piece rules.tester (addresses_of P) bytes c.link) (take_word (plan_of P u).address (hear_piece rules.tester (addresses_of P) bytes c.link)) first w w
+        (λ e o a. still_awaited rules.tester (plan_of P n) (marks_of found n) t0 (c.slots n).talk (hear_piece rules.tester (addresses_of P) bytes c.link) (take_message (plan_of P u).address (hear_piece rules.tester (addresses_of P) bytes c.link)) first w w
         (other_taken rules.tester (plan_of P n).address (plan_of P u).address (hear_piece rules.tester (addresses_of P) bytes c.link) w.gateway (apart u n lt lu e)) (same_self _) (unit_up_same _) (heard lives n lt o a)))
       where
         tick : w.gateway.tick ≤ t0 + c.link.ticks
@@ -691,27 +683,6 @@ module _ (rules : LinkRules) (P : List UnitPlan) (found : Entry → Bool) (c : C
   collected_step u Lost n w ok did grows lt = let f = collected_facts P c u Lost ok in missed_step u f.below f.slot f.awaiting f.up n w ok grows (units_received rules P c found v t0 accepted joint Lost w did) lt
 
   -- ------ a step for the link
-  down_not_up : (p : Phase) → is_down p ≡ true → is_up p ≡ false
-  down_not_up Down e = refl
-  down_not_up Fresh e = refl
-  down_not_up Waits e = refl
-  down_not_up Up e = absurd (false≢true e)
-  down_not_up (Denied code) e = refl
-
-  fresh_not_up : (p : Phase) → is_fresh p ≡ true → is_up p ≡ false
-  fresh_not_up Down e = refl
-  fresh_not_up Fresh e = refl
-  fresh_not_up Waits e = refl
-  fresh_not_up Up e = absurd (false≢true e)
-  fresh_not_up (Denied code) e = refl
-
-  waiting_not_up : (p : Phase) → is_waiting p ≡ true → is_up p ≡ false
-  waiting_not_up Down e = refl
-  waiting_not_up Fresh e = refl
-  waiting_not_up Waits e = refl
-  waiting_not_up Up e = absurd (false≢true e)
-  waiting_not_up (Denied code) e = refl
-
   -- no answer is awaited while the link is not up
   idle_awaits : (step : Tend) (n : ℕ) (w : Vehicle) → n < count_of P → is_up c.link.phase ≡ false → AwaitedAfter (Tended step) n w
   idle_awaits step n w lt down losses lives o a = absurd (both_ways _ (joint.sane.down down n lt o) a)
@@ -723,20 +694,20 @@ module _ (rules : LinkRules) (P : List UnitPlan) (found : Entry → Bool) (c : C
       let s = alive_sends rules.tester v w (between rules c.link v.gateway (joint.connected lives)) did in
       let h = s.handled in
       let none : Nothing v h.mid h.out = h.handles in
-      let is : w.gateway ≡ record v.gateway { unfinished = [] } = ap (λ (x : Vehicle). x.gateway) (h.becomes ∙ (λ j. record (none.becomes j) { gateway = queue_words (record (none.becomes j).gateway { unfinished = [] }) (none.none j) })) in
+      let is : w.gateway ≡ record v.gateway { unfinished = [] } = ap (λ (x : Vehicle). x.gateway) (h.becomes ∙ (λ j. record (none.becomes j) { gateway = queue_replies (record (none.becomes j).gateway { unfinished = [] }) (none.none j) })) in
       still_awaited rules.tester (plan_of P n) (marks_of found n) t0 (c.slots n).talk c.link (record c.link { owes = false }) first v w
       (subst (λ (g : Gateway). IsStillOn rules.tester (plan_of P n).address c.link.inbox c.link.inbox c.link.rest c.link.rest v.gateway g) (sym is) (record { way = refl; came = λ e. e; due = refl; later = refl; holds = λ one e. e; tick = refl }))
       (same (plan_of P n).address) (grows.units (plan_of P n).address) (awaited n lt lives o a)
 
   tended_awaits : (step : Tend) (n : ℕ) (w : Vehicle) → n < count_of P → fits_link c step ≡ true → Tends rules step v w → VehicleGrows v w → SameUnits v.units w.units → AwaitedAfter (Tended step) n w
   tended_awaits (Dialed lost) n w lt may did grows same = idle_awaits (Dialed lost) n w lt (down_not_up c.link.phase may)
-  tended_awaits (Asked lost) n w lt may did grows same = idle_awaits (Asked lost) n w lt (fresh_not_up c.link.phase may)
+  tended_awaits (Asked lost) n w lt may did grows same = idle_awaits (Asked lost) n w lt (dialed_not_up c.link.phase may)
   tended_awaits (Said true) n w lt may did grows same = λ losses live o a. absurd (omega (arith, losses))
   tended_awaits (Said false) n w lt may did grows same = said_awaits n w lt may did grows same
   tended_awaits (Polled kept_word) n w lt may did grows same = absurd (false≢true may)
-  tended_awaits (Polled Quiet) n w lt may did grows same = idle_awaits (Polled Quiet) n w lt (waiting_not_up c.link.phase may)
-  tended_awaits (Polled (Piece bytes)) n w lt may did grows same = idle_awaits (Polled (Piece bytes)) n w lt (waiting_not_up c.link.phase may)
-  tended_awaits (Polled Lost) n w lt may did grows same = idle_awaits (Polled Lost) n w lt (waiting_not_up c.link.phase may)
+  tended_awaits (Polled Quiet) n w lt may did grows same = idle_awaits (Polled Quiet) n w lt (asked_not_up c.link.phase may)
+  tended_awaits (Polled (Piece bytes)) n w lt may did grows same = idle_awaits (Polled (Piece bytes)) n w lt (asked_not_up c.link.phase may)
+  tended_awaits (Polled Lost) n w lt may did grows same = idle_awaits (Polled Lost) n w lt (asked_not_up c.link.phase may)
 
   pub tended_step : (step : Tend) (n : ℕ) (w : Vehicle) → is_allowed P c (Tended step) ≡ true → Tends rules step v w → VehicleGrows v w → n < count_of P → Counted (Tended step) n w
   tended_step step n w ok did grows lt =

@@ -8,7 +8,7 @@ use Rattle.flash_plan.specs.declared.outcome.Outcome.{Outcome}
 use Rattle.flash_plan.specs.declared.outcome.Outcome.TheVariants as outcome
 use Rattle.flash_plan.specs.declared.outcome.Outcome.TheVariants.{Refused, BadAnswer, CheckFailed, IdentMismatch, Undelivered, PendingLimit, BusyLimit}
 use Rattle.flash_plan.specs.declared.unit.UnitPlan.{UnitPlan}
-use Rattle.uds_codec.specs.Answer.{Verdict, Later, Again, Refusal, Good, Bad_status, Strange, judge}
+use Rattle.uds_codec.specs.Answer.{Verdict, Pending, Busy, Refusal, Accepted, BadStatus, Malformed, judge}
 use Rattle.uds_codec.specs.Request.{sid_of}
 use Rattle.unit_model.specs.Step.{Departure, Refuses, Odd, Fails, Mutes, Busies, IsDeparture, Leaves, said_by, pending_bytes}
 use Rattle.unit_model.specs.Unit.{ControlUnit, has_key, obedient}
@@ -17,7 +17,7 @@ use Rattle.run_model.specs.Places.{needs_request, is_ended}
 use Rattle.run_model.specs.Script.{Place, AtIdent, AtBegin, AtProgram, AtSeed, AtKey, AtErase, AtDownload, AtBlock, AtExit, AtCheck, AtMark, AtFinish, AtReset, AtDone, AtEnd, bytes_at, place_next, place_judged, start_place}
 use Rattle.run_model.specs.States.{StateAt, SameButCounts, Obeyed, Departed}
 use Rattle.run_model.specs.Talk.{Talk, talk_hears, talk_judged, talk_final, end_talk}
-use Rattle.run_model.specs.Ways.{Spoken, Reply, Unheard, pending_words, final_word}
+use Rattle.run_model.specs.Ways.{UnitMessage, Reply, Nacked, pending_messages, final_message}
 use Rattle.unit_session.proofs.Keeps.{left_judged}
 use Rattle.unit_session.specs.Left.{requests_left}
 use Rattle.unit_session.specs.Onward.{IsFinalForm}
@@ -76,24 +76,24 @@ goes_on AtReset e = refl
 goes_on AtDone e = absurd (false≢true e)
 goes_on (AtEnd outcome) e = absurd (false≢true e)
 
-abbrev head_or : Spoken → List Spoken → Spoken
+abbrev head_or : UnitMessage → List UnitMessage → UnitMessage
 head_or w [] = w
 head_or w (x ∷ xs) = x
 
-cons_nil : (w : Spoken) (ws : List Spoken) → w ∷ ws ≡ [] → ⊥
+cons_nil : (w : UnitMessage) (ws : List UnitMessage) → w ∷ ws ≡ [] → ⊥
 cons_nil w ws e = false≢true (sym (ap is_cons e))
   where
-    is_cons : List Spoken → Bool
+    is_cons : List UnitMessage → Bool
     is_cons [] = false
     is_cons (x ∷ xs) = true
 
-pub pending_judged : (bytes : List ℕ) → judge bytes (pending_bytes (sid_of bytes)) ≡ Later
+pub pending_judged : (bytes : List ℕ) → judge bytes (pending_bytes (sid_of bytes)) ≡ Pending
 pending_judged bytes = rw (eq-eqb (sid_of bytes) (sid_of bytes) refl) refl
 
 refused_judged : (bytes : List ℕ) (nrc : ℕ) → (nrc ≡ 33 → ⊥) → (nrc ≡ 120 → ⊥) → judge bytes (127 ∷ sid_of bytes ∷ nrc ∷ []) ≡ Refusal nrc
 refused_judged bytes nrc a b = let here = eq-eqb (sid_of bytes) (sid_of bytes) refl in let x = ne_eqb nrc 120 b in let y = ne_eqb nrc 33 a in rw (here, x, y) refl
 
-busy_judged : (bytes : List ℕ) → judge bytes (127 ∷ sid_of bytes ∷ 33 ∷ []) ≡ Again
+busy_judged : (bytes : List ℕ) → judge bytes (127 ∷ sid_of bytes ∷ 33 ∷ []) ≡ Busy
 busy_judged bytes = rw (eq-eqb (sid_of bytes) (sid_of bytes) refl) refl
 
 -- a place behind a good answer is no end but one by an identifier's value
@@ -145,11 +145,11 @@ module _ (plan : UnitPlan) (ok : IsAcceptedUnit plan) (begun recorded : Bool) (f
   bytes = bytes_at plan t.place
 
   -- how the conversation stands, and what is awaited then
-  pub record Goes (first now : Option ControlUnit) (way : List Spoken) (t2 : Talk) : Type 0 where
+  pub record Goes (first now : Option ControlUnit) (way : List UnitMessage) (t2 : Talk) : Type 0 where
     pub talk : IsTalkCounted plan begun found first now t2
     pub awaits : t2.awaiting ≡ true → IsAwaitCounted plan found t2 held way first now
 
-  idle : (first now : Option ControlUnit) (way : List Spoken) (t2 : Talk) → t2.awaiting ≡ false → IsTalkCounted plan begun found first now t2 → Goes first now way t2
+  idle : (first now : Option ControlUnit) (way : List UnitMessage) (t2 : Talk) → t2.awaiting ≡ false → IsTalkCounted plan begun found first now t2 → Goes first now way t2
   idle first now way t2 none talk = record { talk = talk; awaits = λ a. absurd (both_ways _ none a) }
 
   module _ (first u : ControlUnit) (kept : Kept first u) (is : IsTalkCounted plan begun found (Some first) (Some u) t) (finishes : Finishes plan found t.marks first u) where
@@ -168,39 +168,39 @@ module _ (plan : UnitPlan) (ok : IsAcceptedUnit plan) (begun recorded : Bool) (f
       left = λ e. absurd (false≢true (sym e ∙ ap is_ended at));
     }
 
-    final_good : (rest : List ℕ) → IsFairNext plan begun first u (place_next plan t.marks t.place rest) → IsTalkCounted plan begun found (Some first) (Some u) (talk_final plan (Good rest) t)
+    final_good : (rest : List ℕ) → IsFairNext plan begun first u (place_next plan t.marks t.place rest) → IsTalkCounted plan begun found (Some first) (Some u) (talk_final plan (Accepted rest) t)
     final_good rest next = record {
       ident = next.2;
       ended = end_caused plan begun found first u (place_next plan t.marks t.place rest) next.0;
       busy = kept.counts.busy;
       takes = λ none. takes_all plan found t.marks first (place_next plan t.marks t.place rest) u (next_fits plan t.marks t.place rest sane.marked) finishes next.1;
-      left = λ e. fewer (Good rest) tt;
+      left = λ e. fewer (Accepted rest) tt;
     }
 
     -- the unit obeyed
     fair_word : (v : Verdict) → IsFair plan begun found t.marks first t.place u v → IsTalkCounted plan begun found (Some first) (Some u) (talk_judged plan tick v t)
-    fair_word Later f = absurd f
-    fair_word Again f = absurd f
+    fair_word Pending f = absurd f
+    fair_word Busy f = absurd f
     fair_word (Refusal nrc) f = final_end (Refusal nrc) (Refused (sid_of bytes) nrc) refl (inr f)
-    fair_word (Good rest) f = final_good rest f
-    fair_word (Bad_status status) f = final_end (Bad_status status) _ refl (inr f)
-    fair_word Strange f = final_end Strange (BadAnswer (sid_of bytes)) refl (inr f)
+    fair_word (Accepted rest) f = final_good rest f
+    fair_word (BadStatus status) f = final_end (BadStatus status) _ refl (inr f)
+    fair_word Malformed f = final_end Malformed (BadAnswer (sid_of bytes)) refl (inr f)
 
     fair_counts : (v : Verdict) (w : ControlUnit) → SameButCounts w u → IsFair plan begun found t.marks first t.place w v → IsFair plan begun found t.marks first t.place u v
-    fair_counts Later w same f = f
-    fair_counts Again w same f = f
+    fair_counts Pending w same f = f
+    fair_counts Busy w same f = f
     fair_counts (Refusal nrc) w same f = f
-    fair_counts (Good rest) w same f = (f.0, takes_counts (place_next plan t.marks t.place rest) w u same f.1, f.2)
-    fair_counts (Bad_status status) w same f = f
-    fair_counts Strange w same f = f
+    fair_counts (Accepted rest) w same f = (f.0, takes_counts (place_next plan t.marks t.place rest) w u same f.1, f.2)
+    fair_counts (BadStatus status) w same f = f
+    fair_counts Malformed w same f = f
 
     judged_idle : (v : Verdict) → IsFair plan begun found t.marks first t.place u v → (talk_judged plan tick v t).awaiting ≡ false
-    judged_idle Later f = absurd f
-    judged_idle Again f = absurd f
+    judged_idle Pending f = absurd f
+    judged_idle Busy f = absurd f
     judged_idle (Refusal nrc) f = refl
-    judged_idle (Good rest) f = refl
-    judged_idle (Bad_status status) f = refl
-    judged_idle Strange f = refl
+    judged_idle (Accepted rest) f = refl
+    judged_idle (BadStatus status) f = refl
+    judged_idle Malformed f = refl
 
     obeyed_word : (before : ControlUnit) (body : List ℕ) → SameMake first before → StateAt plan t.place before → Takes plan found first t.place before → Some body ≡ Some (obedient before bytes).1 → SameButCounts (obedient before bytes).0 u
         → Goes (Some first) (Some u) [] (talk_hears plan tick (Reply body) t)
@@ -211,7 +211,7 @@ module _ (plan : UnitPlan) (ok : IsAcceptedUnit plan) (begun recorded : Bool) (f
         idle (Some first) (Some u) [] (talk_hears plan tick (Reply body) t) (judged_idle (judge bytes body) g) (fair_word (judge bytes body) g)
 
     -- it departed
-    busy_word : Takes plan found first t.place u → RoseBy (t.busies + 1) first.counts.busy u.counts.busy → Goes (Some first) (Some u) [] (talk_judged plan tick Again t)
+    busy_word : Takes plan found first t.place u → RoseBy (t.busies + 1) first.counts.busy u.counts.busy → Goes (Some first) (Some u) [] (talk_judged plan tick Busy t)
     busy_word takes rose = elim (cases_Bool (t.busies == 20)) [
       | inl e ↦ rw e (let at : t.busies ≡ 20 = eqb-true t.busies 20 e in
           idle (Some first) (Some u) [] (end_talk (BusyLimit (sid_of bytes)) t) refl (ended_counted plan begun found (Some first) (Some u) t (BusyLimit (sid_of bytes)) (omega (arith, rose, at)) is))
@@ -228,18 +228,18 @@ module _ (plan : UnitPlan) (ok : IsAcceptedUnit plan) (begun recorded : Bool) (f
         judged_as body (Refusal nrc) (ap (judge bytes) (sym b) ∙ refused_judged bytes nrc dep.0 dep.1) (idle (Some first) (Some u) [] (talk_final plan (Refusal nrc) t) refl (final_end (Refusal nrc) (Refused (sid_of bytes) nrc) refl (inl rose)))
     departed_word before body (Odd odd) dep said takes rose =
         let b : odd ≡ body = ap (λ (o : Option (List ℕ)). unwrap_or o []) said in
-        judged_as body Strange (ap (judge bytes) (sym b) ∙ dep.0) (idle (Some first) (Some u) [] (talk_final plan Strange t) refl (final_end Strange (BadAnswer (sid_of bytes)) refl (inl rose)))
+        judged_as body Malformed (ap (judge bytes) (sym b) ∙ dep.0) (idle (Some first) (Some u) [] (talk_final plan Malformed t) refl (final_end Malformed (BadAnswer (sid_of bytes)) refl (inl rose)))
     departed_word before body (Fails failed) dep said takes rose =
         let b : failed ≡ body = ap (λ (o : Option (List ℕ)). unwrap_or o []) said in
-        judged_as body (Bad_status dep.0) (ap (judge bytes) (sym b) ∙ dep.1) (idle (Some first) (Some u) [] (talk_final plan (Bad_status dep.0) t) refl (final_end (Bad_status dep.0) _ refl (inl rose)))
+        judged_as body (BadStatus dep.0) (ap (judge bytes) (sym b) ∙ dep.1) (idle (Some first) (Some u) [] (talk_final plan (BadStatus dep.0) t) refl (final_end (BadStatus dep.0) _ refl (inl rose)))
     departed_word before body Mutes dep said takes rose = absurd (false≢true (ap (is_some {T = List ℕ}) said))
     departed_word before body Busies dep said takes rose =
         let b : 127 ∷ sid_of bytes ∷ 33 ∷ [] ≡ body = ap (λ (o : Option (List ℕ)). unwrap_or o []) said in
-        judged_as body Again (ap (judge bytes) (sym b) ∙ busy_judged bytes) (busy_word takes rose)
+        judged_as body Busy (ap (judge bytes) (sym b) ∙ busy_judged bytes) (busy_word takes rose)
 
     -- a response pending
-    pending_word : (way : List Spoken) (k : ℕ) (h : IsHeardCounted plan found t first held (Reply (pending_bytes (sid_of bytes)) ∷ way) u) → h.pending ≡ suc k → way ≡ pending_words (sid_of bytes) k ++ final_word h.said
-        → Goes (Some first) (Some u) way (talk_judged plan tick Later t)
+    pending_word : (way : List UnitMessage) (k : ℕ) (h : IsHeardCounted plan found t first held (Reply (pending_bytes (sid_of bytes)) ∷ way) u) → h.pending ≡ suc k → way ≡ pending_messages (sid_of bytes) k ++ final_message h.said
+        → Goes (Some first) (Some u) way (talk_judged plan tick Pending t)
     pending_word way k h at rest = elim (cases_Bool (t.pendings == 200)) [
       | inl e ↦ rw e (
           let full : t.pendings ≡ 200 = eqb-true t.pendings 200 e in
@@ -262,36 +262,36 @@ module _ (plan : UnitPlan) (ok : IsAcceptedUnit plan) (begun recorded : Bool) (f
       })
     ]
 
-    heard_word : (word : Spoken) (way : List Spoken) (k : ℕ) (said : Option (List ℕ)) (h : IsHeardCounted plan found t first held (word ∷ way) u) → h.pending ≡ k → h.said ≡ said → (word ∷ way ≡ pending_words (sid_of bytes) k ++ final_word said)
+    heard_word : (word : UnitMessage) (way : List UnitMessage) (k : ℕ) (said : Option (List ℕ)) (h : IsHeardCounted plan found t first held (word ∷ way) u) → h.pending ≡ k → h.said ≡ said → (word ∷ way ≡ pending_messages (sid_of bytes) k ++ final_message said)
         → Goes (Some first) (Some u) way (talk_hears plan tick word t)
     heard_word word way (suc k) said h p q on =
         let w : word ≡ Reply (pending_bytes (sid_of bytes)) = ap (head_or word) on in
-        let rest : way ≡ pending_words (sid_of bytes) k ++ final_word said = ap (drop 1) on in
-        let rest2 : way ≡ pending_words (sid_of bytes) k ++ final_word h.said = rest ∙ ap (λ (o : Option (List ℕ)). pending_words (sid_of (bytes_at plan t.place)) k ++ final_word o) (sym q) in
-        let h2 : IsHeardCounted plan found t first held (Reply (pending_bytes (sid_of bytes)) ∷ way) u = record { before = h.before; said = h.said; pending = h.pending; state = h.state; takes = h.takes; make = h.make; step = h.step; on_way = ap (λ (x : Spoken). x ∷ way) (sym w) ∙ h.on_way; patience = h.patience; holding = h.holding } in
-        subst (λ (x : Spoken). Goes (Some first) (Some u) way (talk_hears plan tick x t)) (sym w)
+        let rest : way ≡ pending_messages (sid_of bytes) k ++ final_message said = ap (drop 1) on in
+        let rest2 : way ≡ pending_messages (sid_of bytes) k ++ final_message h.said = rest ∙ ap (λ (o : Option (List ℕ)). pending_messages (sid_of (bytes_at plan t.place)) k ++ final_message o) (sym q) in
+        let h2 : IsHeardCounted plan found t first held (Reply (pending_bytes (sid_of bytes)) ∷ way) u = record { before = h.before; said = h.said; pending = h.pending; state = h.state; takes = h.takes; make = h.make; step = h.step; on_way = ap (λ (x : UnitMessage). x ∷ way) (sym w) ∙ h.on_way; patience = h.patience; holding = h.holding } in
+        subst (λ (x : UnitMessage). Goes (Some first) (Some u) way (talk_hears plan tick x t)) (sym w)
         (subst (λ (v : Verdict). Goes (Some first) (Some u) way (talk_judged plan tick v t)) (sym (pending_judged bytes)) (pending_word way k h2 p rest2))
     heard_word word way zero None h p q on = absurd (cons_nil word way on)
     heard_word word way zero (Some body) h p q on =
         let w : word ≡ Reply body = ap (head_or word) on in
         let rest : way ≡ [] = ap (drop 1) on in
-        subst (λ (x : Spoken × List Spoken). Goes (Some first) (Some u) x.1 (talk_hears plan tick x.0 t)) (λ i. (sym w i, sym rest i)) (go h.step)
+        subst (λ (x : UnitMessage × List UnitMessage). Goes (Some first) (Some u) x.1 (talk_hears plan tick x.0 t)) (λ i. (sym w i, sym rest i)) (go h.step)
       where
         go : Obeyed h.before bytes h.said u ⊎ ((d : Departed h.before bytes h.said u) × IsCounted d.kind t.busies first.counts u.counts) → Goes (Some first) (Some u) [] (talk_hears plan tick (Reply body) t)
         go (inl o) = obeyed_word h.before body h.make h.state h.takes (sym q ∙ o.said_is) o.state
         go (inr (d, counted)) = departed_word h.before body d.kind d.is (sym d.said_is ∙ q)
             (takes_all plan found t.marks first t.place u sane.marked finishes (takes_counts t.place d.mid u d.state (takes_left t.place h.before d.mid bytes d.leaves (takes_on plan found first t.place h.before h.takes)))) counted
 
-    missed_word : (word : Spoken) (way : List Spoken) → IsMissedCounted first (word ∷ way) u → Goes (Some first) (Some u) way (talk_hears plan tick word t)
+    missed_word : (word : UnitMessage) (way : List UnitMessage) → IsMissedCounted first (word ∷ way) u → Goes (Some first) (Some u) way (talk_hears plan tick word t)
     missed_word word way m =
-        let w : word ≡ Unheard m.code = ap (head_or word) m.on_way in
-        subst (λ (x : Spoken). Goes (Some first) (Some u) way (talk_hears plan tick x t)) (sym w)
+        let w : word ≡ Nacked m.code = ap (head_or word) m.on_way in
+        subst (λ (x : UnitMessage). Goes (Some first) (Some u) way (talk_hears plan tick x t)) (sym w)
         (idle (Some first) (Some u) way (end_talk (Undelivered m.code) t) refl (ended_counted plan begun found (Some first) (Some u) t (Undelivered m.code) m.count is))
 
-  pub word_goes : (word : Spoken) (way : List Spoken) (first now : Option ControlUnit) → KeptIn first now → IsTalkCounted plan begun found first now t → FinishesIn plan found t.marks first now → IsAwaitCounted plan found t held (word ∷ way) first now → Goes first now way (talk_hears plan tick word t)
+  pub word_goes : (word : UnitMessage) (way : List UnitMessage) (first now : Option ControlUnit) → KeptIn first now → IsTalkCounted plan begun found first now t → FinishesIn plan found t.marks first now → IsAwaitCounted plan found t held (word ∷ way) first now → Goes first now way (talk_hears plan tick word t)
   word_goes word way None None kept is finishes a =
-      let w : word ≡ Unheard 3 = ap (head_or word) a in
-      subst (λ (x : Spoken). Goes None None way (talk_hears plan tick x t)) (sym w) (idle None None way (end_talk (Undelivered 3) t) refl (ended_counted plan begun found None None t (Undelivered 3) refl is))
+      let w : word ≡ Nacked 3 = ap (head_or word) a in
+      subst (λ (x : UnitMessage). Goes None None way (talk_hears plan tick x t)) (sym w) (idle None None way (end_talk (Undelivered 3) t) refl (ended_counted plan begun found None None t (Undelivered 3) refl is))
   word_goes word way None (Some w) kept is finishes a = absurd kept
   word_goes word way (Some u) None kept is finishes a = absurd kept
   word_goes word way (Some u) (Some w) kept is finishes (inl m) = missed_word u w kept is finishes word way m

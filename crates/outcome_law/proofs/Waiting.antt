@@ -14,10 +14,10 @@ use Rattle.flash_plan.specs.declared.unit.UnitPlan.{UnitPlan}
 use Rattle.run_model.proofs.Pieces.{piece_way}
 use Rattle.run_model.proofs.Sees.{piece_keeps, piece_lives}
 use Rattle.run_model.specs.Connected.{IsConnected}
-use Rattle.run_model.specs.Link.{Link, is_live, is_open, is_known, hear_piece, take_word}
+use Rattle.run_model.specs.Link.{Link, is_live, is_open, is_known, hear_piece, take_message}
 use Rattle.run_model.specs.States.{SameButCounts}
 use Rattle.run_model.specs.Talk.{Talk}
-use Rattle.run_model.specs.Ways.{Spoken, words_from, words_in, words_later, words_held, on_way}
+use Rattle.run_model.specs.Ways.{UnitMessage, messages_from, messages_in, messages_later, messages_held, on_way}
 use Rattle.unit_model.proofs.Units.{SameState, SameIn}
 use Rattle.unit_model.specs.Poll.{IsShown, IsPlain, IsSeen}
 use Rattle.unit_model.specs.Step.{is_late, Departure, Refuses, Odd, Fails, Mutes, Busies}
@@ -38,7 +38,7 @@ counted_on (Fails body) busies a b c grow rose = rose_then 1 _ _ _ rose grow.fai
 counted_on Mutes busies a b c grow rose = rose_then 1 _ _ _ rose grow.muted
 counted_on Busies busies a b c grow rose = rose_then (busies + 1) _ _ _ rose grow.busy
 
-pub heard_on : (plan : UnitPlan) (found : ℕ → Bool) (t : Talk) (first : ControlUnit) (held held2 : List HeldAnswer) (way way2 : List Spoken) (u w : ControlUnit) → SameState u w → Kept u w → way2 ≡ way → ((one : HeldAnswer) → held2 ≡ one ∷ [] → held ≡ one ∷ [])
+pub heard_on : (plan : UnitPlan) (found : ℕ → Bool) (t : Talk) (first : ControlUnit) (held held2 : List HeldAnswer) (way way2 : List UnitMessage) (u w : ControlUnit) → SameState u w → Kept u w → way2 ≡ way → ((one : HeldAnswer) → held2 ≡ one ∷ [] → held ≡ one ∷ [])
     → IsHeardCounted plan found t first held way u → IsHeardCounted plan found t first held2 way2 w
 heard_on plan found t first held held2 way way2 u w same kept is back h = record {
   before = h.before;
@@ -56,7 +56,7 @@ heard_on plan found t first held held2 way way2 u w same kept is back h = record
   holding = λ one e. let x = h.holding one (back one e) in (x.0, elim x.1 [ inl le ↦ inl le | inr rose ↦ inr (rose_then 1 _ _ _ rose kept.counts.stalled) ]);
 }
 
-pub awaits_on : (plan : UnitPlan) (found : ℕ → Bool) (t : Talk) (held held2 : List HeldAnswer) (way way2 : List Spoken) (first now now2 : Option ControlUnit) → SameIn now now2 → KeptIn now now2 → way2 ≡ way → ((one : HeldAnswer) → held2 ≡ one ∷ [] → held ≡ one ∷ [])
+pub awaits_on : (plan : UnitPlan) (found : ℕ → Bool) (t : Talk) (held held2 : List HeldAnswer) (way way2 : List UnitMessage) (first now now2 : Option ControlUnit) → SameIn now now2 → KeptIn now now2 → way2 ≡ way → ((one : HeldAnswer) → held2 ≡ one ∷ [] → held ≡ one ∷ [])
     → IsAwaitCounted plan found t held way first now → IsAwaitCounted plan found t held2 way2 first now2
 awaits_on plan found t held held2 way way2 None None None same kept is back a = is ∙ a
 awaits_on plan found t held held2 way way2 None None (Some w) same kept is back a = absurd same
@@ -67,7 +67,7 @@ awaits_on plan found t held held2 way way2 (Some f) (Some u) (Some w) same kept 
 awaits_on plan found t held held2 way way2 (Some f) (Some u) (Some w) same kept is back (inr h) = inr (heard_on plan found t f held held2 way way2 u w same kept is back h)
 
 -- what has come late stays counted; else the times go on, or it is counted now
-pub timed_on : (tester a sent sent2 : ℕ) (inbox inbox2 : List (ℕ × Spoken)) (rest rest2 : List ℕ) (g g2 : Gateway) (first now now2 : Option ControlUnit) → KeptIn now now2 → (words_later tester a g.later ≡ [] → words_later tester a g2.later ≡ [])
+pub timed_on : (tester a sent sent2 : ℕ) (inbox inbox2 : List (ℕ × UnitMessage)) (rest rest2 : List ℕ) (g g2 : Gateway) (first now now2 : Option ControlUnit) → KeptIn now now2 → (messages_later tester a g.later ≡ [] → messages_later tester a g2.later ≡ [])
     → ((f u w : ControlUnit) → first ≡ Some f → now ≡ Some u → now2 ≡ Some w → IsOnTime tester a sent inbox rest g → Rose f.counts.late w.counts.late ⊎ IsOnTime tester a sent2 inbox2 rest2 g2)
     → IsTimed tester a sent inbox rest g first now → IsTimed tester a sent2 inbox2 rest2 g2 first now2
 timed_on tester a sent sent2 inbox inbox2 rest rest2 g g2 None now now2 kept later on is = later is
@@ -77,15 +77,15 @@ timed_on tester a sent sent2 inbox inbox2 rest rest2 g g2 (Some f) (Some u) (Som
 timed_on tester a sent sent2 inbox inbox2 rest rest2 g g2 (Some f) (Some u) (Some w) kept later on (inr t) = on f u w refl refl refl t
 
 -- ------ what is on the way stays, part by part
-pub record IsStillOn (tester a : ℕ) (inbox inbox2 : List (ℕ × Spoken)) (rest rest2 : List ℕ) (g g2 : Gateway) : Type 0 where
+pub record IsStillOn (tester a : ℕ) (inbox inbox2 : List (ℕ × UnitMessage)) (rest rest2 : List ℕ) (g g2 : Gateway) : Type 0 where
   pub way : on_way tester a inbox2 rest2 g2 ≡ on_way tester a inbox rest g
   pub came : come tester a inbox2 rest2 g2 ≡ [] → come tester a inbox rest g ≡ []
   pub due : dues tester a g2.later ≡ dues tester a g.later
-  pub later : words_later tester a g2.later ≡ words_later tester a g.later
+  pub later : messages_later tester a g2.later ≡ messages_later tester a g.later
   pub holds : (one : HeldAnswer) → held_of a g2.held ≡ one ∷ [] → held_of a g.held ≡ one ∷ []
   pub tick : g2.tick ≡ g.tick
 
-pub still_on : (tester a sent : ℕ) (inbox inbox2 : List (ℕ × Spoken)) (rest rest2 : List ℕ) (g g2 : Gateway) → IsStillOn tester a inbox inbox2 rest rest2 g g2 → IsOnTime tester a sent inbox rest g → IsOnTime tester a sent inbox2 rest2 g2
+pub still_on : (tester a sent : ℕ) (inbox inbox2 : List (ℕ × UnitMessage)) (rest rest2 : List ℕ) (g g2 : Gateway) → IsStillOn tester a inbox inbox2 rest rest2 g g2 → IsOnTime tester a sent inbox rest g → IsOnTime tester a sent inbox2 rest2 g2
 still_on tester a sent inbox inbox2 rest rest2 g g2 s t = record {
   last = t.last;
   past = subst (λ (n : ℕ). t.last ≤ n) (sym s.tick) t.past;
@@ -109,10 +109,10 @@ still_awaited tester plan found t0 t l l2 first v w s same kept is = record {
 }
 
 -- ------ a word of another unit is taken
-pub other_taken : (tester a b : ℕ) (l : Link) (g : Gateway) → (a ≡ b → ⊥) → IsStillOn tester a l.inbox (take_word b l).inbox l.rest l.rest g g
+pub other_taken : (tester a b : ℕ) (l : Link) (g : Gateway) → (a ≡ b → ⊥) → IsStillOn tester a l.inbox (take_message b l).inbox l.rest l.rest g g
 other_taken tester a b l g apart = record {
-  way = λ i. others_keep b a l.inbox apart i ++ (words_in tester a (stream_of (l.rest ++ g.ready)).frames ++ (words_later tester a g.later ++ words_held a g.held));
-  came = λ e. (λ i. sym (others_keep b a l.inbox apart) i ++ words_in tester a (stream_of (l.rest ++ g.ready)).frames) ∙ e;
+  way = λ i. others_keep b a l.inbox apart i ++ (messages_in tester a (stream_of (l.rest ++ g.ready)).frames ++ (messages_later tester a g.later ++ messages_held a g.held));
+  came = λ e. (λ i. sym (others_keep b a l.inbox apart) i ++ messages_in tester a (stream_of (l.rest ++ g.ready)).frames) ∙ e;
   due = refl;
   later = refl;
   holds = λ one e. e;
@@ -123,8 +123,8 @@ other_taken tester a b l g apart = record {
 abbrev bare : Gateway → Gateway
 bare g = record g { later = []; held = [] }
 
-bare_way : (tester a : ℕ) (inbox : List (ℕ × Spoken)) (rest : List ℕ) (g : Gateway) → on_way tester a inbox rest (bare g) ≡ come tester a inbox rest g
-bare_way tester a inbox rest g = ap (λ (ws : List Spoken). words_from a inbox ++ ws) (append-nil (words_in tester a (stream_of (rest ++ g.ready)).frames))
+bare_way : (tester a : ℕ) (inbox : List (ℕ × UnitMessage)) (rest : List ℕ) (g : Gateway) → on_way tester a inbox rest (bare g) ≡ come tester a inbox rest g
+bare_way tester a inbox rest g = ap (λ (ws : List UnitMessage). messages_from a inbox ++ ws) (append-nil (messages_in tester a (stream_of (rest ++ g.ready)).frames))
 
 pub piece_on : (tester : ℕ) (units : List ℕ) (a : ℕ) (piece : List ℕ) (l : Link) (v v2 : Vehicle) → is_known units a ≡ true → is_open l.phase ≡ true → is_live (hear_piece tester units piece l).phase ≡ true → IsConnected tester l v.gateway → IsShown piece v v2
     → IsStillOn tester a l.inbox (hear_piece tester units piece l).inbox l.rest (hear_piece tester units piece l).rest v.gateway v2.gateway
@@ -132,7 +132,7 @@ piece_on tester units a piece l v v2 known opened lives c shown = record {
   way = ways v.gateway v2.gateway ready later held;
   came = λ e. sym (bare_way tester a l.inbox l.rest v.gateway) ∙ sym (ways (bare v.gateway) (bare v2.gateway) ready refl refl) ∙ bare_way tester a (hear_piece tester units piece l).inbox (hear_piece tester units piece l).rest v2.gateway ∙ e;
   due = ap (dues tester a) later;
-  later = ap (words_later tester a) later;
+  later = ap (messages_later tester a) later;
   holds = λ one e. ap (held_of a) (sym held) ∙ e;
   tick = ap (λ (x : Vehicle). x.gateway.tick) shown.carries.becomes;
 }
@@ -160,6 +160,6 @@ piece_on tester units a piece l v v2 known opened lives c shown = record {
         go (inr bad) = absurd (both_ways _ (ap (is_some {T = Bad}) (ap (λ (x : List ℕ). (stream_of x).bad) carried ∙ got_bad ∙ (piece_lives tester units piece l opened lives).0)) bad.is_bad)
 
 -- ------ the word in front is taken, and the unit still awaited: what comes next is counted from now
-pub own_taken : (tester a sent now_tick : ℕ) (l : Link) (g : Gateway) (first now : Option ControlUnit) → KeptIn now now → g.tick ≤ now_tick → IsTimed tester a sent l.inbox l.rest g first now → IsTimed tester a now_tick (take_word a l).inbox l.rest g first now
-own_taken tester a sent now_tick l g first now kept le is = timed_on tester a sent now_tick l.inbox (take_word a l).inbox l.rest l.rest g g first now now kept (λ e. e)
+pub own_taken : (tester a sent now_tick : ℕ) (l : Link) (g : Gateway) (first now : Option ControlUnit) → KeptIn now now → g.tick ≤ now_tick → IsTimed tester a sent l.inbox l.rest g first now → IsTimed tester a now_tick (take_message a l).inbox l.rest g first now
+own_taken tester a sent now_tick l g first now kept le is = timed_on tester a sent now_tick l.inbox (take_message a l).inbox l.rest l.rest g g first now now kept (λ e. e)
     (λ f u w x y z t. inr (record { last = t.last; past = t.past; after = t.after; taken = λ e. let p : t.last ≤ g.tick = t.past in omega (arith, p, le); next = t.next; held = t.held })) is

@@ -19,7 +19,7 @@ use Rattle.run_model.specs.Places.{AreMarked, is_ended}
 use Rattle.run_model.specs.Script.{Place, AtIdent, AtDownload, AtBlock, AtFinish, AtEnd, bytes_at, start_place}
 use Rattle.run_model.specs.States.{StateAt, HasRoom, Obeyed, Departed}
 use Rattle.run_model.specs.Talk.{Talk}
-use Rattle.run_model.specs.Ways.{Spoken, Unheard, words_from, words_in, words_later, on_way, is_empty_words, pending_words, final_word}
+use Rattle.run_model.specs.Ways.{UnitMessage, Nacked, messages_from, messages_in, messages_later, on_way, has_no_message, pending_messages, final_message}
 use Rattle.unit_session.specs.Left.{requests_left}
 use Rattle.bay_core.specs.Core.{Slot, Core}
 use Rattle.bay_core.specs.Joint.{is_open_slot, held_of}
@@ -101,7 +101,7 @@ IsCounted Busies busies old new = RoseBy (busies + 1) old.busy new.busy
 
 -- The unit heard the request in hand: it obeyed, or departed, which was counted. More than 200 responses pending were counted
 -- too; the held answer has said at least as many as came and are on the way.
-pub record IsHeardCounted (plan : UnitPlan) (found : ℕ → Bool) (t : Talk) (first : ControlUnit) (held : List HeldAnswer) (way : List Spoken) (u : ControlUnit) : Type 0 where
+pub record IsHeardCounted (plan : UnitPlan) (found : ℕ → Bool) (t : Talk) (first : ControlUnit) (held : List HeldAnswer) (way : List UnitMessage) (u : ControlUnit) : Type 0 where
   pub before : ControlUnit
   pub said : Option (List ℕ)
   pub pending : ℕ
@@ -109,18 +109,18 @@ pub record IsHeardCounted (plan : UnitPlan) (found : ℕ → Bool) (t : Talk) (f
   pub takes : Takes plan found first t.place before
   pub make : SameMake first before
   pub step : Obeyed before (bytes_at plan t.place) said u ⊎ ((d : Departed before (bytes_at plan t.place) said u) × IsCounted d.kind t.busies first.counts u.counts)
-  pub on_way : way ≡ pending_words (sid_of (bytes_at plan t.place)) pending ++ final_word said
+  pub on_way : way ≡ pending_messages (sid_of (bytes_at plan t.place)) pending ++ final_message said
   pub patience : (t.pendings + pending ≤ 200) ⊎ Rose first.counts.stalled u.counts.stalled
   pub holding : (one : HeldAnswer) → held ≡ one ∷ [] → (t.pendings + pending ≤ one.pending) × ((one.pending ≤ 200) ⊎ Rose first.counts.stalled u.counts.stalled)
 
 -- the gateway refused to deliver it, which was counted
-pub record IsMissedCounted (first : ControlUnit) (way : List Spoken) (u : ControlUnit) : Type 0 where
+pub record IsMissedCounted (first : ControlUnit) (way : List UnitMessage) (u : ControlUnit) : Type 0 where
   pub code : ℕ
-  pub on_way : way ≡ Unheard code ∷ []
+  pub on_way : way ≡ Nacked code ∷ []
   pub count : Rose (first.counts.nacked code) (u.counts.nacked code)
 
-abbrev pub IsAwaitCounted : UnitPlan → (ℕ → Bool) → Talk → List HeldAnswer → List Spoken → Option ControlUnit → Option ControlUnit → Type 0
-IsAwaitCounted plan found t held way None None = way ≡ Unheard 3 ∷ []
+abbrev pub IsAwaitCounted : UnitPlan → (ℕ → Bool) → Talk → List HeldAnswer → List UnitMessage → Option ControlUnit → Option ControlUnit → Type 0
+IsAwaitCounted plan found t held way None None = way ≡ Nacked 3 ∷ []
 IsAwaitCounted plan found t held way None (Some w) = ⊥
 IsAwaitCounted plan found t held way (Some u) None = ⊥
 IsAwaitCounted plan found t held way (Some u) (Some w) = IsMissedCounted u way w ⊎ IsHeardCounted plan found t u held way w
@@ -129,11 +129,11 @@ IsAwaitCounted plan found t held way (Some u) (Some w) = IsMissedCounted u way w
 -- the ticks at which messages of the unit are due
 abbrev pub dues : ℕ → ℕ → List (ℕ × List ℕ) → List ℕ
 dues tester a [] = []
-dues tester a (q ∷ qs) = if is_empty_words (words_in tester a (stream_of q.1).frames) then dues tester a qs else q.0 ∷ dues tester a qs
+dues tester a (q ∷ qs) = if has_no_message (messages_in tester a (stream_of q.1).frames) then dues tester a qs else q.0 ∷ dues tester a qs
 
 -- what has come and was not taken yet
-abbrev pub come : ℕ → ℕ → List (ℕ × Spoken) → List ℕ → Gateway → List Spoken
-come tester a inbox rest g = words_from a inbox ++ words_in tester a (stream_of (rest ++ g.ready)).frames
+abbrev pub come : ℕ → ℕ → List (ℕ × UnitMessage) → List ℕ → Gateway → List UnitMessage
+come tester a inbox rest g = messages_from a inbox ++ messages_in tester a (stream_of (rest ++ g.ready)).frames
 
 -- a held answer says that it is pending each `every` ticks; where that is 1,000 or more, 1,000 have not gone by
 pub record IsHeldTimed (last tick : ℕ) (h : HeldAnswer) : Type 0 where
@@ -145,7 +145,7 @@ pub record IsHeldTimed (last tick : ℕ) (h : HeldAnswer) : Type 0 where
 
 -- The last message of the unit that has come, or the sending, was at `last`, and each message behind comes less than 1,000
 -- ticks after the one before it.
-pub record IsOnTime (tester a sent : ℕ) (inbox : List (ℕ × Spoken)) (rest : List ℕ) (g : Gateway) : Type 0 where
+pub record IsOnTime (tester a sent : ℕ) (inbox : List (ℕ × UnitMessage)) (rest : List ℕ) (g : Gateway) : Type 0 where
   pub last : ℕ
   pub past : last ≤ g.tick
   pub after : Each (λ d. g.tick < d) (dues tester a g.later)
@@ -154,8 +154,8 @@ pub record IsOnTime (tester a sent : ℕ) (inbox : List (ℕ × Spoken)) (rest :
   pub held : (one : HeldAnswer) → held_of a g.held ≡ one ∷ [] → IsHeldTimed last g.tick one
 
 -- or something of the unit came late, which was counted; a refusal to deliver has come at once
-abbrev pub IsTimed : ℕ → ℕ → ℕ → List (ℕ × Spoken) → List ℕ → Gateway → Option ControlUnit → Option ControlUnit → Type 0
-IsTimed tester a sent inbox rest g None now = words_later tester a g.later ≡ []
+abbrev pub IsTimed : ℕ → ℕ → ℕ → List (ℕ × UnitMessage) → List ℕ → Gateway → Option ControlUnit → Option ControlUnit → Type 0
+IsTimed tester a sent inbox rest g None now = messages_later tester a g.later ≡ []
 IsTimed tester a sent inbox rest g (Some u) None = ⊥
 IsTimed tester a sent inbox rest g (Some u) (Some w) = Rose u.counts.late w.counts.late ⊎ IsOnTime tester a sent inbox rest g
 

@@ -18,7 +18,7 @@ use Rattle.bay_core.specs.declared.event.Event.{Event}
 use Rattle.outcome_law.specs.Counting.{AreUnitsCounted}
 use Rattle.outcome_law.specs.Law.{IsCalmUnit, IsMatchingRun, GoesOn}
 use Rattle.outcome_law.specs.OutcomeCounting.{AreOutcomesCounted}
-use Rattle.outcome_law.specs.Outcomes.{IsUntroubled, IsOfRun, MatchesAt, AllMatch, LacksMemory}
+use Rattle.outcome_law.specs.Outcomes.{IsCalmOutcome, IsOfRun, MatchesAt, AllMatch, LacksMemory}
 
 -- unit n is there, matches by what was found, and has not departed since the vehicle was `first`
 abbrev pub IsCalmMatch : List UnitPlan → (Entry → Bool) → ℕ → Vehicle → Vehicle → Type 0
@@ -58,7 +58,7 @@ KeptUntroubledLaw = (rules : LinkRules) (P : List UnitPlan) (found : Entry → B
     → (failed : Bool) (faults : ℕ) (first now : Vehicle) (t0 n : ℕ) (outcome : Outcome)
     → AreUnitsCounted rules P found t0 c first now → AreOutcomesCounted rules P c failed faults first now
     → IsFine failed faults first now → n < count_of P → (c.slots n).outcome ≡ Some outcome
-    → MatchesFound P found n first → IsUntroubled outcome
+    → MatchesFound P found n first → IsCalmOutcome outcome
 
 -- and where every unit matches, each outcome is complete, but for want of memory
 abbrev pub KeptCompleteLaw : Type 0

@@ -7,7 +7,7 @@ use Rattle.flash_plan.specs.declared.outcome.Outcome.{Outcome}
 use Rattle.flash_plan.specs.declared.outcome.Outcome.TheVariants.{IdentMismatch, CheckFailed}
 use Rattle.flash_plan.specs.declared.unit.LinkRules.{LinkRules}
 use Rattle.flash_plan.specs.declared.unit.UnitPlan.{UnitPlan}
-use Rattle.uds_codec.specs.Answer.{Good, judge}
+use Rattle.uds_codec.specs.Answer.{Accepted, judge}
 use Rattle.unit_model.specs.Unit.{ControlUnit, obedient}
 use Rattle.unit_model.specs.Vehicle.{Vehicle, unit_at}
 use Rattle.run_model.specs.Entries.{marks_of}
@@ -93,7 +93,7 @@ MatchingLaw = (rules : LinkRules) (P : List UnitPlan) (found : Entry → Bool) (
 -- the obedient answer at a place is positive and in the form, and leads to another place of the script, with fewer requests left
 pub record AnswersWell (plan : UnitPlan) (place : Place) (u : ControlUnit) : Type 0 where
   pub rest : List ℕ
-  pub good : judge (bytes_at plan place) (obedient u (bytes_at plan place)).1 ≡ Good rest
+  pub good : judge (bytes_at plan place) (obedient u (bytes_at plan place)).1 ≡ Accepted rest
   pub on : (skipped : ℕ → Bool) → is_ended (place_next plan skipped place rest) ≡ false
   pub fewer : (skipped : ℕ → Bool) → requests_left plan (place_next plan skipped place rest) + 1 ≤ requests_left plan place
 

@@ -5,7 +5,8 @@ use Rattle.doip_frame.specs.declared.frame.Frame.{Frame}
 use Rattle.doip_frame.specs.declared.frame.Frame.TheVariants.{HeaderNack, Activate, Activated, AliveAsk, AliveSay, Message, Ack, Nack, Other}
 use Rattle.flash_base.specs.Lists.{Each, same_bytes}
 use Rattle.unit_model.specs.Vehicle.{Gateway, Vehicle}
-use Rattle.run_model.specs.Link.{Link, Phase, Down, Fresh, Waits, Up, Denied, is_live, is_waiting}
+use Rattle.run_model.specs.Link.{Link, Phase, is_live, is_asked}
+use Rattle.run_model.specs.Link as phase
 use Rattle.bay_core.specs.LinkLaws.{first_code}
 use Rattle.bay_core.specs.declared.event.Event.{Event}
 use Rattle.bay_core.specs.declared.event.Event.TheVariants.{Claimed, Began, Sent, Collected, Tended, Marked, Completed, DiskFailed, Ended}
@@ -67,7 +68,7 @@ pub record AreLossesCounted (l : Link) (faults : ℕ) (first now : Vehicle) : Ty
   pub silent : ℕ
   pub losses : l.losses ≤ faults + silent
   pub count : RoseBy silent first.gateway.silent now.gateway.silent
-  pub awaits : is_waiting l.phase ≡ true → (has_answer (stream_of (l.rest ++ now.gateway.ready)).frames ≡ true) ⊎ RoseBy (silent + 1) first.gateway.silent now.gateway.silent
+  pub awaits : is_asked l.phase ≡ true → (has_answer (stream_of (l.rest ++ now.gateway.ready)).frames ≡ true) ⊎ RoseBy (silent + 1) first.gateway.silent now.gateway.silent
 
 -- ------ denials
 -- a denial was counted; the gateway refuses no header of the tester
@@ -87,11 +88,11 @@ pub record AreFair (old new : ℕ → ℕ) (l : Link) (g : Gateway) : Type 0 whe
   pub later : Each (λ q. Each (IsFairFrame old new) (stream_of q.1).frames) g.later
 
 abbrev pub IsPhaseCounted : (ℕ → ℕ) → (ℕ → ℕ) → Phase → Type 0
-IsPhaseCounted old new Down = Unit {0}
-IsPhaseCounted old new Fresh = Unit {0}
-IsPhaseCounted old new Waits = Unit {0}
-IsPhaseCounted old new Up = Unit {0}
-IsPhaseCounted old new (Denied code) = Rose (old code) (new code)
+IsPhaseCounted old new phase.Down = Unit {0}
+IsPhaseCounted old new phase.Dialed = Unit {0}
+IsPhaseCounted old new phase.Asked = Unit {0}
+IsPhaseCounted old new phase.Up = Unit {0}
+IsPhaseCounted old new (phase.Refused code) = Rose (old code) (new code)
 
 -- the link, after so many faults
 pub record IsLinkCounted (l : Link) (faults : ℕ) (first now : Vehicle) : Type 0 where

@@ -44,11 +44,11 @@ OutcomeLaw = (rules : LinkRules) (P : List UnitPlan) (found : Entry → Bool) (e
     → IsOutcomeCaused rules (plan_of P n) found (core_of rules P (core_start P found) events) n (has_failure events) (faults_of events v vehicles) v (last_vehicle v vehicles) outcome
 
 -- complete, or not for anything that a vehicle does
-abbrev pub IsUntroubled : Outcome → Type 0
-IsUntroubled Complete = Unit {0}
-IsUntroubled NoMemory = Unit {0}
-IsUntroubled (Blocked by) = Unit {0}
-IsUntroubled outcome = ⊥
+abbrev pub IsCalmOutcome : Outcome → Type 0
+IsCalmOutcome Complete = Unit {0}
+IsCalmOutcome NoMemory = Unit {0}
+IsCalmOutcome (Blocked by) = Unit {0}
+IsCalmOutcome outcome = ⊥
 
 -- not an outcome of the unit's own conversation
 abbrev pub IsOfRun : Outcome → Type 0
@@ -77,7 +77,7 @@ abbrev pub UntroubledLaw : Type 0
 UntroubledLaw = (rules : LinkRules) (P : List UnitPlan) (found : Entry → Bool) (events : List Event) (v : Vehicle) (vehicles : List Vehicle) (n : ℕ) (outcome : Outcome)
     → IsRun rules P found events v vehicles → n < count_of P → (((core_of rules P (core_start P found) events).slots n).outcome ≡ Some outcome)
     → has_failure events ≡ false → faults_of events v vehicles ≡ 0 → IsVehicleCalm v (last_vehicle v vehicles)
-    → MatchesAt (found (entry.Begun n)) (plan_of P n) (marks_of found n) (unit_at v.units (plan_of P n).address) → IsUntroubled outcome
+    → MatchesAt (found (entry.Begun n)) (plan_of P n) (marks_of found n) (unit_at v.units (plan_of P n).address) → IsCalmOutcome outcome
 
 -- every unit of the plan matches by what was found
 abbrev pub AllMatch : List UnitPlan → (Entry → Bool) → Vehicle → Type 0

@@ -1,6 +1,7 @@
 -- Counts that rise and never fall: one that has come to its last value stays there.
 use Rattle.std.specs.Prelude.{ℕ, ◌+◌, ◌≤◌, min}
-use Rattle.unit_model.specs.Unit.{Counts, LAST_COUNT}
+use Rattle.flash_base.specs.Counts.{LAST_COUNT}
+use Rattle.unit_model.specs.Unit.{Counts}
 
 -- the count rose by so much at least
 abbrev pub RoseBy : ℕ → ℕ → ℕ → Type 0

@@ -6,7 +6,7 @@ use Rattle.ecu_mem.specs.declared.types.EcuMem.{EcuMem}
 use Rattle.ecu_mem.specs.declared.types.Ident.{Ident}
 use Rattle.session_image.specs.Checks.{all_checked}
 use Rattle.session_image.specs.Files.{session_of, blocks_of}
-use Rattle.session_image.specs.Images.{own_of, IsAnswer, IsRefused, IsWhole}
+use Rattle.session_image.specs.Images.{own_of, IsImageAnswer, IsRefused, IsWholeImage}
 use Rattle.session_image.specs.Pieces.{session_pieces, segments_of, IsShared}
 use Rattle.session_image.specs.declared.pieces.Piece.{Piece}
 use Rattle.session_image.specs.declared.types.Image.{Image}
@@ -62,13 +62,13 @@ module _ (m : EcuMem) (s : ℕ) (files : List (List ℕ × List ℕ)) (fill : Op
   of_refused e (inl h) = early e h refl
   of_refused e (inr h) = late h.0 h.1.pieces None h.1.apart (ap (behind (own_of (blocks_of m s)) h.0 None) (sym h.2))
 
-  of_whole : (i : Image) → IsWhole m s files fill i → ComesOf (Ok i)
+  of_whole : (i : Image) → IsWholeImage m s files fill i → ComesOf (Ok i)
   of_whole i h = late h.pieces h.set.pieces None h.set.apart (same ∙ ap (behind (own_of (blocks_of m s)) h.pieces None) (sym h.checks))
     where
       same : Ok i ≡ behind (own_of (blocks_of m s)) h.pieces None (Ok i.checks)
       same = rw (sym h.segments, sym h.own) refl
 
-  comes : (a : Result Image ImageFault) → IsAnswer m s files fill a → ComesOf a
+  comes : (a : Result Image ImageFault) → IsImageAnswer m s files fill a → ComesOf a
   comes (Ok i) h = of_whole i h
   comes (Err (fault.Compressed id)) h = of_refused (fault.Compressed id) h
   comes (Err (fault.UserDefined id)) h = of_refused (fault.UserDefined id) h
@@ -83,5 +83,5 @@ module _ (m : EcuMem) (s : ℕ) (files : List (List ℕ × List ℕ)) (fill : Op
   comes (Err (fault.ChecksumDiffers name said got)) h = of_refused (fault.ChecksumDiffers name said got) h
   comes (Err fault.NoMemory) h = none refl
 
-  pub one_image : (a b : Result Image ImageFault) → IsAnswer m s files fill a → IsAnswer m s files fill b → (a ≡ Err fault.NoMemory) ⊎ (b ≡ Err fault.NoMemory) ⊎ (a ≡ b)
+  pub one_image : (a b : Result Image ImageFault) → IsImageAnswer m s files fill a → IsImageAnswer m s files fill b → (a ≡ Err fault.NoMemory) ⊎ (b ≡ Err fault.NoMemory) ⊎ (a ≡ b)
   one_image a b h k = one (comes a h) (comes b k)

@@ -1,7 +1,7 @@
 -- Drafts make one plan, or have one refusal.
 use Rattle.std.proofs.Common.{◌≡◌, ◌∙◌, ◌⊎◌, inl, inr, sym, refl, ap, ℕ, List, Option, Some, None, Result, Ok, Err}
 use Rattle.span_store.specs.Lowest.{IsLowest}
-use Rattle.flash_plan.specs.Accepting.{draft_of, first_task, has_same_address, has_same_name, has_unknown, has_wide, too_many, units_of, IsAnswer, IsKnown}
+use Rattle.flash_plan.specs.Accepting.{draft_of, first_task, has_same_address, has_same_name, has_unknown, has_wide, too_many, units_of, IsPlanAnswer, IsKnown}
 use Rattle.flash_plan.specs.Plan.{StandsBefore}
 use Rattle.flash_plan.specs.declared.fault.PlanFault.{PlanFault}
 use Rattle.flash_plan.specs.declared.fault.PlanFault.TheVariants as fault
@@ -41,7 +41,7 @@ data Comes (ds : List Draft) (a : Result (List UnitPlan) PlanFault) : Type 0 whe
 known : (ds : List Draft) → IsKnown ds → early ds ≡ None
 known ds h = rw (h.addressed.named.few, h.addressed.named.names, h.addressed.addresses, h.known) refl
 
-comes : (ds : List Draft) (a : Result (List UnitPlan) PlanFault) → IsAnswer ds a → Comes ds a
+comes : (ds : List Draft) (a : Result (List UnitPlan) PlanFault) → IsPlanAnswer ds a → Comes ds a
 comes ds (Err fault.NoMemory) h = none refl
 comes ds (Err (fault.TooMany what)) h = soon (fault.TooMany what) (rw h refl) refl
 comes ds (Err (fault.SameName n)) h = soon (fault.SameName n) (rw (h.0, h.1) refl) refl
@@ -60,5 +60,5 @@ one ds a b (then c p l h) (none k) = inr (inl k)
 one ds a b (then c p l h) (soon f q k) = cc
 one ds a b (then c p l h) (then d q m k) = let s : c ≡ d = lowest_one (IsRing ds) c d l m in inr (inr (h ∙ ap (late ds) s ∙ sym k))
 
-pub one_plan : (ds : List Draft) (a b : Result (List UnitPlan) PlanFault) → IsAnswer ds a → IsAnswer ds b → (a ≡ Err fault.NoMemory) ⊎ (b ≡ Err fault.NoMemory) ⊎ (a ≡ b)
+pub one_plan : (ds : List Draft) (a b : Result (List UnitPlan) PlanFault) → IsPlanAnswer ds a → IsPlanAnswer ds b → (a ≡ Err fault.NoMemory) ⊎ (b ≡ Err fault.NoMemory) ⊎ (a ≡ b)
 one_plan ds a b h k = one ds a b (comes ds a h) (comes ds b k)

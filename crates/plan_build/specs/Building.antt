@@ -2,7 +2,7 @@
 use Rattle.std.specs.Prelude.{◌≡◌, ℕ, nat_lt, List, length, Option, Result, Ok, Err, if◌then◌else◌}
 use Rattle.flash_order.specs.declared.order.Order.{Order}
 use Rattle.flash_order.specs.declared.order.Task.{Task}
-use Rattle.flash_plan.specs.Accepting.{IsAnswer}
+use Rattle.flash_plan.specs.Accepting.{IsPlanAnswer}
 use Rattle.flash_plan.specs.declared.fault.PlanFault.{PlanFault}
 use Rattle.flash_plan.specs.declared.fault.What.TheVariants.{Units}
 use Rattle.flash_plan.specs.declared.unit.UnitPlan.{UnitPlan}
@@ -26,7 +26,7 @@ plan_from name o ps (Err e) = Err (plan_refusal name o.tasks e)
 -- what is accepted of the drafts
 pub record Planned (name : List ℕ) (o : Order) (ps : Parts) (r : Result Built BuildFault) : Type 0 where
   pub answer : Result (List UnitPlan) PlanFault
-  pub given : IsAnswer ps.drafts answer
+  pub given : IsPlanAnswer ps.drafts answer
   pub is : r ≡ plan_from name o ps answer
 
 abbrev pub planned : List ℕ → Order → Parts → Result Built BuildFault → Type 0

@@ -14,7 +14,7 @@ use Rattle.flash_plan.specs.declared.unit.Segment.{Segment}
 use Rattle.flash_plan.specs.declared.unit.Wanted.{Wanted}
 use Rattle.flash_shelf.specs.declared.shelf.ShelfFault.{ShelfFault}
 use Rattle.session_image.specs.Files.{session_of, files_of}
-use Rattle.session_image.specs.Images.{IsAnswer}
+use Rattle.session_image.specs.Images.{IsImageAnswer}
 use Rattle.session_image.specs.declared.types.Image.{Image}
 use Rattle.session_image.specs.declared.types.ImageFault.{ImageFault}
 use Rattle.plan_build.specs.Answers.{just, ◌>>=◌, ◌>=>◌}
@@ -71,7 +71,7 @@ image_from c (Err e) = Err (image_refusal c e)
 -- what the image of a session answers
 pub record Imaged (c : Catalogue) (s : ℕ) (files : List (List ℕ × List ℕ)) (fill : Option ℕ) (r : Result Image BuildFault) : Type 0 where
   pub answer : Result Image ImageFault
-  pub given : IsAnswer c.mem s files fill answer
+  pub given : IsImageAnswer c.mem s files fill answer
   pub is : r ≡ image_from c answer
 
 abbrev pub imaged : Catalogue → ℕ → List (List ℕ × List ℕ) → Option ℕ → Result Image BuildFault → Type 0

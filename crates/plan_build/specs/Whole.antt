@@ -11,7 +11,7 @@ use Rattle.plan_build.specs.declared.fault.BuildFault.{BuildFault}
 use Rattle.plan_build.specs.declared.fault.BuildFault.TheVariants.{Shelf, Input, NoMemory}
 
 -- the order is in its form, the plan is accepted, and there is one of each for each task
-pub record IsWhole (b : Built) : Type 0 where
+pub record IsWholePlan (b : Built) : Type 0 where
   pub order : IsOrder b.order
   pub accepted : IsAccepted b.plan
   pub units : count_of b.plan ≡ length b.order.tasks

@@ -6,7 +6,7 @@ ghost use Rattle.flash_order.specs.Promises.{IsOrder};
 ghost use Rattle.flash_shelf.specs.Outside.{CameFrom};
 ghost use Rattle.plan_build.specs.Building.{built, built_by, tasks_built};
 ghost use Rattle.plan_build.specs.Fetched.{came, period, Period, Lies};
-ghost use Rattle.plan_build.specs.Whole.{IfShelf, IsWhole};
+ghost use Rattle.plan_build.specs.Whole.{IfShelf, IsWholePlan};
 
 use crate::built::{Built, Catalogue};
 use crate::catalogue::{catalogue_at, order_at};
@@ -36,7 +36,7 @@ fn tasks_built<F: Shelf>(
     ensures never_falls { F.faults shelf.old ≤ F.faults shelf.new }
     ensures read { (p : Period) → Lies p F.tells (F.contents shelf.old) (F.faults shelf.old) (F.faults shelf.new) → (result ≡ Err BuildFault.NoMemory)
         ⊎ tasks_built (came p) name.now order catalogue.now result }
-    ensures whole { IfOk result IsWhole }
+    ensures whole { IfOk result IsWholePlan }
 {
     if order.tasks.len() > UNIT_LIMIT {
         return Err(input(alloc, name, Cause::TooMany { what: What::Units }));
@@ -51,7 +51,7 @@ fn built_by<F: Shelf>(alloc: Global, shelf: &mut F, name: &str) -> Result<Built,
     ensures never_falls { F.faults shelf.old ≤ F.faults shelf.new }
     ensures read { (p : Period) → Lies p F.tells (F.contents shelf.old) (F.faults shelf.old) (F.faults shelf.new) → (result ≡ Err BuildFault.NoMemory)
         ⊎ built_by (came p) name.now result }
-    ensures whole { IfOk result IsWhole }
+    ensures whole { IfOk result IsWholePlan }
 {
     let order = order_at(alloc, shelf, name)?;
     let catalogue = catalogue_at(alloc, shelf, &order.catalogue)?;
@@ -76,7 +76,7 @@ pub fn build<F: Shelf>(alloc: Global, shelf: &mut F, name: &str) -> Result<Built
     ensures told { IsTrue F.tells → (result ≡ Err BuildFault.NoMemory) ⊎ Rises (F.faults shelf.old) (F.faults shelf.new)
         ⊎ built (F.contents shelf.old) name.now result }
     ensures outside { IfShelf result (λ file fault. CameFrom F.tells (F.contents shelf.old) file (F.faults shelf.old) (F.faults shelf.new) (Err fault)) }
-    ensures whole { IfOk result IsWhole }
+    ensures whole { IfOk result IsWholePlan }
 {
     built_by(alloc, shelf, name)
 }

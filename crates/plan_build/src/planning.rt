@@ -4,7 +4,7 @@ ghost use Rattle.flash_base.specs.Lists.{Each};
 ghost use Rattle.flash_order.specs.Promises.{IsOrder};
 ghost use Rattle.flash_plan.specs.Accepting.{IsDraft};
 ghost use Rattle.plan_build.specs.Building.{planned};
-ghost use Rattle.plan_build.specs.Whole.{IsWhole, AreFor};
+ghost use Rattle.plan_build.specs.Whole.{IsWholePlan, AreFor};
 
 use crate::built::{Built, Parts};
 use crate::fault::BuildFault;
@@ -24,7 +24,7 @@ pub(crate) fn planned(
     requires drafts { Each IsDraft parts.drafts }
     requires parts { AreFor order.tasks parts }
     ensures is { (result ≡ Err BuildFault.NoMemory) ⊎ planned name.now order parts result }
-    ensures whole { IfOk result IsWhole }
+    ensures whole { IfOk result IsWholePlan }
 {
     let Parts {
         drafts,

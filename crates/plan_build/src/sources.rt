@@ -1,6 +1,6 @@
 //! What a task gives by its source: a file, or a session of the catalogue.
 ghost use Rattle.std.specs.Prelude.{◌≡◌, ◌⊎◌, ◌≤◌, ◌<◌, ◌∷◌, [], Err, IfOk, IfSome, Some, length};
-ghost use Rattle.ecu_mem.specs.Bounds.{IsWhole};
+ghost use Rattle.ecu_mem.specs.Bounds.{IsWholeCatalogue};
 ghost use Rattle.flash_base.specs.Lists.{Each};
 ghost use Rattle.flash_order.specs.Promises as order;
 ghost use Rattle.flash_plan.specs.Accepting.{IsAsked, IsDraft};
@@ -142,7 +142,7 @@ fn imaged(
     files: &Files,
     fill: Option<u8>,
 ) -> Result<Image, BuildFault>
-    requires whole { IsWhole catalogue.now.mem }
+    requires whole { IsWholeCatalogue catalogue.now.mem }
     requires session { session < length catalogue.now.mem.sessions }
     requires files { HasFiles catalogue.now.mem session files.now }
     ensures is { (result ≡ Err BuildFault.NoMemory) ⊎ imaged catalogue.now session files.now fill result }
@@ -187,7 +187,7 @@ fn session_part<F: Shelf>(
     fill: Option<u8>,
 ) -> Result<Part, BuildFault>
     requires task { order.IsTask task.now }
-    requires whole { IsWhole catalogue.now.mem }
+    requires whole { IsWholeCatalogue catalogue.now.mem }
     requires session { session < length catalogue.now.mem.sessions }
     requires idents { Each IsAsked idents }
     ensures keeps { F.contents shelf.new ≡ F.contents shelf.old }
@@ -214,7 +214,7 @@ pub(crate) fn from_catalogue<F: Shelf>(
     fill: Option<u8>,
 ) -> Result<Part, BuildFault>
     requires task { order.IsTask task.now }
-    requires whole { IsWhole catalogue.now.mem }
+    requires whole { IsWholeCatalogue catalogue.now.mem }
     ensures keeps { F.contents shelf.new ≡ F.contents shelf.old }
     ensures never_falls { F.faults shelf.old ≤ F.faults shelf.new }
     ensures read { (p : Period) → Lies p F.tells (F.contents shelf.old) (F.faults shelf.old) (F.faults shelf.new) → (result ≡ Err BuildFault.NoMemory)
@@ -239,7 +239,7 @@ pub(crate) fn from_session<F: Shelf>(
     fill: Option<u8>,
 ) -> Result<Part, BuildFault>
     requires task { order.IsTask task.now }
-    requires whole { IfSome catalogue.now (λ c. IsWhole c.mem) }
+    requires whole { IfSome catalogue.now (λ c. IsWholeCatalogue c.mem) }
     ensures keeps { F.contents shelf.new ≡ F.contents shelf.old }
     ensures never_falls { F.faults shelf.old ≤ F.faults shelf.new }
     ensures read { (p : Period) → Lies p F.tells (F.contents shelf.old) (F.faults shelf.old) (F.faults shelf.new) → (result ≡ Err BuildFault.NoMemory)

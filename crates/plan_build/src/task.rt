@@ -1,6 +1,6 @@
 //! What the tasks of an order give, one after another.
 ghost use Rattle.std.specs.Prelude.{◌≡◌, ◌⊎◌, ◌≤◌, ◌<◌, ◌-◌, Err, IfOk, IfSome, OnOk, Some, None, length, nat_lt, if◌then◌else◌};
-ghost use Rattle.ecu_mem.specs.Bounds.{IsWhole};
+ghost use Rattle.ecu_mem.specs.Bounds.{IsWholeCatalogue};
 ghost use Rattle.flash_base.specs.Lists.{Each};
 ghost use Rattle.flash_order.specs.Promises.{IsTask};
 ghost use Rattle.flash_plan.specs.Accepting.{IsDraft};
@@ -31,7 +31,7 @@ fn part<F: Shelf>(
     task: &Task,
 ) -> Result<Part, BuildFault>
     requires task { IsTask task.now }
-    requires whole { IfSome catalogue.now (λ c. IsWhole c.mem) }
+    requires whole { IfSome catalogue.now (λ c. IsWholeCatalogue c.mem) }
     ensures keeps { F.contents shelf.new ≡ F.contents shelf.old }
     ensures never_falls { F.faults shelf.old ≤ F.faults shelf.new }
     ensures read { (p : Period) → Lies p F.tells (F.contents shelf.old) (F.faults shelf.old) (F.faults shelf.new) → (result ≡ Err BuildFault.NoMemory)
@@ -114,7 +114,7 @@ pub(crate) fn all_parts<F: Shelf>(
 ) -> Result<Parts, BuildFault>
     requires few { length tasks.now ≤ 64 }
     requires tasks { Each IsTask tasks.now }
-    requires whole { IfSome catalogue.now (λ c. IsWhole c.mem) }
+    requires whole { IfSome catalogue.now (λ c. IsWholeCatalogue c.mem) }
     ensures keeps { F.contents shelf.new ≡ F.contents shelf.old }
     ensures never_falls { F.faults shelf.old ≤ F.faults shelf.new }
     ensures read { (p : Period) → Lies p F.tells (F.contents shelf.old) (F.faults shelf.old) (F.faults shelf.new) → (result ≡ Err BuildFault.NoMemory)

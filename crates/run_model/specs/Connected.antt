@@ -6,8 +6,9 @@ use Rattle.doip_frame.specs.declared.frame.Frame.TheVariants.{HeaderNack, Activa
 use Rattle.flash_base.specs.Lists.{Each}
 use Rattle.unit_model.specs.Step.{CanSend}
 use Rattle.unit_model.specs.Vehicle.{Gateway}
-use Rattle.run_model.specs.Link.{Link, Phase, Down, Fresh, Waits, Up, Denied}
-use Rattle.run_model.specs.Ways.{IsWhole}
+use Rattle.run_model.specs.Link.{Link, Phase}
+use Rattle.run_model.specs.Link as phase
+use Rattle.run_model.specs.Ways.{AreWholeFrames}
 
 -- a frame says that the activation was accepted
 abbrev pub accepts : List Frame → Bool
@@ -33,11 +34,11 @@ will_accept l g = accepts (stream_of (l.rest ++ g.ready)).frames || accepts_late
 -- A new connection has carried nothing. Where an answer that accepts the activation has come or is on the way, the gateway
 -- is activated for the tester.
 abbrev pub IsByPhase : ℕ → Phase → Link → Gateway → Type 0
-IsByPhase tester Down l g = Unit {0}
-IsByPhase tester Fresh l g = (g.active ≡ None) × (g.ready ≡ []) × (g.later ≡ []) × (g.held ≡ []) × (l.got ≡ []) × (l.rest ≡ []) × (l.inbox ≡ [])
-IsByPhase tester Waits l g = IsTrue (will_accept l g) → g.active ≡ Some tester
-IsByPhase tester Up l g = g.active ≡ Some tester
-IsByPhase tester (Denied code) l g = Unit {0}
+IsByPhase tester phase.Down l g = Unit {0}
+IsByPhase tester phase.Dialed l g = (g.active ≡ None) × (g.ready ≡ []) × (g.later ≡ []) × (g.held ≡ []) × (l.got ≡ []) × (l.rest ≡ []) × (l.inbox ≡ [])
+IsByPhase tester phase.Asked l g = IsTrue (will_accept l g) → g.active ≡ Some tester
+IsByPhase tester phase.Up l g = g.active ≡ Some tester
+IsByPhase tester (phase.Refused code) l g = Unit {0}
 
 -- The gateway is between frames; what it has carried is what the link got, without a refusal; what it has queued spells
 -- whole frames; and it is activated, if at all, for the tester.
@@ -47,8 +48,8 @@ pub record IsConnected (tester : ℕ) (l : Link) (g : Gateway) : Type 0 where
   pub carried : g.carried ≡ l.got
   pub rest : (stream_of l.got).rest ≡ l.rest
   pub bad : (stream_of l.got).bad ≡ None
-  pub ready : IsWhole (l.rest ++ g.ready)
-  pub later : Each (λ q. IsWhole q.1) g.later
+  pub ready : AreWholeFrames (l.rest ++ g.ready)
+  pub later : Each (λ q. AreWholeFrames q.1) g.later
   pub held : Each (λ h. CanSend h.body) g.held
   pub active : MatchOption g.active (Unit {0}) (λ a. a ≡ tester)
   pub phase : IsByPhase tester l.phase l g
@@ -69,7 +70,7 @@ are_for tester (Other kind payload ∷ fs) = are_for tester fs
 -- Where the link is up, the answer that accepts the activation is among the frames carried; each message and refusal to
 -- deliver that was carried or is queued is for the tester; and a held answer will be, since the gateway is activated.
 pub record IsAddressed (tester : ℕ) (l : Link) (g : Gateway) : Type 0 where
-  pub accepted : l.phase ≡ Up → accepts (stream_of l.got).frames ≡ true
+  pub accepted : l.phase ≡ phase.Up → accepts (stream_of l.got).frames ≡ true
   pub ready : are_for tester (stream_of (l.got ++ g.ready)).frames ≡ true
   pub later : Each (λ q. are_for tester (stream_of q.1).frames ≡ true) g.later
   pub held : (g.held ≡ []) ⊎ (g.active ≡ Some tester)

@@ -4,9 +4,6 @@ use Rattle.flash_plan.specs.Outcomes.{same_entry}
 use Rattle.flash_plan.specs.declared.outcome.Entry.{Entry}
 use Rattle.flash_plan.specs.declared.outcome.Entry.TheVariants.{Marked}
 
-abbrev pub with_entry : Entry → (Entry → Bool) → Entry → Bool
-with_entry e records x = same_entry x e || records x
-
 -- the segments of unit n that are recorded marked
 abbrev pub marks_of : (Entry → Bool) → ℕ → ℕ → Bool
 marks_of records n s = records (Marked n s)

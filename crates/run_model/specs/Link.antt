@@ -4,15 +4,15 @@ use Rattle.doip_frame.specs.Frame.{Stream, stream_of}
 use Rattle.doip_frame.specs.declared.frame.Bad.{Bad}
 use Rattle.doip_frame.specs.declared.frame.Frame.{Frame}
 use Rattle.doip_frame.specs.declared.frame.Frame.TheVariants.{HeaderNack, Activate, Activated, AliveAsk, AliveSay, Message, Ack, Nack, Other}
-use Rattle.run_model.specs.Ways.{Spoken, Reply, Unheard}
+use Rattle.run_model.specs.Ways.{UnitMessage, Reply, Nacked}
 
 -- no connection; connected; the activation was asked for; it was accepted; it was denied with this code
 pub data Phase : Type 0 where
   Down : Phase
-  Fresh : Phase
-  Waits : Phase
+  Dialed : Phase
+  Asked : Phase
   Up : Phase
-  Denied : ℕ → Phase
+  Refused : ℕ → Phase
 
 -- ticks: the Quiet polls of the whole run. asked: the tick of the last activation request. losses: those of the whole run.
 -- got: the bytes since the last dial. rest: those of them behind the last whole frame. inbox: messages with the unit that
@@ -24,7 +24,7 @@ pub record Link : Type 0 where
   pub losses : ℕ
   pub got : List ℕ
   pub rest : List ℕ
-  pub inbox : List (ℕ × Spoken)
+  pub inbox : List (ℕ × UnitMessage)
   pub owes : Bool
 
 abbrev pub link_start : Link
@@ -32,43 +32,43 @@ link_start = record { phase = Down; ticks = 0; asked = 0; losses = 0; got = []; 
 
 abbrev pub is_down : Phase → Bool
 is_down Down = true
-is_down Fresh = false
-is_down Waits = false
+is_down Dialed = false
+is_down Asked = false
 is_down Up = false
-is_down (Denied code) = false
+is_down (Refused code) = false
 
-abbrev pub is_fresh : Phase → Bool
-is_fresh Down = false
-is_fresh Fresh = true
-is_fresh Waits = false
-is_fresh Up = false
-is_fresh (Denied code) = false
+abbrev pub is_dialed : Phase → Bool
+is_dialed Down = false
+is_dialed Dialed = true
+is_dialed Asked = false
+is_dialed Up = false
+is_dialed (Refused code) = false
 
-abbrev pub is_waiting : Phase → Bool
-is_waiting Down = false
-is_waiting Fresh = false
-is_waiting Waits = true
-is_waiting Up = false
-is_waiting (Denied code) = false
+abbrev pub is_asked : Phase → Bool
+is_asked Down = false
+is_asked Dialed = false
+is_asked Asked = true
+is_asked Up = false
+is_asked (Refused code) = false
 
 abbrev pub is_up : Phase → Bool
 is_up Down = false
-is_up Fresh = false
-is_up Waits = false
+is_up Dialed = false
+is_up Asked = false
 is_up Up = true
-is_up (Denied code) = false
+is_up (Refused code) = false
 
 -- connected, and the activation was not denied
 abbrev pub is_live : Phase → Bool
 is_live Down = false
-is_live Fresh = true
-is_live Waits = true
+is_live Dialed = true
+is_live Asked = true
 is_live Up = true
-is_live (Denied code) = false
+is_live (Refused code) = false
 
 -- frames are looked at
 abbrev pub is_open : Phase → Bool
-is_open p = is_waiting p || is_up p
+is_open p = is_asked p || is_up p
 
 abbrev pub drop_link : Link → Link
 drop_link l = record l { phase = Down; losses = l.losses + 1 }
@@ -78,17 +78,17 @@ abbrev pub is_known : List ℕ → ℕ → Bool
 is_known [] a = false
 is_known (x ∷ xs) a = x == a || is_known xs a
 
-abbrev pub keep_word : Bool → ℕ → Spoken → Link → Link
-keep_word ours source word l = if ours then record l { inbox = l.inbox ++ ((source, word) ∷ []) } else l
+abbrev pub keep_message : Bool → ℕ → UnitMessage → Link → Link
+keep_message ours source word l = if ours then record l { inbox = l.inbox ++ ((source, word) ∷ []) } else l
 
 -- A header that was refused is a loss. Only the first answer to an activation counts. A message for another tester, or from
 -- an address of no unit, is dropped.
 abbrev pub see_frame : ℕ → List ℕ → Frame → Link → Link
 see_frame tester units (HeaderNack code) l = drop_link l
-see_frame tester units (Activated t entity code oem) l = if is_waiting l.phase then record l { phase = if code == 16 then Up else Denied code } else l
+see_frame tester units (Activated t entity code oem) l = if is_asked l.phase then record l { phase = if code == 16 then Up else Refused code } else l
 see_frame tester units AliveAsk l = record l { owes = true }
-see_frame tester units (Message source target body) l = keep_word (target == tester && is_known units source) source (Reply body) l
-see_frame tester units (Nack source target code old) l = keep_word (target == tester && is_known units source) source (Unheard code) l
+see_frame tester units (Message source target body) l = keep_message (target == tester && is_known units source) source (Reply body) l
+see_frame tester units (Nack source target code old) l = keep_message (target == tester && is_known units source) source (Nacked code) l
 see_frame tester units (Activate source kind oem) l = l
 see_frame tester units (AliveSay source) l = l
 see_frame tester units (Ack source target code old) l = l
@@ -117,36 +117,36 @@ abbrev pub quiet_link : Link → Link
 quiet_link l = record l { ticks = l.ticks + 1 }
 
 abbrev pub unanswered : Link → Bool
-unanswered l = is_waiting l.phase && nat_le (l.asked + 1000) l.ticks
+unanswered l = is_asked l.phase && nat_le (l.asked + 1000) l.ticks
 
 -- a receive that brought none
 abbrev pub polled_quiet : Link → Link
 polled_quiet l = if unanswered (quiet_link l) then drop_link (quiet_link l) else quiet_link l
 
 -- a new connection was asked for; nothing of the old one stays
-abbrev pub fresh_link : Link → Link
-fresh_link l = record l { phase = Fresh; got = []; rest = []; inbox = []; owes = false }
+abbrev pub new_link : Link → Link
+new_link l = record l { phase = Dialed; got = []; rest = []; inbox = []; owes = false }
 
 abbrev pub lost_or : Bool → Link → Link
 lost_or lost l = if lost then drop_link l else l
 
 abbrev pub dialed_link : Bool → Link → Link
-dialed_link lost l = lost_or lost (fresh_link l)
+dialed_link lost l = lost_or lost (new_link l)
 
 abbrev pub asked_link : Bool → Link → Link
-asked_link lost l = lost_or lost (record l { phase = Waits; asked = l.ticks })
+asked_link lost l = lost_or lost (record l { phase = Asked; asked = l.ticks })
 
 abbrev pub said_link : Bool → Link → Link
 said_link lost l = lost_or lost (record l { owes = false })
 
 -- the oldest message of a unit
-abbrev pub first_word : ℕ → List (ℕ × Spoken) → Option Spoken
-first_word a [] = None
-first_word a (m ∷ ms) = if m.0 == a then Some m.1 else first_word a ms
+abbrev pub first_message : ℕ → List (ℕ × UnitMessage) → Option UnitMessage
+first_message a [] = None
+first_message a (m ∷ ms) = if m.0 == a then Some m.1 else first_message a ms
 
-abbrev pub without_first : ℕ → List (ℕ × Spoken) → List (ℕ × Spoken)
+abbrev pub without_first : ℕ → List (ℕ × UnitMessage) → List (ℕ × UnitMessage)
 without_first a [] = []
 without_first a (m ∷ ms) = if m.0 == a then ms else m ∷ without_first a ms
 
-abbrev pub take_word : ℕ → Link → Link
-take_word a l = record l { inbox = without_first a l.inbox }
+abbrev pub take_message : ℕ → Link → Link
+take_message a l = record l { inbox = without_first a l.inbox }

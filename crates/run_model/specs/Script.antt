@@ -14,7 +14,7 @@ use Rattle.flash_plan.specs.declared.unit.Wanted.{Wanted}
 use Rattle.uds_codec.specs.declared.request.Request.{Request}
 use Rattle.uds_codec.specs.declared.request.Request.TheVariants.{Session, Reset, ReadId, Seed, Key, Routine, Download, Transfer, Exit}
 use Rattle.uds_codec.specs.Request.{spelled, range_bytes, sid_of}
-use Rattle.uds_codec.specs.Answer.{Verdict, Later, Again, Refusal, Good, Bad_status, Strange, judge}
+use Rattle.uds_codec.specs.Answer.{Verdict, Pending, Busy, Refusal, Accepted, BadStatus, Malformed, judge}
 use Rattle.uds_codec.specs.Key.{key_of, all_zero}
 use Rattle.unit_model.specs.Unit.{next_counter}
 
@@ -144,12 +144,12 @@ routine_at u place = (65281, length u.segments)
 
 -- the place after an answer; a response pending or a busy answer changes none
 abbrev pub place_judged : UnitPlan → (ℕ → Bool) → Place → Verdict → Place
-place_judged u skipped place Later = place
-place_judged u skipped place Again = place
+place_judged u skipped place Pending = place
+place_judged u skipped place Busy = place
 place_judged u skipped place (Refusal nrc) = AtEnd (Refused (sid_of (bytes_at u place)) nrc)
-place_judged u skipped place (Good rest) = place_next u skipped place rest
-place_judged u skipped place (Bad_status status) = AtEnd (CheckFailed (routine_at u place).0 (routine_at u place).1 status)
-place_judged u skipped place Strange = AtEnd (BadAnswer (sid_of (bytes_at u place)))
+place_judged u skipped place (Accepted rest) = place_next u skipped place rest
+place_judged u skipped place (BadStatus status) = AtEnd (CheckFailed (routine_at u place).0 (routine_at u place).1 status)
+place_judged u skipped place Malformed = AtEnd (BadAnswer (sid_of (bytes_at u place)))
 
 abbrev pub place_after : UnitPlan → (ℕ → Bool) → Place → List ℕ → Place
 place_after u skipped place body = place_judged u skipped place (judge (bytes_at u place) body)

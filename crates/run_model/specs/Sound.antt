@@ -1,7 +1,7 @@
 -- Records and a vehicle that fit together, and the memory at the end of a run.
 use Rattle.std.specs.Prelude.{◌≡◌, ℕ, ◌+◌, ◌<◌, ◌≤◌, Bool, false, ◌==◌, ◌&&◌, ◌||◌, MatchOption, List, [], ◌∷◌, length, slice_index, Some, IsTrue}
 use Rattle.disk_model.specs.Disk.{DiskState, IsCrashImage}
-use Rattle.flash_base.specs.ByteMaps.{ByteMap, byte_at}
+use Rattle.flash_base.specs.ByteMaps.{MemoryMap, byte_at}
 use Rattle.flash_base.specs.Lists.{Each}
 use Rattle.flash_plan.specs.declared.outcome.Entry.{Entry}
 use Rattle.flash_plan.specs.declared.outcome.Entry.TheVariants.{Begun, Marked, Complete}
@@ -16,7 +16,7 @@ has_range [] at size = false
 has_range (r ∷ rs) at size = (r.0 == at && r.1 == size) || has_range rs at size
 
 -- the bytes stand in the memory from an address on
-abbrev pub HoldsBytes : ℕ → List ℕ → ByteMap → Type 0
+abbrev pub HoldsBytes : ℕ → List ℕ → MemoryMap → Type 0
 HoldsBytes at xs memory = (k : ℕ) → k < length xs → byte_at memory (at + k) ≡ Some (slice_index xs k)
 
 -- the unit holds the segment, and a check routine found it equal

@@ -1,11 +1,11 @@
 -- The conversation with one unit, attempt by attempt.
 use Rattle.std.specs.Prelude.{ℕ, ◌+◌, Bool, true, false, ◌==◌, nat_le, Option, Some, None, if◌then◌else◌}
 use Rattle.uds_codec.specs.Request.{sid_of}
-use Rattle.uds_codec.specs.Answer.{Verdict, Later, Again, Refusal, Good, Bad_status, Strange, judge}
+use Rattle.uds_codec.specs.Answer.{Verdict, Pending, Busy, Refusal, Accepted, BadStatus, Malformed, judge}
 use Rattle.flash_plan.specs.declared.unit.UnitPlan.{UnitPlan}
 use Rattle.flash_plan.specs.declared.outcome.Outcome.{Outcome}
 use Rattle.flash_plan.specs.declared.outcome.Outcome.TheVariants.{PendingLimit, BusyLimit, NoAnswer, Undelivered}
-use Rattle.run_model.specs.Ways.{Spoken, Reply, Unheard}
+use Rattle.run_model.specs.Ways.{UnitMessage, Reply, Nacked}
 use Rattle.run_model.specs.Entries.{with_mark}
 use Rattle.run_model.specs.Script.{Place, AtBegin, AtMark, AtDone, AtEnd, start_place, place_judged, place_marked, bytes_at}
 
@@ -51,18 +51,18 @@ abbrev pub talk_final : UnitPlan → Verdict → Talk → Talk
 talk_final u verdict t = record t { place = place_judged u t.marks t.place verdict; number = t.number + 1; awaiting = false; pendings = 0; busies = 0 }
 
 abbrev pub talk_judged : UnitPlan → ℕ → Verdict → Talk → Talk
-talk_judged u tick Later t = if t.pendings == 200 then end_talk (PendingLimit (sid_at u t)) t else record t { since = tick; pendings = t.pendings + 1 }
-talk_judged u tick Again t = if t.busies == 20 then end_talk (BusyLimit (sid_at u t)) t else record t { awaiting = false; pendings = 0; busies = t.busies + 1 }
+talk_judged u tick Pending t = if t.pendings == 200 then end_talk (PendingLimit (sid_at u t)) t else record t { since = tick; pendings = t.pendings + 1 }
+talk_judged u tick Busy t = if t.busies == 20 then end_talk (BusyLimit (sid_at u t)) t else record t { awaiting = false; pendings = 0; busies = t.busies + 1 }
 talk_judged u tick (Refusal nrc) t = talk_final u (Refusal nrc) t
-talk_judged u tick (Good rest) t = talk_final u (Good rest) t
-talk_judged u tick (Bad_status status) t = talk_final u (Bad_status status) t
-talk_judged u tick Strange t = talk_final u Strange t
+talk_judged u tick (Accepted rest) t = talk_final u (Accepted rest) t
+talk_judged u tick (BadStatus status) t = talk_final u (BadStatus status) t
+talk_judged u tick Malformed t = talk_final u Malformed t
 
-abbrev pub talk_hears : UnitPlan → ℕ → Spoken → Talk → Talk
+abbrev pub talk_hears : UnitPlan → ℕ → UnitMessage → Talk → Talk
 talk_hears u tick (Reply body) t = talk_judged u tick (judge (bytes_at u t.place) body) t
-talk_hears u tick (Unheard code) t = end_talk (Undelivered code) t
+talk_hears u tick (Nacked code) t = end_talk (Undelivered code) t
 
-abbrev pub talk_takes : UnitPlan → ℕ → Option Spoken → Talk → Talk
+abbrev pub talk_takes : UnitPlan → ℕ → Option UnitMessage → Talk → Talk
 talk_takes u tick None t = t
 talk_takes u tick (Some word) t = talk_hears u tick word t
 

@@ -1,7 +1,8 @@
 -- The troubles of a run: how often something failed or departed, by each count.
 use Rattle.std.specs.Prelude.{◌≡◌, ℕ, ◌-◌, nat_le, Option, Some, None, if◌then◌else◌}
 use Rattle.shop_model.specs.History.{History, vehicle_now}
-use Rattle.unit_model.specs.Unit.{ControlUnit, Counts, LAST_COUNT}
+use Rattle.flash_base.specs.Counts.{LAST_COUNT}
+use Rattle.unit_model.specs.Unit.{ControlUnit, Counts}
 use Rattle.unit_model.specs.Vehicle.{Vehicle, unit_at}
 
 -- How much a count rose; one that stands at its last value rose. A count never falls and has no value above the last.

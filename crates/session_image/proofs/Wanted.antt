@@ -6,7 +6,7 @@ use Rattle.flash_base.specs.Lists.{Each}
 use Rattle.flash_plan.specs.declared.unit.Segment.{Segment}
 use Rattle.flash_plan.specs.Plan.{AreApart}
 use Rattle.span_store.specs.Lowest.{IsLowest}
-use Rattle.ecu_mem.specs.Bounds.{IsWhole, IsCheck, IsIdent, IsSessionAmong}
+use Rattle.ecu_mem.specs.Bounds.{IsWholeCatalogue, IsCheck, IsIdent, IsSessionAmong}
 use Rattle.ecu_mem.specs.declared.types.Check.{Check}
 use Rattle.ecu_mem.specs.declared.types.EcuMem.{EcuMem}
 use Rattle.ecu_mem.specs.declared.types.Session.{Session}
@@ -32,13 +32,13 @@ wanted_blocks m s w bs lt is e = ap (blocks_at m) (e ∙ ap (λ (x : Session). x
 pub wanted_checks : (m : EcuMem) (s : ℕ) (w : Session) (cs : List Check) → s < length m.sessions → slice_get m.sessions s ≡ Some w → cs ≡ w.checks → cs ≡ (session_of m s).checks
 wanted_checks m s w cs lt is e = e ∙ ap (λ (x : Session). x.checks) (sym (wanted_is m s w lt is))
 
-among : (m : EcuMem) (s : ℕ) (w : Session) → IsWhole m → s < length m.sessions → slice_get m.sessions s ≡ Some w → IsSessionAmong (length m.blocks) w
+among : (m : EcuMem) (s : ℕ) (w : Session) → IsWholeCatalogue m → s < length m.sessions → slice_get m.sessions s ≡ Some w → IsSessionAmong (length m.blocks) w
 among m s w whole lt is = subst (IsSessionAmong (length m.blocks)) (wanted_is m s w lt is) (each_at (IsSessionAmong (length m.blocks)) m.sessions s no_session lt whole.sessions)
 
-pub blocks_within : (m : EcuMem) (s : ℕ) (w : Session) (bs : List ℕ) → IsWhole m → s < length m.sessions → slice_get m.sessions s ≡ Some w → bs ≡ w.blocks → Each (λ i. i < length m.blocks) bs
+pub blocks_within : (m : EcuMem) (s : ℕ) (w : Session) (bs : List ℕ) → IsWholeCatalogue m → s < length m.sessions → slice_get m.sessions s ≡ Some w → bs ≡ w.blocks → Each (λ i. i < length m.blocks) bs
 blocks_within m s w bs whole lt is e = subst (Each (λ i. i < length m.blocks)) (sym e) (among m s w whole lt is).positions
 
-pub checks_within : (m : EcuMem) (s : ℕ) (w : Session) (cs : List Check) → IsWhole m → s < length m.sessions → slice_get m.sessions s ≡ Some w → cs ≡ w.checks → Each IsCheck cs
+pub checks_within : (m : EcuMem) (s : ℕ) (w : Session) (cs : List Check) → IsWholeCatalogue m → s < length m.sessions → slice_get m.sessions s ≡ Some w → cs ≡ w.checks → Each IsCheck cs
 checks_within m s w cs whole lt is e = subst (Each IsCheck) (sym e) (among m s w whole lt is).checks
 
 -- ------ its segments
@@ -58,7 +58,7 @@ pub is_overlap : (m : EcuMem) (s : ℕ) (files : List (List ℕ × List ℕ)) (f
 is_overlap m s files fill ps qs o at are same some h = record { pieces = ps; are = are; lowest = lowest_is ps qs o (Some at) same some h }
 
 -- ------ the image as a part of a plan
-pub is_usable : (m : EcuMem) (image : Image) (ps : List Piece) (bs : List ℕ) → IsWhole m → Each (λ i. i < length m.blocks) bs → Each IsPlaced ps → 1 ≤ size_of ps
+pub is_usable : (m : EcuMem) (image : Image) (ps : List Piece) (bs : List ℕ) → IsWholeCatalogue m → Each (λ i. i < length m.blocks) bs → Each IsPlaced ps → 1 ≤ size_of ps
     → ((a : ℕ) → IsShared ps a → ⊥) → image.segments ≡ segments_of ps → image.own ≡ own_of (blocks_at m bs) → IsUsable image
 is_usable m image ps bs whole within placed some none segments own = record {
   some = subst (λ (l : List Segment). 1 ≤ length l) (sym segments) (some_segment ps some);

@@ -32,7 +32,7 @@ pub record IsSet (m : EcuMem) (s : ℕ) (files : List (List ℕ × List ℕ)) (f
   pub apart : IsLowest (IsShared ps) None
 
 -- What is answered of a session. Want of memory may come at any time.
-pub record IsWhole (m : EcuMem) (s : ℕ) (files : List (List ℕ × List ℕ)) (fill : Option ℕ) (image : Image) : Type 0 where
+pub record IsWholeImage (m : EcuMem) (s : ℕ) (files : List (List ℕ × List ℕ)) (fill : Option ℕ) (image : Image) : Type 0 where
   pub pieces : List Piece
   pub set : IsSet m s files fill pieces
   pub segments : image.segments ≡ segments_of pieces
@@ -50,11 +50,11 @@ IsRefused m s files fill e =
     (session_pieces m files fill (blocks_of m s) ≡ Err e)
     ⊎ ((ps : List Piece) × IsSet m s files fill ps × (all_checked ps (session_of m s).checks ≡ Err e))
 
-abbrev pub IsAnswer : EcuMem → ℕ → List (List ℕ × List ℕ) → Option ℕ → Result Image ImageFault → Type 0
-IsAnswer m s files fill (Ok image) = IsWhole m s files fill image
-IsAnswer m s files fill (Err (Overlap at)) = IsOverlap m s files fill at
-IsAnswer m s files fill (Err NoMemory) = Unit {0}
-IsAnswer m s files fill (Err e) = IsRefused m s files fill e
+abbrev pub IsImageAnswer : EcuMem → ℕ → List (List ℕ × List ℕ) → Option ℕ → Result Image ImageFault → Type 0
+IsImageAnswer m s files fill (Ok image) = IsWholeImage m s files fill image
+IsImageAnswer m s files fill (Err (Overlap at)) = IsOverlap m s files fill at
+IsImageAnswer m s files fill (Err NoMemory) = Unit {0}
+IsImageAnswer m s files fill (Err e) = IsRefused m s files fill e
 
 -- a byte at least, within the addresses
 pub record IsSegment (s : Segment) : Type 0 where

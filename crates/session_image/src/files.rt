@@ -1,6 +1,6 @@
 //! The files that a session needs.
 ghost use Rattle.std.specs.Prelude.{◌≡◌, ◌<◌, length, IfOk, OnOk};
-ghost use Rattle.ecu_mem.specs.Bounds.{IsWhole};
+ghost use Rattle.ecu_mem.specs.Bounds.{IsWholeCatalogue};
 ghost use Rattle.session_image.specs.Files.{block_of, flash_of, is_among, with_name, with_source, files_of};
 
 use ecu_mem::{Block, EcuMem, Flash, Source};
@@ -58,7 +58,7 @@ fn add_source(alloc: Global, names: &mut Names, source: &Source) -> Result<(), N
 /// The names of the files that a session needs, each once, in the order in which its datablocks
 /// first need them.
 pub fn files_of(alloc: Global, mem: &EcuMem, session: u64) -> Result<Names, NoMemory>
-    requires whole { IsWhole mem.now }
+    requires whole { IsWholeCatalogue mem.now }
     requires session { session < length mem.now.sessions }
     ensures { IfOk result (λ names. names ≡ files_of mem.now session) }
 {

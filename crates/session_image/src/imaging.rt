@@ -1,9 +1,9 @@
 //! The image of a session.
 ghost use Rattle.std.specs.Prelude.{◌≡◌, ◌<◌, ◌++◌, length, IfOk, OnOk};
 ghost use Rattle.flash_base.specs.Lists.{Each};
-ghost use Rattle.ecu_mem.specs.Bounds.{IsWhole};
+ghost use Rattle.ecu_mem.specs.Bounds.{IsWholeCatalogue};
 ghost use Rattle.session_image.specs.Files.{blocks_at};
-ghost use Rattle.session_image.specs.Images.{own_of, HasFiles, IsAnswer, IsUsable};
+ghost use Rattle.session_image.specs.Images.{own_of, HasFiles, IsImageAnswer, IsUsable};
 
 use crate::checks::all_checked;
 use crate::files::block_of;
@@ -60,10 +60,10 @@ pub fn image(
     files: &Files,
     fill: Option<u8>,
 ) -> Result<Image, ImageFault>
-    requires whole { IsWhole mem.now }
+    requires whole { IsWholeCatalogue mem.now }
     requires session { session < length mem.now.sessions }
     requires files { HasFiles mem.now session files.now }
-    ensures answer { IsAnswer mem.now session files.now fill result }
+    ensures answer { IsImageAnswer mem.now session files.now fill result }
     ensures usable { IfOk result IsUsable }
 {
     let wanted = mem.sessions.at(session as usize);

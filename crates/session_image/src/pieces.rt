@@ -2,7 +2,7 @@
 ghost use Rattle.std.specs.Prelude.{false, ◌≡◌, ◌⊎◌, ◌≤◌, ◌<◌, ◌+◌, ◌++◌, length, Err, Ok, IfOk, OnOk, None, Some, if◌then◌else◌, ℕ};
 ghost use Rattle.flash_base.specs.Lists.{Each};
 ghost use Rattle.ecu_mem.specs.Values.{address_limit};
-ghost use Rattle.ecu_mem.specs.Bounds.{IsRange, IsWhole, IsBlockAmong};
+ghost use Rattle.ecu_mem.specs.Bounds.{IsRange, IsWholeCatalogue, IsBlockAmong};
 ghost use Rattle.session_image.specs.Files.{blocks_at, flash_of};
 ghost use Rattle.session_image.specs.Kept.{dropped, kept_bodies, HasRoom, IsPlaced, IsWithin, kept_pieces, sizes};
 ghost use Rattle.session_image.specs.Pieces.{has_its_size, is_outside, target_of, moved, total, block_pieces, session_pieces, size_of, size_limit, segments_of};
@@ -232,7 +232,7 @@ pub(crate) fn session_pieces(
     fill: Option<u8>,
     blocks: &[u64],
 ) -> Result<Items<Piece>, ImageFault>
-    requires whole { IsWhole mem.now }
+    requires whole { IsWholeCatalogue mem.now }
     requires blocks { Each (λ i. i < length mem.now.blocks) blocks.now }
     ensures placed { IfOk result (λ pieces. Each IsPlaced pieces) }
     ensures some { IfOk result (λ pieces. 1 ≤ size_of pieces) }

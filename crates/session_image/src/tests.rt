@@ -1,7 +1,7 @@
 ghost use Rattle.std.specs.Prelude.{◌<◌, length, IfOk, IsSome, IsTrue};
 ghost use Rattle.flash_base.specs.Files.{first_of};
 ghost use Rattle.flash_base.specs.Lists.{Each};
-ghost use Rattle.ecu_mem.specs.Bounds.{IsWhole};
+ghost use Rattle.ecu_mem.specs.Bounds.{IsWholeCatalogue};
 ghost use Rattle.session_image.specs.Images.{HasFiles};
 
 use crate::{Image, ImageFault, files_of, image};
@@ -121,7 +121,7 @@ fn document(
     blocks: &str,
     flashes: &str,
 ) -> Result<EcuMem, Fail>
-    ensures { IfOk result IsWhole }
+    ensures { IfOk result IsWholeCatalogue }
 {
     let name = leaf(alloc, "SHORT-NAME", "S")?;
     let checks = branch(alloc, "CHECKSUMS", checks)?;
@@ -160,7 +160,7 @@ fn are_there(files: &Files, names: &Names) -> bool
 
 /// Whether all files that a session needs are there.
 fn has_files(alloc: Global, mem: &EcuMem, session: u64, files: &Files) -> Result<bool, Fail>
-    requires whole { IsWhole mem.now }
+    requires whole { IsWholeCatalogue mem.now }
     requires session { session < length mem.now.sessions }
     ensures { IfOk result (λ has. IsTrue has → HasFiles mem.now session files.now) }
 {
@@ -234,7 +234,7 @@ fn refused(alloc: Global, fault: ImageFault) -> Result<String, Fail> {
 
 /// What the session S gives, in words.
 fn answer(alloc: Global, mem: &EcuMem, files: &Files, fill: Option<u8>) -> Result<String, Fail>
-    requires { IsWhole mem.now }
+    requires { IsWholeCatalogue mem.now }
 {
     let Some(session) = mem.session("S") else {
         return Ok(String::from_str(alloc, "no session")?);

@@ -3,11 +3,11 @@ use Rattle.std.proofs.Common.{◌≡◌, ℕ, ◌<◌, List, refl, sym, ◌∙�
 use Rattle.std.specs.Prelude.{Bool, ◌==◌, ◌&&◌, ◌||◌}
 use Rattle.std.proofs.Math.Bool.{or-false}
 use Rattle.disk_model.specs.Disk.{DiskState, IsCrashImage}
-use Rattle.flash_plan.specs.Outcomes.{same_entry}
+use Rattle.flash_plan.specs.Outcomes.{same_entry, with_entry}
 use Rattle.flash_plan.specs.declared.outcome.Entry.{Entry}
 use Rattle.flash_plan.specs.declared.outcome.Entry.TheVariants.{Begun, Marked, Complete}
 use Rattle.journal_model.specs.Records.{Label, records}
-use Rattle.journal_steps.specs.Append.{Records, with_entry}
+use Rattle.journal_steps.specs.Append.{Records}
 use Rattle.journal_steps.specs.Make.{no_entry}
 use Rattle.flash_journal.specs.Kept.{journal_label, has_entry, MayAppend, IsKeptOn, HasOneMore}
 use Rattle.flash_journal.specs.Opened.{IsEmpty}

@@ -2,7 +2,7 @@
 use Rattle.std.specs.Prelude.{◌≡◌, ◌⊎◌, ℕ, false, [], Some}
 use Rattle.flash_base.specs.Lists.{Each}
 use Rattle.unit_model.specs.Step.{CanSend}
-use Rattle.unit_model.specs.Unit.{one_more}
+use Rattle.flash_base.specs.Counts.{one_more}
 use Rattle.unit_model.specs.Vehicle.{Gateway, Vehicle}
 
 -- the gateway is between frames, and can send what it holds

@@ -3,7 +3,7 @@ use Rattle.std.proofs.Common.{◌≡◌, ℕ, ◌+◌, true, false, List, [], �
 use Rattle.std.specs.Prelude.{◌==◌, if◌then◌else◌}
 use Rattle.uds_codec.specs.declared.request.Request.{Request}
 use Rattle.uds_codec.specs.declared.request.Request.TheVariants.{Session, Seed, Key, ReadId, Routine, Download, Upload, Transfer, Pull, Exit, Reset, Setting, Messages}
-use Rattle.uds_codec.specs.Answer.{Strange, negative_of, form_of, form_in, judge}
+use Rattle.uds_codec.specs.Answer.{Malformed, negative_of, form_of, form_in, judge}
 use Rattle.uds_codec.specs.Awaited.{awaited_by, request_like, service_of, judged}
 use Rattle.uds_codec.specs.Laws.{Spells}
 use Rattle.uds_codec.specs.Request.{request_of, sid_of}
@@ -47,5 +47,5 @@ judged_by request r [] e = refl
 judged_by request r (x ∷ rest) e =
     let sid : sid_of request ≡ service_of (awaited_by r) = service_is request r (found request r e) in
     let form = same_form r rest in
-    (λ i. if x == 127 then negative_of (sid i) rest else if x == sid i + 64 then form_in (e i) rest else Strange)
-    ∙ (λ i. if x == 127 then negative_of (service_of (awaited_by r)) rest else if x == service_of (awaited_by r) + 64 then form i else Strange)
+    (λ i. if x == 127 then negative_of (sid i) rest else if x == sid i + 64 then form_in (e i) rest else Malformed)
+    ∙ (λ i. if x == 127 then negative_of (service_of (awaited_by r)) rest else if x == service_of (awaited_by r) + 64 then form i else Malformed)

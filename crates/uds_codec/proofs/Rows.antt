@@ -2,7 +2,7 @@
 use Rattle.std.proofs.Common.{◌≡◌, true, false, [], ◌∷◌, Some, None, refl}
 use Rattle.flash_base.specs.declared.unit.KeyRule.TheVariants.{Xor}
 use Rattle.uds_codec.specs.declared.request.Request.TheVariants.{Session, Seed, Key, ReadId, Routine, Download, Upload, Transfer, Pull, Exit, Reset, Setting, Messages}
-use Rattle.uds_codec.specs.Answer.{judge, Later, Again, Refusal, Good, Bad_status, Strange}
+use Rattle.uds_codec.specs.Answer.{judge, Pending, Busy, Refusal, Accepted, BadStatus, Malformed}
 use Rattle.uds_codec.specs.Key.{key_of}
 use Rattle.uds_codec.specs.Request.{spelled, request_of}
 
@@ -98,36 +98,36 @@ identifier = refl
 block_number : judge (52 ∷ 0 ∷ 68 ∷ []) (127 ∷ 52 ∷ 51 ∷ []) ≡ Refusal 51
 block_number = refl
 
-pending : judge (16 ∷ 2 ∷ []) (127 ∷ 16 ∷ 120 ∷ []) ≡ Later
+pending : judge (16 ∷ 2 ∷ []) (127 ∷ 16 ∷ 120 ∷ []) ≡ Pending
 pending = refl
 
-busy : judge (54 ∷ 1 ∷ 97 ∷ []) (127 ∷ 54 ∷ 33 ∷ []) ≡ Again
+busy : judge (54 ∷ 1 ∷ 97 ∷ []) (127 ∷ 54 ∷ 33 ∷ []) ≡ Busy
 busy = refl
 
-accepted : judge (52 ∷ 0 ∷ 35 ∷ 1 ∷ 0 ∷ 0 ∷ 0 ∷ 16 ∷ []) (116 ∷ 32 ∷ 15 ∷ 255 ∷ []) ≡ Good (15 ∷ 255 ∷ [])
+accepted : judge (52 ∷ 0 ∷ 35 ∷ 1 ∷ 0 ∷ 0 ∷ 0 ∷ 16 ∷ []) (116 ∷ 32 ∷ 15 ∷ 255 ∷ []) ≡ Accepted (15 ∷ 255 ∷ [])
 accepted = refl
 
-too_small : judge (52 ∷ 0 ∷ 35 ∷ 1 ∷ 0 ∷ 0 ∷ 0 ∷ 16 ∷ []) (116 ∷ 32 ∷ 0 ∷ 2 ∷ []) ≡ Strange
+too_small : judge (52 ∷ 0 ∷ 35 ∷ 1 ∷ 0 ∷ 0 ∷ 0 ∷ 16 ∷ []) (116 ∷ 32 ∷ 0 ∷ 2 ∷ []) ≡ Malformed
 too_small = refl
 
-not_equal : judge (49 ∷ 1 ∷ 2 ∷ 2 ∷ []) (113 ∷ 1 ∷ 2 ∷ 2 ∷ 1 ∷ []) ≡ Bad_status 1
+not_equal : judge (49 ∷ 1 ∷ 2 ∷ 2 ∷ []) (113 ∷ 1 ∷ 2 ∷ 2 ∷ 1 ∷ []) ≡ BadStatus 1
 not_equal = refl
 
-seed_said : judge (39 ∷ 1 ∷ []) (103 ∷ 1 ∷ 18 ∷ 52 ∷ []) ≡ Good (18 ∷ 52 ∷ [])
+seed_said : judge (39 ∷ 1 ∷ []) (103 ∷ 1 ∷ 18 ∷ 52 ∷ []) ≡ Accepted (18 ∷ 52 ∷ [])
 seed_said = refl
 
 -- a block number of an upload; a block; and the settings
-upload_said : judge (53 ∷ 0 ∷ 35 ∷ 1 ∷ 0 ∷ 0 ∷ 0 ∷ 16 ∷ []) (117 ∷ 32 ∷ 15 ∷ 255 ∷ 7 ∷ []) ≡ Good (15 ∷ 255 ∷ [])
+upload_said : judge (53 ∷ 0 ∷ 35 ∷ 1 ∷ 0 ∷ 0 ∷ 0 ∷ 16 ∷ []) (117 ∷ 32 ∷ 15 ∷ 255 ∷ 7 ∷ []) ≡ Accepted (15 ∷ 255 ∷ [])
 upload_said = refl
 
-block_said : judge (54 ∷ 1 ∷ []) (118 ∷ 1 ∷ 97 ∷ 98 ∷ []) ≡ Good (97 ∷ 98 ∷ [])
+block_said : judge (54 ∷ 1 ∷ []) (118 ∷ 1 ∷ 97 ∷ 98 ∷ []) ≡ Accepted (97 ∷ 98 ∷ [])
 block_said = refl
 
-codes_said : judge (133 ∷ 2 ∷ []) (197 ∷ 2 ∷ []) ≡ Good []
+codes_said : judge (133 ∷ 2 ∷ []) (197 ∷ 2 ∷ []) ≡ Accepted []
 codes_said = refl
 
-codes_other : judge (133 ∷ 2 ∷ []) (197 ∷ 1 ∷ []) ≡ Strange
+codes_other : judge (133 ∷ 2 ∷ []) (197 ∷ 1 ∷ []) ≡ Malformed
 codes_other = refl
 
-messages_said : judge (40 ∷ 3 ∷ 1 ∷ []) (104 ∷ 3 ∷ []) ≡ Good []
+messages_said : judge (40 ∷ 3 ∷ 1 ∷ []) (104 ∷ 3 ∷ []) ≡ Accepted []
 messages_said = refl

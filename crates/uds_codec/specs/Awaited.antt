@@ -6,7 +6,7 @@ use Rattle.uds_codec.specs.declared.judging.Verdict.{Verdict as Found}
 use Rattle.uds_codec.specs.declared.judging.Verdict.TheVariants as found
 use Rattle.uds_codec.specs.declared.request.Request.{Request}
 use Rattle.uds_codec.specs.declared.request.Request.TheVariants.{Session, Seed, Key, ReadId, Routine, Download, Upload, Transfer, Pull, Exit, Reset, Setting, Messages}
-use Rattle.uds_codec.specs.Answer.{Verdict, Later, Again, Refusal, Good, Bad_status, Strange, negative_of, form_of, judge}
+use Rattle.uds_codec.specs.Answer.{Verdict, Pending, Busy, Refusal, Accepted, BadStatus, Malformed, negative_of, form_of, judge}
 use Rattle.uds_codec.specs.Request.{request_of}
 
 -- a request without its data
@@ -58,20 +58,20 @@ service_of (awaited.Setting off) = 133
 service_of (awaited.Messages off) = 40
 
 abbrev pub judged : Awaited → List ℕ → Verdict
-judged a [] = Strange
+judged a [] = Malformed
 judged a (x ∷ rest) =
     if x == 127 then negative_of (service_of a) rest
     else if x == service_of a + 64 then form_of (request_like a) rest
-    else Strange
+    else Malformed
 
 -- what is found, as a verdict
 abbrev pub verdict_of : Found → Verdict
-verdict_of (found.Accepted r) = Good r.now
-verdict_of (found.Failed status) = Bad_status status
-verdict_of found.ResponsePending = Later
-verdict_of found.BusyRepeatRequest = Again
-verdict_of (found.Negative code) = Refusal code
-verdict_of found.Malformed = Strange
+verdict_of (found.Accepted r) = Accepted r.now
+verdict_of (found.BadStatus status) = BadStatus status
+verdict_of found.Pending = Pending
+verdict_of found.Busy = Busy
+verdict_of (found.Refusal code) = Refusal code
+verdict_of found.Malformed = Malformed
 
 -- The verdict on these bytes, as the answer to each request of which this is awaited.
 abbrev pub IsJudged : Awaited → List ℕ → Verdict → Type 0

@@ -1,7 +1,7 @@
 //! What an answer says to the request that it answers (ISO 14229-1).
 
 ghost use Rattle.std.specs.Prelude.{◌≡◌, ◌+◌, ◌≤◌};
-ghost use Rattle.uds_codec.specs.Answer.{negative, negative_of, after_one, seed_form, status_form, routine_form, id_form, block_form, form_of, Good};
+ghost use Rattle.uds_codec.specs.Answer.{negative, negative_of, after_one, seed_form, status_form, routine_form, id_form, block_form, form_of, Accepted};
 ghost use Rattle.uds_codec.specs.Awaited.{awaited_by, request_like, service_of, judged, verdict_of, IsJudged};
 
 use crate::code::{BUSY_REPEAT_REQUEST, RESPONSE_PENDING};
@@ -40,13 +40,13 @@ pub enum Verdict<'a> {
     /// and of the others what more there is.
     Accepted { record: &'a [u8] },
     /// A positive response of a routine that ended with a status other than 0.
-    Failed { status: u8 },
+    BadStatus { status: u8 },
     /// The negative response requestCorrectlyReceived-ResponsePending: the answer itself comes later.
-    ResponsePending,
+    Pending,
     /// The negative response busyRepeatRequest: the request is to be sent again.
-    BusyRepeatRequest,
+    Busy,
     /// A negative response with another code.
-    Negative { code: u8 },
+    Refusal { code: u8 },
     /// No answer to this request, or one that is not in the form.
     Malformed,
 }
@@ -107,9 +107,9 @@ fn refusal<'a>(code: u8) -> Verdict<'a>
     ensures { verdict_of result ≡ negative code }
 {
     match code {
-        RESPONSE_PENDING => Verdict::ResponsePending,
-        BUSY_REPEAT_REQUEST => Verdict::BusyRepeatRequest,
-        _ => Verdict::Negative { code },
+        RESPONSE_PENDING => Verdict::Pending,
+        BUSY_REPEAT_REQUEST => Verdict::Busy,
+        _ => Verdict::Refusal { code },
     }
 }
 
@@ -131,7 +131,7 @@ fn negative(service: u8, rest: &[u8]) -> Verdict<'_>
 
 /// Behind a byte that is echoed; it may be above every byte.
 fn echoed(rest: &[u8], byte: u16) -> Verdict<'_>
-    ensures { verdict_of result ≡ after_one rest.now byte Good }
+    ensures { verdict_of result ≡ after_one rest.now byte Accepted }
 {
     match rest {
         [first, record @ ..] => {
@@ -183,7 +183,7 @@ fn status(rest: &[u8]) -> Verdict<'_>
 {
     match rest {
         [0, record @ ..] => Verdict::Accepted { record },
-        [status, ..] => Verdict::Failed { status: *status },
+        [status, ..] => Verdict::BadStatus { status: *status },
         [] => Verdict::Malformed,
     }
 }

@@ -439,10 +439,10 @@ fn refused_settings(rt: HostRuntime) {
 fn said<'a>(awaited: Awaited, reply: &'a [u8]) -> (u8, u8, &'a [u8]) {
     match judge(awaited, reply) {
         Verdict::Accepted { record } => (0, 0, record),
-        Verdict::Failed { status } => (1, status, &[]),
-        Verdict::ResponsePending => (2, 0, &[]),
-        Verdict::BusyRepeatRequest => (3, 0, &[]),
-        Verdict::Negative { code } => (4, code, &[]),
+        Verdict::BadStatus { status } => (1, status, &[]),
+        Verdict::Pending => (2, 0, &[]),
+        Verdict::Busy => (3, 0, &[]),
+        Verdict::Refusal { code } => (4, code, &[]),
         Verdict::Malformed => (5, 0, &[]),
     }
 }

@@ -4,7 +4,8 @@ use Rattle.uds_codec.specs.Request.{sid_of}
 use Rattle.doip_frame.specs.declared.frame.Frame.{Frame}
 use Rattle.doip_frame.specs.declared.frame.Frame.TheVariants.{HeaderNack, Activate, Activated, AliveAsk, AliveSay, Message, Ack, Nack, Other}
 use Rattle.doip_frame.specs.Frame.{Cut, Partial, Wrong, Whole, cut_frame, frame_of, nack_code, activated_bytes, message_bytes, ack_bytes, nack_bytes, header_nack_bytes}
-use Rattle.unit_model.specs.Unit.{ControlUnit, one_more}
+use Rattle.flash_base.specs.Counts.{one_more}
+use Rattle.unit_model.specs.Unit.{ControlUnit}
 use Rattle.unit_model.specs.declared.reply.Due.{Due}
 use Rattle.unit_model.specs.declared.reply.Due.TheVariants.{At, Held}
 use Rattle.unit_model.specs.declared.reply.UnitReply.{UnitReply}
@@ -24,23 +25,23 @@ abbrev pub tester_of : Gateway → ℕ
 tester_of g = unwrap_or g.active 0
 
 -- a reply of a unit that is due at a tick
-pub record Word : Type 0 where
+pub record DueReply : Type 0 where
   pub unit : ℕ
   pub due : ℕ
   pub body : List ℕ
 
-abbrev pub queue_words : Gateway → List Word → Gateway
-queue_words g [] = g
-queue_words g (w ∷ ws) = queue_words (enqueue g w.due (message_bytes w.unit (tester_of g) w.body)) ws
+abbrev pub queue_replies : Gateway → List DueReply → Gateway
+queue_replies g [] = g
+queue_replies g (w ∷ ws) = queue_replies (enqueue g w.due (message_bytes w.unit (tester_of g) w.body)) ws
 
 -- of the replies of a unit to a service, those that are due at a tick
-abbrev pub due_word : ℕ → Due → List ℕ → List Word
-due_word unit (At due) body = record { unit = unit; due = due; body = body } ∷ []
-due_word unit (Held every watch service) body = []
+abbrev pub due_reply : ℕ → Due → List ℕ → List DueReply
+due_reply unit (At due) body = record { unit = unit; due = due; body = body } ∷ []
+due_reply unit (Held every watch service) body = []
 
-abbrev pub due_words : ℕ → List UnitReply → List Word
-due_words unit [] = []
-due_words unit (r ∷ rs) = due_word unit r.due r.body ++ due_words unit rs
+abbrev pub due_replies : ℕ → List UnitReply → List DueReply
+due_replies unit [] = []
+due_replies unit (r ∷ rs) = due_reply unit r.due r.body ++ due_replies unit rs
 
 -- and those that are held, from this tick on
 abbrev pub held_answer : ℕ → ℕ → ℕ → Due → List ℕ → List HeldAnswer
@@ -56,7 +57,7 @@ abbrev pub waits_for : ℕ → ℕ → HeldAnswer → Bool
 waits_for target sid h = h.watch == target && h.service == sid
 
 -- the held answers that this request lets go, due at once
-abbrev pub released : ℕ → ℕ → ℕ → List HeldAnswer → List Word
+abbrev pub released : ℕ → ℕ → ℕ → List HeldAnswer → List DueReply
 released tick target sid held = map (λ h. record { unit = h.unit; due = tick; body = h.body }) (filter (waits_for target sid) held)
 
 abbrev pub still_held : ℕ → ℕ → List HeldAnswer → List HeldAnswer
@@ -66,18 +67,18 @@ abbrev pub say : Vehicle → List ℕ → Vehicle
 say v frame = record v { gateway = record v.gateway { ready = v.gateway.ready ++ frame } }
 
 -- the unit is there, and the gateway answers for it with another code
-pub record Nacks (source target : ℕ) (u : ControlUnit) (old new : Vehicle) (out : List Word) : Type 0 where
+pub record Nacks (source target : ℕ) (u : ControlUnit) (old new : Vehicle) (out : List DueReply) : Type 0 where
   pub code : ℕ
   pub none : out ≡ []
   pub becomes : new ≡ record (say old (nack_bytes target source code)) { units = with_unit old.units target (record u { counts = record u.counts { nacked = raise_code code u.counts.nacked } }) }
 
 -- The unit hears the body. What it lets go comes before its own replies; a reply that it holds is held from here on, so that a
 -- later frame may let it go.
-pub record Hears (source target : ℕ) (body : List ℕ) (u : ControlUnit) (old new : Vehicle) (out : List Word) : Type 0 where
+pub record Hears (source target : ℕ) (body : List ℕ) (u : ControlUnit) (old new : Vehicle) (out : List DueReply) : Type 0 where
   pub replies : List UnitReply
   pub after : ControlUnit
   pub step : UnitStep u body old.gateway.tick replies after
-  pub lets_out : out ≡ released old.gateway.tick target (sid_of body) old.gateway.held ++ due_words target replies
+  pub lets_out : out ≡ released old.gateway.tick target (sid_of body) old.gateway.held ++ due_replies target replies
   pub becomes : new ≡ record {
     gateway = record old.gateway {
       ready = old.gateway.ready ++ ack_bytes target source;
@@ -86,15 +87,15 @@ pub record Hears (source target : ℕ) (body : List ℕ) (u : ControlUnit) (old 
     units = with_unit old.units target after;
   }
 
-pub record Refuses (source target code : ℕ) (old new : Vehicle) (out : List Word) : Type 0 where
+pub record Refuses (source target code : ℕ) (old new : Vehicle) (out : List DueReply) : Type 0 where
   pub none : out ≡ []
   pub becomes : new ≡ say old (nack_bytes target source code)
 
-abbrev pub HandlesAt : ℕ → ℕ → List ℕ → Option ControlUnit → Vehicle → Vehicle → List Word → Type 0
+abbrev pub HandlesAt : ℕ → ℕ → List ℕ → Option ControlUnit → Vehicle → Vehicle → List DueReply → Type 0
 HandlesAt source target body None old new out = Refuses source target 3 old new out
 HandlesAt source target body (Some u) old new out = Nacks source target u old new out ⊎ Hears source target body u old new out
 
-abbrev pub HandlesMessage : ℕ → ℕ → List ℕ → Option ℕ → Vehicle → Vehicle → List Word → Type 0
+abbrev pub HandlesMessage : ℕ → ℕ → List ℕ → Option ℕ → Vehicle → Vehicle → List DueReply → Type 0
 HandlesMessage source target body None old new out = Refuses source target 2 old new out
 HandlesMessage source target body (Some tester) old new out = HandlesAt source target body (unit_at old.units target) old new out
 
@@ -126,18 +127,18 @@ IsActivation (Denies code) = code ≡ 16 → ⊥
 IsActivation (Delays ticks) = Unit {0}
 IsActivation Ignores = Unit {0}
 
-pub record Activates (source : ℕ) (old new : Vehicle) (out : List Word) : Type 0 where
+pub record Activates (source : ℕ) (old new : Vehicle) (out : List DueReply) : Type 0 where
   pub how : Activation
   pub is : IsActivation how
   pub none : out ≡ []
   pub becomes : new ≡ activation how source old
 
-pub record Nothing (old new : Vehicle) (out : List Word) : Type 0 where
+pub record Nothing (old new : Vehicle) (out : List DueReply) : Type 0 where
   pub none : out ≡ []
   pub becomes : new ≡ old
 
 -- one whole frame
-abbrev pub Handles : Frame → Vehicle → Vehicle → List Word → Type 0
+abbrev pub Handles : Frame → Vehicle → Vehicle → List DueReply → Type 0
 Handles (Activate source kind oem) old new out = Activates source old new out
 Handles (Message source target body) old new out = HandlesMessage source target body old.gateway.active old new out
 Handles (HeaderNack code) old new out = Nothing old new out
@@ -149,22 +150,22 @@ Handles (Nack source target code before) old new out = Nothing old new out
 Handles (Other kind payload) old new out = Nothing old new out
 
 -- what the first frame does, and then what the rest does; the units' replies are gathered in the order in which they came to be
-abbrev pub AfterCut : Cut → (List ℕ → Vehicle → Vehicle → List Word → Type 0) → List ℕ → Vehicle → Vehicle → List Word → Type 0
+abbrev pub AfterCut : Cut → (List ℕ → Vehicle → Vehicle → List DueReply → Type 0) → List ℕ → Vehicle → Vehicle → List DueReply → Type 0
 AfterCut Partial Rest bytes old new out = (new ≡ record old { gateway = record old.gateway { unfinished = bytes } }) × (out ≡ [])
 AfterCut (Wrong bad) Rest bytes old new out = (new ≡ say (record old { gateway = record old.gateway { deaf = true; unfinished = [] } }) (header_nack_bytes (nack_code bad))) × (out ≡ [])
 AfterCut (Whole kind payload rest) Rest bytes old new out =
-    (mid : Vehicle) × (first : List Word) × (second : List Word) × Handles (frame_of kind payload) old mid first × Rest rest mid new second × (out ≡ first ++ second)
+    (mid : Vehicle) × (first : List DueReply) × (second : List DueReply) × Handles (frame_of kind payload) old mid first × Rest rest mid new second × (out ≡ first ++ second)
 
-abbrev pub FeedsAll : ℕ → List ℕ → Vehicle → Vehicle → List Word → Type 0
+abbrev pub FeedsAll : ℕ → List ℕ → Vehicle → Vehicle → List DueReply → Type 0
 FeedsAll zero bytes old new out = (new ≡ old) × (out ≡ [])
 FeedsAll (suc n) bytes old new out = AfterCut (cut_frame bytes) (FeedsAll n) bytes old new out
 
 -- the replies are queued behind the gateway's own answers
 pub record FeedsHearing (bytes : List ℕ) (old new : Vehicle) : Type 0 where
   pub mid : Vehicle
-  pub out : List Word
+  pub out : List DueReply
   pub all : FeedsAll (suc (length (old.gateway.unfinished ++ bytes))) (old.gateway.unfinished ++ bytes) old mid out
-  pub becomes : new ≡ record mid { gateway = queue_words mid.gateway out }
+  pub becomes : new ≡ record mid { gateway = queue_replies mid.gateway out }
 
 abbrev pub Feeds : List ℕ → Vehicle → Vehicle → Type 0
 Feeds bytes old new = MatchBool old.gateway.deaf (new ≡ old) (FeedsHearing bytes old new)

@@ -5,10 +5,11 @@ use Rattle.flash_base.specs.Lists.{Each}
 use Rattle.uds_codec.specs.declared.request.Request.{Request}
 use Rattle.uds_codec.specs.declared.request.Request.TheVariants.{Session, Reset, ReadId, Seed, Key, Routine, Download, Upload, Transfer, Pull, Exit, Setting, Messages}
 use Rattle.uds_codec.specs.Request.{Range, range_of, request_of, sid_of}
-use Rattle.uds_codec.specs.Answer.{Verdict, Later, Again, Refusal, Good, Bad_status, Strange, judge}
+use Rattle.uds_codec.specs.Answer.{Verdict, Pending, Busy, Refusal, Accepted, BadStatus, Malformed, judge}
 use Rattle.unit_model.specs.declared.reply.Due.TheVariants.{At, Held}
 use Rattle.unit_model.specs.declared.reply.UnitReply.{UnitReply}
-use Rattle.unit_model.specs.Unit.{ControlUnit, Counts, OpenTransfer, obedient, obey, heard_one, one_more, apart}
+use Rattle.flash_base.specs.Counts.{one_more}
+use Rattle.unit_model.specs.Unit.{ControlUnit, Counts, OpenTransfer, obedient, obey, heard_one, apart}
 
 abbrev pub pending_bytes : ℕ → List ℕ
 pending_bytes sid = 127 ∷ sid ∷ 120 ∷ []
@@ -90,12 +91,12 @@ abbrev pub Leaves : ControlUnit → List ℕ → ControlUnit → Type 0
 Leaves old bytes mid = (mid ≡ old) ⊎ ((s : Spoil) × (spoil_in old (request_of bytes) ≡ Some s) × Spoiled s old mid)
 
 abbrev pub is_good : Verdict → Bool
-is_good Later = false
-is_good Again = false
+is_good Pending = false
+is_good Busy = false
 is_good (Refusal nrc) = false
-is_good (Good rest) = true
-is_good (Bad_status status) = false
-is_good Strange = false
+is_good (Accepted rest) = true
+is_good (BadStatus status) = false
+is_good Malformed = false
 
 abbrev pub raise_code : ℕ → (ℕ → ℕ) → ℕ → ℕ
 raise_code code counts c = if c == code then one_more (counts c) else counts c
@@ -118,8 +119,8 @@ raised Busies c = record c { busy = one_more c.busy }
 -- when it is one: the obedient answer is another
 abbrev pub IsDeparture : Departure → ControlUnit → List ℕ → Type 0
 IsDeparture (Refuses nrc) u bytes = (nrc ≡ 33 → ⊥) × (nrc ≡ 120 → ⊥) × ((obedient u bytes).1 ≡ 127 ∷ sid_of bytes ∷ nrc ∷ [] → ⊥)
-IsDeparture (Odd body) u bytes = (judge bytes body ≡ Strange) × (1 ≤ length body) × (length body ≤ 65535)
-IsDeparture (Fails body) u bytes = (status : ℕ) × (judge bytes body ≡ Bad_status status) × IsTrue (is_good (judge bytes (obedient u bytes).1)) × (length body ≤ 65535)
+IsDeparture (Odd body) u bytes = (judge bytes body ≡ Malformed) × (1 ≤ length body) × (length body ≤ 65535)
+IsDeparture (Fails body) u bytes = (status : ℕ) × (judge bytes body ≡ BadStatus status) × IsTrue (is_good (judge bytes (obedient u bytes).1)) × (length body ≤ 65535)
 IsDeparture Mutes u bytes = Unit {0}
 IsDeparture Busies u bytes = Unit {0}
 

@@ -2,7 +2,7 @@
 use Rattle.std.specs.Prelude.{ℕ, ◌+◌, ◌-◌, ◌^◌, min, Bool, true, false, ◌&&◌, ◌||◌, ◌==◌, nat_lt, not, List, [], ◌∷◌, ◌++◌, length, replicate, filter, Option, Some, None, is_some, if◌then◌else◌}
 use Rattle.sha2.specs.Sha256.{sha256}
 use Rattle.flash_base.specs.Numbers.{big_endian}
-use Rattle.flash_base.specs.ByteMaps.{ByteMap, fill, put, has_each, bytes_of}
+use Rattle.flash_base.specs.ByteMaps.{MemoryMap, fill, put, has_each, bytes_of}
 use Rattle.flash_base.specs.Lists.{same_bytes}
 use Rattle.flash_base.specs.declared.unit.KeyRule.{KeyRule}
 use Rattle.flash_base.specs.declared.unit.KeyRule.TheVariants.{Free, Xor, Digest}
@@ -10,6 +10,7 @@ use Rattle.uds_codec.specs.declared.request.Request.{Request}
 use Rattle.uds_codec.specs.declared.request.Request.TheVariants.{Session, Reset, ReadId, Seed, Key, Routine, Download, Upload, Transfer, Pull, Exit, Setting, Messages}
 use Rattle.uds_codec.specs.Request.{Range, range_of, request_of, is_service, sid_of, setting_code, messages_code}
 use Rattle.uds_codec.specs.Key.{key_of}
+use Rattle.flash_base.specs.Counts.{one_more}
 
 -- a transfer in hand, down into the unit or up out of it: the next address, how many bytes are left, the next counter, and the
 -- length of the last block, if there was one; its bytes end at the next address
@@ -42,7 +43,7 @@ pub record ControlUnit : Type 0 where
   pub unlocked : Bool
   pub seed : List ℕ
   pub last_seed : Option (List ℕ)
-  pub memory : ByteMap
+  pub memory : MemoryMap
   pub transfer : Option OpenTransfer
   pub checked : List (ℕ × ℕ)
   pub passed : Bool
@@ -61,12 +62,6 @@ meets at size r = nat_lt r.0 (at + size) && nat_lt at (r.0 + r.1)
 
 abbrev pub apart : ℕ → ℕ → List (ℕ × ℕ) → List (ℕ × ℕ)
 apart at size checked = filter (λ r. not (meets at size r)) checked
-
-abbrev pub LAST_COUNT : ℕ
-LAST_COUNT = 2 ^ 64 - 1
-
-abbrev pub one_more : ℕ → ℕ
-one_more n = min (n + 1) LAST_COUNT
 
 abbrev pub heard_one : ControlUnit → ControlUnit
 heard_one u = record u { heard = one_more u.heard }

@@ -13,7 +13,7 @@ use Rattle.flash_plan.specs.declared.unit.Wanted.{Wanted}
 use Rattle.run_model.specs.Places.{is_ended}
 use Rattle.run_model.specs.Script.{Cursor, Blocks, Place, AtIdent, AtBegin, AtProgram, AtSeed, AtKey, AtErase, AtDownload, AtBlock, AtExit, AtCheck, AtMark, AtFinish, AtReset, AtDone, AtEnd, bytes_at, place_next, idents_from, segments_from, after_program, more_blocks, after_block, is_empty, has_value, routine_at}
 use Rattle.run_model.specs.Talk.{Talk, talk_judged, sid_at}
-use Rattle.uds_codec.specs.Answer.{Verdict, Later, Again, Refusal, Good, Bad_status, Strange, judge, negative, negative_of, after_one, seed_form, status_form, routine_form, id_form, block_form, form_of, form_in}
+use Rattle.uds_codec.specs.Answer.{Verdict, Pending, Busy, Refusal, Accepted, BadStatus, Malformed, judge, negative, negative_of, after_one, seed_form, status_form, routine_form, id_form, block_form, form_of, form_in}
 use Rattle.uds_codec.specs.Key.{all_zero}
 use Rattle.uds_codec.specs.Request.{request_of, sid_of, setting_code, messages_code}
 use Rattle.uds_codec.specs.declared.request.Request.{Request}
@@ -22,12 +22,12 @@ use Rattle.unit_session.specs.Ends.{AnswerEnds, EndsAreCaused}
 
 -- ------ what an answer may be judged as
 abbrev IsForm : Verdict → Type 0
-IsForm Later = ⊥
-IsForm Again = ⊥
+IsForm Pending = ⊥
+IsForm Busy = ⊥
 IsForm (Refusal nrc) = ⊥
-IsForm (Good rest) = Unit {0}
-IsForm (Bad_status status) = Unit {0}
-IsForm Strange = Unit {0}
+IsForm (Accepted rest) = Unit {0}
+IsForm (BadStatus status) = Unit {0}
+IsForm Malformed = Unit {0}
 
 form_if : (c : Bool) (a b : Verdict) → IsForm a → IsForm b → IsForm (if c then a else b)
 form_if true a b x y = x
@@ -35,41 +35,41 @@ form_if false a b x y = y
 
 form_after : (rest : List ℕ) (a : ℕ) (f : List ℕ → Verdict) → ((xs : List ℕ) → IsForm (f xs)) → IsForm (after_one rest a f)
 form_after [] a f each = tt
-form_after (x ∷ xs) a f each = form_if (x == a) (f xs) Strange (each xs) tt
+form_after (x ∷ xs) a f each = form_if (x == a) (f xs) Malformed (each xs) tt
 
 form_status : (xs : List ℕ) → IsForm (status_form xs)
 form_status [] = tt
-form_status (status ∷ more) = form_if (status == 0) (Good more) (Bad_status status) tt tt
+form_status (status ∷ more) = form_if (status == 0) (Accepted more) (BadStatus status) tt tt
 
 form_routine : (id : ℕ) (xs : List ℕ) → IsForm (routine_form id xs)
 form_routine id [] = tt
 form_routine id (a ∷ []) = tt
 form_routine id (a ∷ b ∷ []) = tt
-form_routine id (a ∷ hi ∷ lo ∷ rest) = form_if (a == 1 && number2 hi lo == id) (status_form rest) Strange (form_status rest) tt
+form_routine id (a ∷ hi ∷ lo ∷ rest) = form_if (a == 1 && number2 hi lo == id) (status_form rest) Malformed (form_status rest) tt
 
 form_id : (id : ℕ) (xs : List ℕ) → IsForm (id_form id xs)
 form_id id [] = tt
 form_id id (a ∷ []) = tt
-form_id id (hi ∷ lo ∷ rest) = form_if (number2 hi lo == id) (Good rest) Strange tt tt
+form_id id (hi ∷ lo ∷ rest) = form_if (number2 hi lo == id) (Accepted rest) Malformed tt tt
 
 form_block : (xs : List ℕ) → IsForm (block_form xs)
 form_block [] = tt
-form_block (n ∷ rest) = form_if (nat_le 1 (n / 16) && nat_le (n / 16) 8 && nat_le (n / 16) (length rest) && nat_le 3 (number_of (take (n / 16) rest))) (Good (take (n / 16) rest)) Strange tt tt
+form_block (n ∷ rest) = form_if (nat_le 1 (n / 16) && nat_le (n / 16) 8 && nat_le (n / 16) (length rest) && nat_le 3 (number_of (take (n / 16) rest))) (Accepted (take (n / 16) rest)) Malformed tt tt
 
 form_is : (r : Request) (rest : List ℕ) → IsForm (form_of r rest)
-form_is (Session kind) rest = form_after rest kind Good (λ xs. tt)
-form_is Reset rest = form_after rest 1 Good (λ xs. tt)
+form_is (Session kind) rest = form_after rest kind Accepted (λ xs. tt)
+form_is Reset rest = form_after rest 1 Accepted (λ xs. tt)
 form_is (ReadId did) rest = form_id did rest
-form_is (Seed level) rest = form_after rest level seed_form (λ xs. form_if (nat_le 1 (length xs) && nat_le (length xs) 32) (Good xs) Strange tt tt)
-form_is (Key level key) rest = form_after rest (level + 1) Good (λ xs. tt)
+form_is (Seed level) rest = form_after rest level seed_form (λ xs. form_if (nat_le 1 (length xs) && nat_le (length xs) 32) (Accepted xs) Malformed tt tt)
+form_is (Key level key) rest = form_after rest (level + 1) Accepted (λ xs. tt)
 form_is (Routine id option) rest = form_routine id rest
 form_is (Download width at size) rest = form_block rest
 form_is (Upload width at size) rest = form_block rest
-form_is (Transfer counter body) rest = form_after rest counter Good (λ xs. tt)
-form_is (Pull counter) rest = form_after rest counter Good (λ xs. tt)
+form_is (Transfer counter body) rest = form_after rest counter Accepted (λ xs. tt)
+form_is (Pull counter) rest = form_after rest counter Accepted (λ xs. tt)
 form_is Exit rest = tt
-form_is (Setting off) rest = form_after rest (setting_code off) Good (λ xs. tt)
-form_is (Messages off) rest = form_after rest (messages_code off) Good (λ xs. tt)
+form_is (Setting off) rest = form_after rest (setting_code off) Accepted (λ xs. tt)
+form_is (Messages off) rest = form_after rest (messages_code off) Accepted (λ xs. tt)
 
 form_some : (o : Option Request) (rest : List ℕ) → IsForm (form_in o rest)
 form_some None rest = tt
@@ -92,7 +92,7 @@ judged_as : (request reply : List ℕ) → JudgedAs request reply (judge request
 judged_as request [] = inr tt
 judged_as request (x ∷ rest) = elim (cases_Bool (x == 127)) [
   | inl e ↦ rw e (negative_as request x rest (eqb-true x 127 e))
-  | inr e ↦ rw e (inr (form_if (x == sid_of request + 64) (form_in (request_of request) rest) Strange (form_some (request_of request) rest) tt))
+  | inr e ↦ rw e (inr (form_if (x == sid_of request + 64) (form_in (request_of request) rest) Malformed (form_some (request_of request) rest) tt))
 ]
 
 -- ------ no positive answer ends, but that of an identifier
@@ -123,7 +123,7 @@ seed_open : (u : UnitPlan) (marks : ℕ → Bool) (level : ℕ) (rest : List ℕ
 seed_open u marks level rest = elim (cases_Bool (all_zero rest)) [ inl e ↦ rw e (segments_open marks [] u.segments) | inr e ↦ rw e refl ]
 
 module _ (u : UnitPlan) (marks : ℕ → Bool) (body rest : List ℕ) (o : Outcome) where
-  good_ends : (p : Place) (t : Talk) → t.place ≡ p → judge (bytes_at u t.place) body ≡ Good rest → is_ended p ≡ false → place_next u marks p rest ≡ AtEnd o → AnswerEnds u t body o
+  good_ends : (p : Place) (t : Talk) → t.place ≡ p → judge (bytes_at u t.place) body ≡ Accepted rest → is_ended p ≡ false → place_next u marks p rest ≡ AtEnd o → AnswerEnds u t body o
   good_ends (AtIdent w ws) t at good open_place is = elim (cases_Bool (has_value w.values rest)) [
     | inl e ↦ ended_not (idents_from ws) o (idents_open ws) (rw e at is)
     | inr e ↦
@@ -147,13 +147,13 @@ module _ (u : UnitPlan) (marks : ℕ → Bool) (body rest : List ℕ) (o : Outco
   good_ends (AtEnd outcome) t at good open_place is = absurd (false≢true (sym open_place))
 
 module _ (u : UnitPlan) (tick : ℕ) (body : List ℕ) (t : Talk) (o : Outcome) (open_place : is_ended t.place ≡ false) where
-  later_ends : body ≡ 127 ∷ sid_at u t ∷ 120 ∷ [] → (talk_judged u tick Later t).place ≡ AtEnd o → AnswerEnds u t body o
+  later_ends : body ≡ 127 ∷ sid_at u t ∷ 120 ∷ [] → (talk_judged u tick Pending t).place ≡ AtEnd o → AnswerEnds u t body o
   later_ends is e = elim (cases_Bool (t.pendings == 200)) [
     | inl full ↦ (let other : PendingLimit (sid_at u t) ≡ o = ap end_of (rw full at e) in subst (AnswerEnds u t body) other (is, eqb-true t.pendings 200 full))
     | inr room ↦ ended_not t.place o open_place (rw room at e)
   ]
 
-  again_ends : body ≡ 127 ∷ sid_at u t ∷ 33 ∷ [] → (talk_judged u tick Again t).place ≡ AtEnd o → AnswerEnds u t body o
+  again_ends : body ≡ 127 ∷ sid_at u t ∷ 33 ∷ [] → (talk_judged u tick Busy t).place ≡ AtEnd o → AnswerEnds u t body o
   again_ends is e = elim (cases_Bool (t.busies == 20)) [
     | inl full ↦ (let other : BusyLimit (sid_at u t) ≡ o = ap end_of (rw full at e) in subst (AnswerEnds u t body) other (is, eqb-true t.busies 20 full))
     | inr room ↦ ended_not t.place o open_place (rw room at e)
@@ -163,7 +163,7 @@ module _ (u : UnitPlan) (tick : ℕ) (body : List ℕ) (t : Talk) (o : Outcome) 
   negative_ends nrc is e = elim (cases_Bool (nrc == 120)) [
     | inl a ↦ later_ends (is ∙ ap (λ (k : ℕ). 127 ∷ sid_at u t ∷ k ∷ []) (eqb-true nrc 120 a)) (rw a at e)
     | inr a ↦
-        (let e2 : (talk_judged u tick (if nrc == 33 then Again else Refusal nrc) t).place ≡ AtEnd o = rw a at e in
+        (let e2 : (talk_judged u tick (if nrc == 33 then Busy else Refusal nrc) t).place ≡ AtEnd o = rw a at e in
         elim (cases_Bool (nrc == 33)) [
           | inl b ↦ again_ends (is ∙ ap (λ (k : ℕ). 127 ∷ sid_at u t ∷ k ∷ []) (eqb-true nrc 33 b)) (rw b at e2)
           | inr b ↦ (let other : Refused (sid_at u t) nrc ≡ o = ap end_of (rw b at e2) in subst (AnswerEnds u t body) other is)
@@ -171,14 +171,14 @@ module _ (u : UnitPlan) (tick : ℕ) (body : List ℕ) (t : Talk) (o : Outcome) 
   ]
 
   form_ends : (v : Verdict) → IsForm v → judge (bytes_at u t.place) body ≡ v → (talk_judged u tick v t).place ≡ AtEnd o → AnswerEnds u t body o
-  form_ends Later form v e = absurd form
-  form_ends Again form v e = absurd form
+  form_ends Pending form v e = absurd form
+  form_ends Busy form v e = absurd form
   form_ends (Refusal nrc) form v e = absurd form
-  form_ends (Good rest) form v e = good_ends u t.marks body rest o t.place t refl v open_place e
-  form_ends (Bad_status status) form v e =
+  form_ends (Accepted rest) form v e = good_ends u t.marks body rest o t.place t refl v open_place e
+  form_ends (BadStatus status) form v e =
       let other : CheckFailed (routine_at u t.place).0 (routine_at u t.place).1 status ≡ o = ap end_of e in
       subst (AnswerEnds u t body) other (v, refl, refl)
-  form_ends Strange form v e =
+  form_ends Malformed form v e =
       let other : BadAnswer (sid_at u t) ≡ o = ap end_of e in
       subst (AnswerEnds u t body) other (v, refl)
 

@@ -20,7 +20,7 @@ use Rattle.run_model.specs.Script as script
 use Rattle.run_model.specs.Script.{Cursor, Blocks, Place, AtIdent, AtBegin, AtProgram, AtSeed, AtKey, AtErase, AtDownload, AtBlock, AtExit, AtCheck, AtMark, AtFinish, AtReset, AtDone, AtEnd, request_at, bytes_at, place_judged, place_next, place_marked, routine_at, idents_from, segments_from, after_program, start_place, more_blocks, after_block, is_empty, has_value, ask_at}
 use Rattle.run_model.specs.Talk.{Talk, talk_hears, talk_judged}
 use Rattle.run_model.specs.Ways.{Reply}
-use Rattle.uds_codec.specs.Answer.{Verdict, Later, Again, Refusal, Good, Bad_status, Strange, judge, form_in}
+use Rattle.uds_codec.specs.Answer.{Verdict, Pending, Busy, Refusal, Accepted, BadStatus, Malformed, judge, form_in}
 use Rattle.uds_codec.specs.Key.{all_zero}
 use Rattle.uds_codec.specs.Request.{sid_of}
 use Rattle.unit_session.specs.Judging.{judged, verdict_of, IsFront}
@@ -106,12 +106,12 @@ heard_front u stage reply said sid ok is needs at front =
     ∙ front (form_in (request_at u (place_at u stage)))
 
 settled_judged : (u : UnitPlan) (tick : ℕ) (t : Talk) (v : Verdict) → IsFinalForm v → talk_judged u tick v t ≡ settled (place_judged u t.marks t.place v) t
-settled_judged u tick t Later final = absurd final
-settled_judged u tick t Again final = absurd final
+settled_judged u tick t Pending final = absurd final
+settled_judged u tick t Busy final = absurd final
 settled_judged u tick t (Refusal nrc) final = refl
-settled_judged u tick t (Good rest) final = refl
-settled_judged u tick t (Bad_status status) final = refl
-settled_judged u tick t Strange final = refl
+settled_judged u tick t (Accepted rest) final = refl
+settled_judged u tick t (BadStatus status) final = refl
+settled_judged u tick t Malformed final = refl
 
 -- a final answer
 pub heard_final : (u : UnitPlan) (tick : ℕ) (t : Talk) (reply : List ℕ) (v : Verdict) (place : Place) → judge (bytes_at u t.place) reply ≡ v → IsFinalForm v → place ≡ place_judged u t.marks t.place v → talk_hears u tick (Reply reply) t ≡ settled place t
@@ -180,12 +180,12 @@ pub left_ended : (u : UnitPlan) (place : Place) (outcome : Outcome) → needs_re
 left_ended u place outcome needs = omega (arith, left_some u place needs)
 
 pub left_judged : (u : UnitPlan) (marks : ℕ → Bool) (place : Place) (v : Verdict) → IsGoodPlace u place → needs_request place ≡ true → IsFinalForm v → IsFewer u (place_judged u marks place v) place
-left_judged u marks place Later good needs final = absurd final
-left_judged u marks place Again good needs final = absurd final
+left_judged u marks place Pending good needs final = absurd final
+left_judged u marks place Busy good needs final = absurd final
 left_judged u marks place (Refusal nrc) good needs final = left_ended u place (Refused (sid_of (bytes_at u place)) nrc) needs
-left_judged u marks place (Good rest) good needs final = left_next u marks place rest good needs
-left_judged u marks place (Bad_status status) good needs final = left_ended u place (CheckFailed (routine_at u place).0 (routine_at u place).1 status) needs
-left_judged u marks place Strange good needs final = left_ended u place (BadAnswer (sid_of (bytes_at u place))) needs
+left_judged u marks place (Accepted rest) good needs final = left_next u marks place rest good needs
+left_judged u marks place (BadStatus status) good needs final = left_ended u place (CheckFailed (routine_at u place).0 (routine_at u place).1 status) needs
+left_judged u marks place Malformed good needs final = left_ended u place (BadAnswer (sid_of (bytes_at u place))) needs
 
 left_size : (ss : List Segment) → left_for ss ≤ size_of ss + 4 * length ss + 2
 left_size [] = omega arith

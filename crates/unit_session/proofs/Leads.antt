@@ -11,7 +11,7 @@ use Rattle.flash_plan.specs.declared.unit.Segment.{Segment}
 use Rattle.flash_plan.specs.declared.unit.UnitPlan.{UnitPlan}
 use Rattle.flash_plan.specs.declared.unit.Wanted.{Wanted}
 use Rattle.run_model.specs.Script.{Blocks, Place, AtIdent, AtEnd, request_at, bytes_at, place_judged, place_next, routine_at, idents_from, segments_from, after_program, more_blocks, is_empty, has_value}
-use Rattle.uds_codec.specs.Answer.{Verdict, Good, Bad_status, Strange, form_in, routine_form, seed_form}
+use Rattle.uds_codec.specs.Answer.{Verdict, Accepted, BadStatus, Malformed, form_in, routine_form, seed_form}
 use Rattle.uds_codec.specs.Key.{level_of, all_zero}
 use Rattle.uds_codec.specs.Request.{sid_of}
 use Rattle.unit_model.specs.Unit.{next_counter}
@@ -164,29 +164,29 @@ module _ (u : UnitPlan) (marks : ℕ → Bool) where
 
   -- ------ the unit is open
   -- a positive answer behind which the first segment follows that is not marked
-  open_leads : (stage : Stage) (rest more : List ℕ) → form_in (request_at u (place_at u stage)) rest ≡ Good more → place_next u marks (place_at u stage) more ≡ segments_from marks [] u.segments
+  open_leads : (stage : Stage) (rest more : List ℕ) → form_in (request_at u (place_at u stage)) rest ≡ Accepted more → place_next u marks (place_at u stage) more ≡ segments_from marks [] u.segments
       → LeadsTo u marks stage rest (erase_next (open_from u marks 0))
   open_leads stage rest more form to =
-      led stage rest (erase_next (open_from u marks 0)) (place_at u stage) (Good more) tt refl form (sym (to ∙ leaves_open u marks 0 (omega arith))) (open_stage u marks 0 (omega arith)) (erase_knows (open_from u marks 0))
+      led stage rest (erase_next (open_from u marks 0)) (place_at u stage) (Accepted more) tt refl form (sym (to ∙ leaves_open u marks 0 (omega arith))) (open_stage u marks 0 (omega arith)) (erase_knows (open_from u marks 0))
 
   pub program_opens : (rest : List ℕ) → u.key ≡ Free → starts_with 2 rest ≡ true → LeadsTo u marks Program rest (erase_next (open_from u marks 0))
-  program_opens rest free is = open_leads Program rest (drop 1 rest) (after_true 2 rest Good is) (ap (after_program u marks) free)
+  program_opens rest free is = open_leads Program rest (drop 1 rest) (after_true 2 rest Accepted is) (ap (after_program u marks) free)
 
   pub key_opens : (seed : KeptSeed) (rest : List ℕ) (level : ℕ) → level ≡ level_or_none (level_of u.key) → starts_with (level + 1) rest ≡ true → LeadsTo u marks (Key seed) rest (erase_next (open_from u marks 0))
-  key_opens seed rest level at is = open_leads (Key seed) rest (drop 1 rest) (after_true _ rest Good (ap (λ (k : ℕ). starts_with (k + 1) rest) (sym at) ∙ is)) refl
+  key_opens seed rest level at is = open_leads (Key seed) rest (drop 1 rest) (after_true _ rest Accepted (ap (λ (k : ℕ). starts_with (k + 1) rest) (sym at) ∙ is)) refl
 
   -- ------ routines
   routine_leads : (stage : Stage) (place : Place) (rest : List ℕ) (id n : ℕ) (next : Stage) → place_at u stage ≡ place → ((xs : List ℕ) → form_in (request_at u place) xs ≡ routine_form id xs) → sid_of (bytes_at u place) ≡ 49 → routine_at u place ≡ (id, n)
       → ((more : List ℕ) → place_next u marks place more ≡ place_at u next) → IsStage u next → KnowsNext u marks next → (o : Option ℕ) → status_in id rest ≡ o → LeadsTo u marks stage rest (routine_next o id n next)
   routine_leads stage place rest id n next at form sid routine to is known None said =
-      led stage rest _ place Strange tt at (form rest ∙ routine_by id rest ∙ ap (λ (o : Option ℕ). status_verdict o (drop 4 rest)) said) (ap (λ (k : ℕ). AtEnd (BadAnswer k)) (sym sid)) tt tt
+      led stage rest _ place Malformed tt at (form rest ∙ routine_by id rest ∙ ap (λ (o : Option ℕ). status_verdict o (drop 4 rest)) said) (ap (λ (k : ℕ). AtEnd (BadAnswer k)) (sym sid)) tt tt
   routine_leads stage place rest id n next at form sid routine to is known (Some status) said = elim (cases_Bool (status == 0)) [
     | inl e ↦
-        let v : form_in (request_at u place) rest ≡ Good (drop 4 rest) = form rest ∙ routine_by id rest ∙ ap (λ (o : Option ℕ). status_verdict o (drop 4 rest)) said ∙ ap (λ (b : Bool). if b then Good (drop 4 rest) else Bad_status status) e in
-        rw e (led stage rest next place (Good (drop 4 rest)) tt at v (sym (to (drop 4 rest))) is known)
+        let v : form_in (request_at u place) rest ≡ Accepted (drop 4 rest) = form rest ∙ routine_by id rest ∙ ap (λ (o : Option ℕ). status_verdict o (drop 4 rest)) said ∙ ap (λ (b : Bool). if b then Accepted (drop 4 rest) else BadStatus status) e in
+        rw e (led stage rest next place (Accepted (drop 4 rest)) tt at v (sym (to (drop 4 rest))) is known)
     | inr e ↦
-        let v : form_in (request_at u place) rest ≡ Bad_status status = form rest ∙ routine_by id rest ∙ ap (λ (o : Option ℕ). status_verdict o (drop 4 rest)) said ∙ ap (λ (b : Bool). if b then Good (drop 4 rest) else Bad_status status) e in
-        rw e (led stage rest (Ended (CheckFailed id n status)) place (Bad_status status) tt at v (ap (λ (x : ℕ × ℕ). AtEnd (CheckFailed x.0 x.1 status)) (sym routine)) tt tt)
+        let v : form_in (request_at u place) rest ≡ BadStatus status = form rest ∙ routine_by id rest ∙ ap (λ (o : Option ℕ). status_verdict o (drop 4 rest)) said ∙ ap (λ (b : Bool). if b then Accepted (drop 4 rest) else BadStatus status) e in
+        rw e (led stage rest (Ended (CheckFailed id n status)) place (BadStatus status) tt at v (ap (λ (x : ℕ × ℕ). AtEnd (CheckFailed x.0 x.1 status)) (sym routine)) tt tt)
   ]
 
   pub erase_leads : (n : ℕ) (rest : List ℕ) → n < length u.segments → LeadsTo u marks (Erase n) rest (routine_next (status_in 65280 rest) 65280 n (Download n))
@@ -206,25 +206,25 @@ module _ (u : UnitPlan) (marks : ℕ → Bool) where
   pub seed_opens : (rest seed : List ℕ) (level : ℕ) → level ≡ level_or_none (level_of u.key) → starts_with level rest ≡ true → seed ≡ drop 1 rest → (nat_le 1 (length seed) && nat_le (length seed) 32) ≡ true → all_zero seed ≡ true
       → LeadsTo u marks Seed rest (erase_next (open_from u marks 0))
   seed_opens rest seed level at is eq good z =
-      open_leads Seed rest seed (seed_form_at rest level at is ∙ ap seed_form (sym eq) ∙ ap (λ (b : Bool). if b then Good seed else Strange) good) (rw z refl)
+      open_leads Seed rest seed (seed_form_at rest level at is ∙ ap seed_form (sym eq) ∙ ap (λ (b : Bool). if b then Accepted seed else Malformed) good) (rw z refl)
 
   pub seed_kept : (rest seed : List ℕ) (kept : KeptSeed) (level : ℕ) → level ≡ level_or_none (level_of u.key) → starts_with level rest ≡ true → seed ≡ drop 1 rest → (nat_le 1 (length seed) && nat_le (length seed) 32) ≡ true → all_zero seed ≡ false → seed_bytes kept ≡ seed
       → IsStage u (Key kept) → LeadsTo u marks Seed rest (Key kept)
   seed_kept rest seed kept level at is eq good z bytes stage =
-      led Seed rest (Key kept) _ (Good seed) tt refl (seed_form_at rest level at is ∙ ap seed_form (sym eq) ∙ ap (λ (b : Bool). if b then Good seed else Strange) good) (rw (z, bytes) refl) stage tt
+      led Seed rest (Key kept) _ (Accepted seed) tt refl (seed_form_at rest level at is ∙ ap seed_form (sym eq) ∙ ap (λ (b : Bool). if b then Accepted seed else Malformed) good) (rw (z, bytes) refl) stage tt
 
   -- ------ identifiers
   ident_place : (n : ℕ) (w : Wanted) → slice_get u.idents n ≡ Some w → place_at u (Ident n) ≡ AtIdent w (drop (n + 1) u.idents)
   ident_place n w is = ap idents_from (drop_at u.idents n w is)
 
   pub ident_bad : (n : ℕ) (w : Wanted) (rest : List ℕ) → slice_get u.idents n ≡ Some w → names_id w.did rest ≡ false → LeadsTo u marks (Ident n) rest (Ended (BadAnswer 34))
-  ident_bad n w rest is bad = led (Ident n) rest _ _ Strange tt (ident_place n w is) (named_false w.did rest bad) refl tt tt
+  ident_bad n w rest is bad = led (Ident n) rest _ _ Malformed tt (ident_place n w is) (named_false w.did rest bad) refl tt tt
 
   pub ident_expected : (n : ℕ) (w : Wanted) (rest : List ℕ) → slice_get u.idents n ≡ Some w → names_id w.did rest ≡ true → has_value w.values (drop 2 rest) ≡ true → n + 1 ≤ length u.idents → LeadsTo u marks (Ident n) rest (Ident (n + 1))
-  ident_expected n w rest is good has le = led (Ident n) rest _ _ (Good (drop 2 rest)) tt (ident_place n w is) (named_true w.did rest good) (rw has refl) le tt
+  ident_expected n w rest is good has le = led (Ident n) rest _ _ (Accepted (drop 2 rest)) tt (ident_place n w is) (named_true w.did rest good) (rw has refl) le tt
 
   pub ident_other : (n : ℕ) (w : Wanted) (rest : List ℕ) → slice_get u.idents n ≡ Some w → names_id w.did rest ≡ true → has_value w.values (drop 2 rest) ≡ false → LeadsTo u marks (Ident n) rest (Ended (IdentMismatch w.did))
-  ident_other n w rest is good has = led (Ident n) rest _ _ (Good (drop 2 rest)) tt (ident_place n w is) (named_true w.did rest good) (rw has refl) tt tt
+  ident_other n w rest is good has = led (Ident n) rest _ _ (Accepted (drop 2 rest)) tt (ident_place n w is) (named_true w.did rest good) (rw has refl) tt tt
 
   -- ------ blocks
   abbrev blocks_at : ℕ → ℕ → ℕ → ℕ → Blocks
@@ -248,7 +248,7 @@ module _ (u : UnitPlan) (marks : ℕ → Bool) where
   pub block_leads : (n sent counter limit : ℕ) (rest : List ℕ) → IsBlockStage u n sent limit → starts_with counter rest ≡ true
       → LeadsTo u marks (Block n sent counter limit) rest (blocks_from (length (segment_of u n).body) n (sent + (limit - 2)) (next_counter counter) limit)
   block_leads n sent counter limit rest is good =
-      led (Block n sent counter limit) rest _ _ (Good (drop 1 rest)) tt refl (after_true counter rest Good good)
+      led (Block n sent counter limit) rest _ _ (Accepted (drop 1 rest)) tt refl (after_true counter rest Accepted good)
       (sym ((λ i. more_blocks (cursor_at u n) (record { sent = take_more sent (limit - 2) (segment_of u n).body i; rest = drop_more sent (limit - 2) (segment_of u n).body i; counter = next_counter counter; limit = limit }))
       ∙ from_there n (sent + (limit - 2)) (next_counter counter) limit))
       (blocks_stage n (sent + (limit - 2)) (next_counter counter) limit is.segment is.low is.high)

@@ -11,28 +11,21 @@ use Rattle.flash_plan.specs.declared.outcome.Outcome.TheVariants.{Refused, BadAn
 use Rattle.flash_plan.specs.declared.unit.Segment.{Segment}
 use Rattle.flash_plan.specs.declared.unit.UnitPlan.{UnitPlan}
 use Rattle.flash_plan.specs.declared.unit.Wanted.{Wanted}
-use Rattle.run_model.proofs.Along.{IsGoodPlace, goes, start_good, marked_good}
+use Rattle.run_model.proofs.Along.{IsGoodPlace, goes, start_good, marked_good, never_good}
 use Rattle.run_model.specs.Places.{needs_request}
 use Rattle.run_model.specs.Script.{Cursor, Blocks, Place, AtIdent, AtBegin, AtProgram, AtSeed, AtKey, AtErase, AtDownload, AtBlock, AtExit, AtCheck, AtMark, AtFinish, AtReset, AtDone, AtEnd, bytes_at, place_judged, place_next, past_mark, place_of, routine_at, idents_from, segments_from, after_program, more_blocks, after_block, is_empty, has_value}
-use Rattle.uds_codec.specs.Answer.{Verdict, Later, Again, Refusal, Good, Bad_status, Strange, judge, negative_of}
+use Rattle.uds_codec.specs.Answer.{Verdict, Pending, Busy, Refusal, Accepted, BadStatus, Malformed, judge}
 use Rattle.uds_codec.specs.Key.{level_of, all_zero}
 use Rattle.uds_codec.specs.Request.{sid_of}
-use Rattle.unit_model.proofs.Steps.{negative_bad}
 use Rattle.unit_model.specs.Step.{is_good}
 use Rattle.unit_model.specs.Unit.{next_counter}
 use Rattle.unit_session.specs.Whole.{Exchange, answered, with_good, AreBlocks, IsSegmentPart, IsLastPart, AreSegmentParts, IsKeySent, IsUnlocked, AreKeys, IsWholeScript, AreIdents, EndsMeanAll, range_at, check_of}
 
 -- ------ where no request is due no answer is positive
-negative_never : (sid : ℕ) (xs : List ℕ) → is_good (negative_of sid xs) ≡ false
-negative_never sid [] = refl
-negative_never sid (s ∷ []) = refl
-negative_never sid (s ∷ nrc ∷ []) = elim (cases_Bool (s == sid)) [ inl e ↦ rw e (negative_bad nrc) | inr e ↦ rw e refl ]
-negative_never sid (s ∷ nrc ∷ x ∷ xs) = refl
-
 nothing_never : (a : List ℕ) → is_good (judge [] a) ≡ false
 nothing_never [] = refl
 nothing_never (x ∷ rest) = elim (cases_Bool (x == 127)) [
-  | inl e ↦ rw e (negative_never 0 rest)
+  | inl e ↦ rw e (never_good 0 rest)
   | inr e ↦ rw e (elim (cases_Bool (x == 64)) [ inl f ↦ rw f refl | inr f ↦ rw f refl ])
 ]
 
@@ -46,12 +39,12 @@ ended_stays u skipped marks o [] p is open_place = false≢true (sym (ap is_end_
 ended_stays u skipped marks o (a ∷ more) p is open_place = by (λ q e. ended_stays u skipped marks q more p e open_place) (judge (bytes_at u (AtEnd o)) a) is
   where
     by : ((q : Outcome) → place_of u skipped marks (AtEnd q) more ≡ p → ⊥) → (v : Verdict) → place_of u skipped marks (past_mark skipped marks (place_judged u skipped (AtEnd o) v)) more ≡ p → ⊥
-    by ih Later e = ih o e
-    by ih Again e = ih o e
+    by ih Pending e = ih o e
+    by ih Busy e = ih o e
     by ih (Refusal nrc) e = ih (Refused 0 nrc) e
-    by ih (Good rest) e = ih o e
-    by ih (Bad_status status) e = ih (CheckFailed 65281 (length u.segments) status) e
-    by ih Strange e = ih (BadAnswer 0) e
+    by ih (Accepted rest) e = ih o e
+    by ih (BadStatus status) e = ih (CheckFailed 65281 (length u.segments) status) e
+    by ih Malformed e = ih (BadAnswer 0) e
 
 empty_is : (xs : List ℕ) → is_empty xs ≡ true → xs ≡ []
 empty_is [] e = refl
@@ -263,7 +256,7 @@ module _ (u : UnitPlan) (skipped marks : ℕ → Bool) where
   step (AtEnd outcome) rest rs good needs is = tt
 
   -- where a positive answer came a request was due
-  was_due : (p : Place) (a rest : List ℕ) → judge (bytes_at u p) a ≡ Good rest → needs_request p ≡ true
+  was_due : (p : Place) (a rest : List ℕ) → judge (bytes_at u p) a ≡ Accepted rest → needs_request p ≡ true
   was_due (AtIdent w ws) a rest is = refl
   was_due AtBegin a rest is = absurd (both_ways _ (nothing_never a) (ap is_good is))
   was_due AtProgram a rest is = refl
@@ -287,16 +280,16 @@ module _ (u : UnitPlan) (skipped marks : ℕ → Bool) where
       by : ((q : Place) → IsGoodPlace u q → place_of u skipped marks q more ≡ AtDone → Remains q (answered u skipped marks q more)) → (v : Verdict) → judge (bytes_at u p) a ≡ v
           → place_of u skipped marks (past_mark skipped marks (place_judged u skipped p v)) more ≡ AtDone
           → Remains p (with_good v (bytes_at u p) (answered u skipped marks (past_mark skipped marks (place_judged u skipped p v)) more))
-      by ih Later v e = from_marked p _ (ih (past_mark skipped marks p) (good_marked p good) e)
-      by ih Again v e = from_marked p _ (ih (past_mark skipped marks p) (good_marked p good) e)
+      by ih Pending v e = from_marked p _ (ih (past_mark skipped marks p) (good_marked p good) e)
+      by ih Busy v e = from_marked p _ (ih (past_mark skipped marks p) (good_marked p good) e)
       by ih (Refusal nrc) v e = absurd (ended_stays u skipped marks (Refused (sid_of (bytes_at u p)) nrc) more AtDone e refl)
-      by ih (Good rest) v e =
+      by ih (Accepted rest) v e =
           let needs = was_due p a rest v in
           let next : Place = place_next u skipped p rest in
           let good_next = goes u ok a rest skipped p good needs v in
           step p rest _ good needs (from_marked next _ (ih (past_mark skipped marks next) (good_marked next good_next) e))
-      by ih (Bad_status status) v e = absurd (ended_stays u skipped marks (CheckFailed (routine_at u p).0 (routine_at u p).1 status) more AtDone e refl)
-      by ih Strange v e = absurd (ended_stays u skipped marks (BadAnswer (sid_of (bytes_at u p))) more AtDone e refl)
+      by ih (BadStatus status) v e = absurd (ended_stays u skipped marks (CheckFailed (routine_at u p).0 (routine_at u p).1 status) more AtDone e refl)
+      by ih Malformed v e = absurd (ended_stays u skipped marks (BadAnswer (sid_of (bytes_at u p))) more AtDone e refl)
 
   -- no identifier stands at a mark
   unmarked : (ws : List Wanted) → past_mark skipped marks (idents_from ws) ≡ idents_from ws
@@ -311,21 +304,21 @@ module _ (u : UnitPlan) (skipped marks : ℕ → Bool) where
       by : (place_of u skipped marks AtBegin more ≡ AtBegin → answered u skipped marks AtBegin more ≡ []) → (v : Verdict) → judge [] a ≡ v
           → place_of u skipped marks (past_mark skipped marks (place_judged u skipped AtBegin v)) more ≡ AtBegin
           → with_good v [] (answered u skipped marks (past_mark skipped marks (place_judged u skipped AtBegin v)) more) ≡ []
-      by ih Later v e = ih e
-      by ih Again v e = ih e
+      by ih Pending v e = ih e
+      by ih Busy v e = ih e
       by ih (Refusal nrc) v e = absurd (ended_stays u skipped marks (Refused 0 nrc) more AtBegin e refl)
-      by ih (Good rest) v e = absurd (both_ways _ (nothing_never a) (ap is_good v))
-      by ih (Bad_status status) v e = absurd (ended_stays u skipped marks (CheckFailed 65281 (length u.segments) status) more AtBegin e refl)
-      by ih Strange v e = absurd (ended_stays u skipped marks (BadAnswer 0) more AtBegin e refl)
+      by ih (Accepted rest) v e = absurd (both_ways _ (nothing_never a) (ap is_good v))
+      by ih (BadStatus status) v e = absurd (ended_stays u skipped marks (CheckFailed 65281 (length u.segments) status) more AtBegin e refl)
+      by ih Malformed v e = absurd (ended_stays u skipped marks (BadAnswer 0) more AtBegin e refl)
   named (a ∷ more) (w ∷ ws) is = by (λ vs e. named more vs e) (judge (bytes_at u (AtIdent w ws)) a) is
     where
       by : ((vs : List Wanted) → place_of u skipped marks (idents_from vs) more ≡ AtBegin → AreIdents vs (answered u skipped marks (idents_from vs) more)) → (v : Verdict)
           → place_of u skipped marks (past_mark skipped marks (place_judged u skipped (AtIdent w ws) v)) more ≡ AtBegin
           → AreIdents (w ∷ ws) (with_good v (bytes_at u (AtIdent w ws)) (answered u skipped marks (past_mark skipped marks (place_judged u skipped (AtIdent w ws) v)) more))
-      by ih Later e = ih (w ∷ ws) e
-      by ih Again e = ih (w ∷ ws) e
+      by ih Pending e = ih (w ∷ ws) e
+      by ih Busy e = ih (w ∷ ws) e
       by ih (Refusal nrc) e = absurd (ended_stays u skipped marks (Refused 34 nrc) more AtBegin e refl)
-      by ih (Good rest) e = elim (cases_Bool (has_value w.values rest)) [
+      by ih (Accepted rest) e = elim (cases_Bool (has_value w.values rest)) [
         | inl has ↦
             (let stays : place_of u skipped marks (past_mark skipped marks (idents_from ws)) more ≡ AtBegin = rw has at e in
             let again : place_of u skipped marks (idents_from ws) more ≡ AtBegin = ap (λ (p : Place). place_of u skipped marks p more) (sym (unmarked ws)) ∙ stays in
@@ -334,8 +327,8 @@ module _ (u : UnitPlan) (skipped marks : ℕ → Bool) where
             rw has (exchange (AtIdent w ws) rest, answered u skipped marks (past_mark skipped marks (idents_from ws)) more, refl, refl, has, later))
         | inr has ↦ absurd (ended_stays u skipped marks (IdentMismatch w.did) more AtBegin (rw has at e) refl)
       ]
-      by ih (Bad_status status) e = absurd (ended_stays u skipped marks (CheckFailed 65281 (length u.segments) status) more AtBegin e refl)
-      by ih Strange e = absurd (ended_stays u skipped marks (BadAnswer 34) more AtBegin e refl)
+      by ih (BadStatus status) e = absurd (ended_stays u skipped marks (CheckFailed 65281 (length u.segments) status) more AtBegin e refl)
+      by ih Malformed e = absurd (ended_stays u skipped marks (BadAnswer 34) more AtBegin e refl)
 
 pub ends_mean_all : EndsMeanAll
 ends_mean_all = record {

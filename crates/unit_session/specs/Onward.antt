@@ -3,7 +3,7 @@ use Rattle.std.specs.Prelude.{◌≡◌, ℕ, ◌==◌, Bool, List, Option, Some
 use Rattle.flash_plan.specs.declared.outcome.Outcome.TheVariants.{BadAnswer, CheckFailed}
 use Rattle.flash_plan.specs.declared.unit.UnitPlan.{UnitPlan}
 use Rattle.run_model.specs.Script.{place_judged, request_at}
-use Rattle.uds_codec.specs.Answer.{Verdict, Later, Again, Refusal, Good, Bad_status, Strange, form_in}
+use Rattle.uds_codec.specs.Answer.{Verdict, Pending, Busy, Refusal, Accepted, BadStatus, Malformed, form_in}
 use Rattle.unit_session.specs.Session.{place_at, IsStage, KnowsNext}
 use Rattle.unit_session.specs.declared.stage.Stage.{Stage}
 use Rattle.unit_session.specs.declared.stage.Stage.TheVariants.{Ident, Program, Seed, Key, Erase, Download, Block, Exit, Check, Mark, Finish, Reset, Done, Ended}
@@ -27,12 +27,12 @@ sid_at (Ended outcome) = 0
 
 -- neither a response pending nor a busy answer
 abbrev pub IsFinalForm : Verdict → Type 0
-IsFinalForm Later = ⊥
-IsFinalForm Again = ⊥
+IsFinalForm Pending = ⊥
+IsFinalForm Busy = ⊥
 IsFinalForm (Refusal nrc) = Unit {0}
-IsFinalForm (Good rest) = Unit {0}
-IsFinalForm (Bad_status status) = Unit {0}
-IsFinalForm Strange = Unit {0}
+IsFinalForm (Accepted rest) = Unit {0}
+IsFinalForm (BadStatus status) = Unit {0}
+IsFinalForm Malformed = Unit {0}
 
 -- An answer with the first byte of a positive one, and these bytes behind it, leads from one stage to the other.
 pub record LeadsTo (u : UnitPlan) (marks : ℕ → Bool) (stage : Stage) (rest : List ℕ) (next : Stage) : Type 0 where

@@ -7,7 +7,7 @@ use Rattle.flash_plan.specs.declared.unit.Segment.{Segment}
 use Rattle.flash_plan.specs.declared.unit.UnitPlan.{UnitPlan}
 use Rattle.flash_plan.specs.declared.unit.Wanted.{Wanted}
 use Rattle.run_model.specs.Script.{Place, AtBegin, AtProgram, AtDone, bytes_at, has_value, place_after, past_mark, place_of, idents_from}
-use Rattle.uds_codec.specs.Answer.{Verdict, Later, Again, Refusal, Good, Bad_status, Strange, judge}
+use Rattle.uds_codec.specs.Answer.{Verdict, Pending, Busy, Refusal, Accepted, BadStatus, Malformed, judge}
 use Rattle.uds_codec.specs.Key.{key_of, level_of, all_zero}
 use Rattle.uds_codec.specs.Request.{range_bytes}
 use Rattle.unit_model.specs.Unit.{next_counter}
@@ -18,12 +18,12 @@ pub record Exchange : Type 0 where
   pub said : List ℕ
 
 abbrev pub with_good : Verdict → List ℕ → List Exchange → List Exchange
-with_good Later request more = more
-with_good Again request more = more
+with_good Pending request more = more
+with_good Busy request more = more
 with_good (Refusal nrc) request more = more
-with_good (Good rest) request more = record { request = request; said = rest } ∷ more
-with_good (Bad_status status) request more = more
-with_good Strange request more = more
+with_good (Accepted rest) request more = record { request = request; said = rest } ∷ more
+with_good (BadStatus status) request more = more
+with_good Malformed request more = more
 
 -- the requests that were answered positively, one after another, from a place on
 abbrev pub answered : UnitPlan → (ℕ → Bool) → (ℕ → Bool) → Place → List (List ℕ) → List Exchange

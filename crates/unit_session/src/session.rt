@@ -54,8 +54,8 @@ impl UnitSession {
     ghost use Rattle.run_model.specs.Places.{needs_request};
     ghost use Rattle.run_model.specs.Script.{bytes_at};
     ghost use Rattle.run_model.specs.Talk.{talk_start, talk_lost, talk_marked, talk_sent, talk_hears, talk_quiet, talk_judged, end_talk, sid_at};
-    ghost use Rattle.run_model.specs.Ways.{Reply, Unheard};
-    ghost use Rattle.uds_codec.specs.Answer.{Later, Again};
+    ghost use Rattle.run_model.specs.Ways.{Reply, Nacked};
+    ghost use Rattle.uds_codec.specs.Answer.{Pending, Busy};
     ghost use Rattle.unit_session.specs.Session.{talk_of, talk_of_any, has_mark, is_begun, ask_of, place_at, settled, IsStage, KnowsNext, IsOf, IsFewer};
 
     /// The conversation at its first request; `begun` says whether it is recorded that the unit is
@@ -154,7 +154,7 @@ impl UnitSession {
     /// A response pending: the 201st to one sending ends the conversation.
     fn later(&mut self, sid: u8, tick: u64)
         requires { (talk_of_any self.old).pendings ≤ 200 }
-        ensures talk { (u : UnitPlan) → sid ≡ sid_at u (talk_of u self.old) → talk_of u self.new ≡ talk_judged u tick Later (talk_of u self.old) }
+        ensures talk { (u : UnitPlan) → sid ≡ sid_at u (talk_of u self.old) → talk_of u self.new ≡ talk_judged u tick Pending (talk_of u self.old) }
         ensures begun { is_begun self.new ≡ is_begun self.old }
         ensures of { (u : UnitPlan) → IsOf u self.old → IsOf u self.new }
     {
@@ -169,7 +169,7 @@ impl UnitSession {
     /// A busy answer: the request is sent again, and the 21st ends the conversation.
     fn again(&mut self, sid: u8)
         requires { (talk_of_any self.old).busies ≤ 20 }
-        ensures talk { (u : UnitPlan) (tick : ℕ) → sid ≡ sid_at u (talk_of u self.old) → talk_of u self.new ≡ talk_judged u tick Again (talk_of u self.old) }
+        ensures talk { (u : UnitPlan) (tick : ℕ) → sid ≡ sid_at u (talk_of u self.old) → talk_of u self.new ≡ talk_judged u tick Busy (talk_of u self.old) }
         ensures begun { is_begun self.new ≡ is_begun self.old }
         ensures of { (u : UnitPlan) → IsOf u self.old → IsOf u self.new }
     {
@@ -226,7 +226,7 @@ impl UnitSession {
 
     /// The gateway could not deliver the request (ISO 13400-2, payload type 0x8003).
     pub fn nack(&mut self, code: u8)
-        ensures talk { (u : UnitPlan) (tick : ℕ) → talk_of u self.new ≡ talk_hears u tick (Unheard code) (talk_of u self.old) }
+        ensures talk { (u : UnitPlan) (tick : ℕ) → talk_of u self.new ≡ talk_hears u tick (Nacked code) (talk_of u self.old) }
         ensures begun { is_begun self.new ≡ is_begun self.old }
         ensures of { (u : UnitPlan) → IsOf u self.old → IsOf u self.new }
     {

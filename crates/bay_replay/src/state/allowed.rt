@@ -1,5 +1,5 @@
 ghost use Rattle.std.specs.Prelude.{◌≡◌, ◌<◌, ◌&&◌, ℕ, length, EachIndex, slice_index};
-ghost use Rattle.bay_core.specs.Legal.{is_allowed, is_clear, is_open_unit, is_end, is_blocked, has_word, may_claim, may_begin, may_send, may_collect, may_tend, may_mark, may_finish, may_record, may_end, fits_link};
+ghost use Rattle.bay_core.specs.Legal.{is_allowed, is_clear, is_open_unit, is_end, is_blocked, has_message, may_claim, may_begin, may_send, may_collect, may_tend, may_mark, may_finish, may_record, may_end, fits_link};
 ghost use Rattle.flash_plan.specs.Plan.{count_of};
 ghost use Rattle.bay_replay.specs.Hears.{blocker};
 ghost use Rattle.bay_replay.specs.Held.{Told, Holds, is_stopped, names, with_halt};
@@ -32,11 +32,11 @@ impl Core {
     }
 
     /// Whether a message of the unit is in its inbox.
-    pub fn has_word(&self, plan: &Plan, unit: u16) -> bool
+    pub fn has_message(&self, plan: &Plan, unit: u16) -> bool
         ghost told: { Told }
         requires holds { Holds plan.now self.now told }
         requires within { unit < count_of plan.now }
-        ensures { result ≡ has_word plan.now told.core unit }
+        ensures { result ≡ has_message plan.now told.core unit }
     {
         self.link.has_message(plan.unit(unit).address)
     }
@@ -189,10 +189,10 @@ impl Core {
         if !self.is_clear(plan) {
             return false;
         }
-        let has_word = self.has_word(plan, unit);
+        let has_message = self.has_message(plan, unit);
         match got {
-            Heard::Kept => has_word,
-            Heard::Quiet | Heard::Piece(_) | Heard::Lost => !has_word,
+            Heard::Kept => has_message,
+            Heard::Quiet | Heard::Piece(_) | Heard::Lost => !has_message,
         }
     }
 

@@ -1,19 +1,19 @@
 use Rattle.std.proofs.Common.{◌≡◌, ℕ, List, true, ap, sym, subst, ◌∙◌}
 use Rattle.bay_core.proofs.Allowed.{CollectedFacts, collected_facts}
-use Rattle.bay_core.proofs.Joined.{up_open}
 use Rattle.bay_core.specs.Core.{addresses_of, with_slot, with_talk}
 use Rattle.bay_core.specs.declared.event.Heard.TheVariants.{Piece}
 use Rattle.flash_plan.specs.declared.unit.UnitPlan.{UnitPlan}
 use Rattle.flash_plan.specs.Plan.{plan_of}
 use Rattle.link_state.specs.State.{Shows, IsOf, emptied_link}
 use Rattle.run_model.proofs.Sees.{piece_ticks}
-use Rattle.run_model.specs.Link.{Link, hear_piece, is_open, take_word, first_word}
+use Rattle.run_model.specs.Link.{Link, hear_piece, is_open, take_message, first_message}
 use Rattle.run_model.specs.Talk.{Talk, talk_takes}
 use Rattle.bay_replay.specs.Held.{Told, HoldsBody, told_emptied}
 use Rattle.bay_replay.specs.Hears.{told_heard}
 use Rattle.bay_replay.proofs.Bodies.{link_body, labels_kept}
 use Rattle.bay_replay.proofs.Lists.{on_err}
 use Rattle.bay_replay.proofs.state.Core.collect_piece.Goals as goal
+use Rattle.run_model.proofs.Phases.{up_open}
 
 pub hear-requires : goal.hear-requires
 hear-requires g c =
@@ -36,8 +36,8 @@ returns-clause-ok g c =
     link_body P c.args.self.now g.told c.piece.new.self m c.requires.0.body shows (labels_kept g.told.rules.tester (addresses_of P) c.args.self.now.link c.piece.new.self c.piece.ensures.of labels) in
     subst (λ (n : ℕ). HoldsBody P c.hear.new.self (record g.told {
       core = record g.told.core {
-        link = take_word (plan_of P u).address m;
-        slots = with_slot u (with_talk (talk_takes (plan_of P u) n (first_word (plan_of P u).address m.inbox)) (g.told.core.slots u)) g.told.core.slots;
+        link = take_message (plan_of P u).address m;
+        slots = with_slot u (with_talk (talk_takes (plan_of P u) n (first_message (plan_of P u).address m.inbox)) (g.told.core.slots u)) g.told.core.slots;
       };
     })) (piece_ticks g.told.rules.tester (addresses_of P) c.args.bytes.now l) (c.hear.ensures mid body f.claimed)
 

@@ -3,7 +3,7 @@ use Rattle.bay_core.proofs.Allowed.{FinishFacts, finish_facts}
 use Rattle.flash_plan.specs.declared.outcome.Entry.TheVariants as entry
 use Rattle.flash_plan.specs.declared.outcome.Outcome.TheVariants.{Complete}
 use Rattle.flash_plan.specs.declared.unit.UnitPlan.{UnitPlan}
-use Rattle.run_model.specs.Entries.{with_entry}
+use Rattle.flash_plan.specs.Outcomes.{with_entry}
 use Rattle.bay_replay.proofs.Bodies.{given_body}
 use Rattle.bay_replay.proofs.Slots.{complete_here, complete_else}
 use Rattle.bay_replay.proofs.state.Core.finish.Goals as goal

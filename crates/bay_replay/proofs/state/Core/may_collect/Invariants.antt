@@ -6,5 +6,5 @@ ghost-is_open g a = g.told
 abbrev pub ghost-is_clear : goal.ghost-is_clear
 ghost-is_clear g a = g.told
 
-abbrev pub ghost-has_word : goal.ghost-has_word
-ghost-has_word g a = g.told
+abbrev pub ghost-has_message : goal.ghost-has_message
+ghost-has_message g a = g.told

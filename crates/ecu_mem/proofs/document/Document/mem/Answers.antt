@@ -2,7 +2,7 @@ use Rattle.std.proofs.Common.{◌∙◌, sym, ap, subst, drop, ◌+◌}
 use Rattle.ecu_mem.specs.declared.kind.Seen.{Seen}
 use Rattle.ecu_mem.specs.declared.document.Document.{Document}
 use Rattle.ecu_mem.specs.Places.{groups_from}
-use Rattle.ecu_mem.specs.Catalogue.{with_entry, over}
+use Rattle.ecu_mem.specs.Catalogue.{with_element, over_places}
 use Rattle.ecu_mem.specs.Index.{IsIndexed, entries_in}
 use Rattle.ecu_mem.proofs.Walk.{group-went, group-stopped, group-passed}
 use Rattle.ecu_mem.proofs.document.Document.mem.Goals as goal
@@ -20,15 +20,15 @@ loop-i-preserved c = elim c.match-new_kind.branch [
     value = c.loop-i.invariant.value
         ∙ (group-went c.args.mem.now c.as_slice-kid-items.result.now c.loop-i.i c.loop-i.seen c.kid-item.result w.in-Some.kind (entries_in c.loop-i.self) (entries_in w.group.new.self) w.in_ok-group.field-0
         c.as_slice-kid-items.ensures c.loop-i-test.true c.kid-item.is (sym c.new_kind.ensures ∙ w.in-Some.is) w.in_ok-group.ensures.value (sym w.in-Ok.is ∙ w.in_ok-in_kid.ensures)
-        ∙ (ap (λ (s : Seen). over with_entry c.args.mem.now (groups_from (c.loop-i.i + 1) s (drop (c.loop-i.i + 1) c.as_slice-kid-items.result.now)) (entries_in w.group.new.self)) (sym (w.seen-is ∙ w.with-seen.ensures))
-        ∙ ap (λ (d : Document). over with_entry c.args.mem.now (groups_from (c.loop-i.i + 1) c.match-new_kind.seen (drop (c.loop-i.i + 1) c.as_slice-kid-items.result.now)) (entries_in d)) (sym w.self-is)));
+        ∙ (ap (λ (s : Seen). over_places with_element c.args.mem.now (groups_from (c.loop-i.i + 1) s (drop (c.loop-i.i + 1) c.as_slice-kid-items.result.now)) (entries_in w.group.new.self)) (sym (w.seen-is ∙ w.with-seen.ensures))
+        ∙ ap (λ (d : Document). over_places with_element c.args.mem.now (groups_from (c.loop-i.i + 1) c.match-new_kind.seen (drop (c.loop-i.i + 1) c.as_slice-kid-items.result.now)) (entries_in d)) (sym w.self-is)));
     indexed = subst (λ (d : Document). IsIndexed d) (sym w.self-is) w.in_ok-group.ensures.indexed;
   }
   | in_default w ↦ record {
     value = c.loop-i.invariant.value
         ∙ (group-passed c.args.mem.now c.as_slice-kid-items.result.now c.loop-i.i c.loop-i.seen c.kid-item.result (entries_in c.loop-i.self) c.loop-i-test.true c.kid-item.is (sym c.new_kind.ensures ∙ w.in_default.is)
-        ∙ (ap (λ (s : Seen). over with_entry c.args.mem.now (groups_from (c.loop-i.i + 1) s (drop (c.loop-i.i + 1) c.as_slice-kid-items.result.now)) (entries_in c.loop-i.self)) (sym w.seen-is)
-        ∙ ap (λ (d : Document). over with_entry c.args.mem.now (groups_from (c.loop-i.i + 1) c.match-new_kind.seen (drop (c.loop-i.i + 1) c.as_slice-kid-items.result.now)) (entries_in d)) (sym w.self-is)));
+        ∙ (ap (λ (s : Seen). over_places with_element c.args.mem.now (groups_from (c.loop-i.i + 1) s (drop (c.loop-i.i + 1) c.as_slice-kid-items.result.now)) (entries_in c.loop-i.self)) (sym w.seen-is)
+        ∙ ap (λ (d : Document). over_places with_element c.args.mem.now (groups_from (c.loop-i.i + 1) c.match-new_kind.seen (drop (c.loop-i.i + 1) c.as_slice-kid-items.result.now)) (entries_in d)) (sym w.self-is)));
     indexed = subst (λ (d : Document). IsIndexed d) (sym w.self-is) c.loop-i.invariant.indexed;
   }
 ]

@@ -4,7 +4,7 @@ use Rattle.flash_plan.specs.declared.outcome.Outcome.TheVariants.{Refused, BadAn
 use Rattle.run_model.specs.Places.{needs_request}
 use Rattle.run_model.specs.Script.{Place, AtEnd, request_at}
 use Rattle.run_model.specs.Talk.{talk_judged}
-use Rattle.uds_codec.specs.Answer.{Verdict, Refusal, Strange, form_in}
+use Rattle.uds_codec.specs.Answer.{Verdict, Refusal, Malformed, form_in}
 use Rattle.unit_session.specs.declared.judging.Front.TheVariants as front
 use Rattle.unit_session.specs.Session.{place_at, talk_of, has_mark, IsFewer}
 use Rattle.unit_session.proofs.Keeps.{waits, heard_front, heard_final, sid_is, stage_good, left_judged}
@@ -40,7 +40,7 @@ returns-in-Strange-clause-talk c =
     let s = c.args.self.now in
     let needs : needs_request (place_at u s.stage) ≡ true = c.requires.of.awaits (waits _ _ c.requires.wait) in
     let v = heard_front u s.stage c.args.reply.now front.Strange c.sid-sid.result c.requires.accepted c.requires.of.stage needs c.sid-sid.ensures.is c.in-Strange.ensures.is in
-    c.settle-in-Strange.ensures.talk u ∙ sym (heard_final u c.args.tick (talk_of u s) c.args.reply.now Strange (AtEnd (BadAnswer c.sid-sid.result)) v tt (ap (λ (k : ℕ). AtEnd (BadAnswer k)) (c.sid-sid.ensures.is ∙ sym (sid_is u s.stage needs))))
+    c.settle-in-Strange.ensures.talk u ∙ sym (heard_final u c.args.tick (talk_of u s) c.args.reply.now Malformed (AtEnd (BadAnswer c.sid-sid.result)) v tt (ap (λ (k : ℕ). AtEnd (BadAnswer k)) (c.sid-sid.ensures.is ∙ sym (sid_is u s.stage needs))))
 
 pub returns-in-Positive-clause-talk : goal.returns-in-Positive-clause-talk
 returns-in-Positive-clause-talk c =
