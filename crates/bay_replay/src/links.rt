@@ -33,8 +33,8 @@ pub fn is_down(link: &LinkState) -> bool
 }
 
 /// Whether the connection is new.
-pub fn is_fresh(link: &LinkState) -> bool
-    ensures { (l : Link) → Shows link.now l → result ≡ model.is_fresh l.phase }
+pub fn is_dialed(link: &LinkState) -> bool
+    ensures { (l : Link) → Shows link.now l → result ≡ model.is_dialed l.phase }
 {
     match link.phase() {
         Phase::Dialed => true,
@@ -43,8 +43,8 @@ pub fn is_fresh(link: &LinkState) -> bool
 }
 
 /// Whether the activation is awaited.
-pub fn is_waiting(link: &LinkState) -> bool
-    ensures { (l : Link) → Shows link.now l → result ≡ model.is_waiting l.phase }
+pub fn is_asked(link: &LinkState) -> bool
+    ensures { (l : Link) → Shows link.now l → result ≡ model.is_asked l.phase }
 {
     match link.phase() {
         Phase::Asked => true,

@@ -31,7 +31,7 @@ fn tasks_built<F: Shelf>(
     catalogue: &Option<Catalogue>,
 ) -> Result<Built, BuildFault>
     requires order { IsOrder order }
-    requires whole { IfSome catalogue.now (λ c. mem.IsWhole c.mem) }
+    requires whole { IfSome catalogue.now (λ c. mem.IsWholeCatalogue c.mem) }
     ensures keeps { F.contents shelf.new ≡ F.contents shelf.old }
     ensures never_falls { F.faults shelf.old ≤ F.faults shelf.new }
     ensures read { (p : Period) → Lies p F.tells (F.contents shelf.old) (F.faults shelf.old) (F.faults shelf.new) → (result ≡ Err BuildFault.NoMemory)

@@ -43,7 +43,7 @@ pub(crate) fn order_at<F: Shelf>(
 /// The catalogue that the bytes of a file are.
 fn catalogue_in(alloc: Global, name: &str, bytes: &[u8]) -> Result<Option<Catalogue>, BuildFault>
     ensures is { (result ≡ Err BuildFault.NoMemory) ⊎ (result ≡ catalogue_in name.now bytes.now) }
-    ensures whole { IfOk result (λ o. IfSome o (λ c. mem.IsWhole c.mem)) }
+    ensures whole { IfOk result (λ o. IfSome o (λ c. mem.IsWholeCatalogue c.mem)) }
 {
     let root = match odx_tree::read(alloc, bytes) {
         Ok(root) => root,
@@ -67,7 +67,7 @@ pub(crate) fn catalogue_at<F: Shelf>(
     ensures keeps { F.contents shelf.new ≡ F.contents shelf.old }
     ensures never_falls { F.faults shelf.old ≤ F.faults shelf.new }
     ensures read { (p : Period) → Lies p F.tells (F.contents shelf.old) (F.faults shelf.old) (F.faults shelf.new) → (result ≡ Err BuildFault.NoMemory) ⊎ catalogued (came p) name.now result }
-    ensures whole { IfOk result (λ o. IfSome o (λ c. mem.IsWhole c.mem)) }
+    ensures whole { IfOk result (λ o. IfSome o (λ c. mem.IsWholeCatalogue c.mem)) }
 {
     match name {
         None => Ok(None),

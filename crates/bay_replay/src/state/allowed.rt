@@ -6,7 +6,7 @@ ghost use Rattle.bay_replay.specs.Held.{Told, Holds, is_stopped, names, with_hal
 
 use super::Core;
 use crate::halt::Halt;
-use crate::links::{is_down, is_fresh, is_up, is_waiting};
+use crate::links::{is_asked, is_dialed, is_down, is_up};
 use crate::sessions;
 use bay_core::{Event, Heard, Tend};
 use flash_plan::{Entry, Outcome, Plan};
@@ -207,7 +207,7 @@ impl Core {
         }
         match step {
             Tend::Dialed { .. } => is_down(&self.link),
-            Tend::Asked { .. } => is_fresh(&self.link),
+            Tend::Asked { .. } => is_dialed(&self.link),
             Tend::Said { .. } => is_up(&self.link) && self.link.owes(),
             Tend::Polled(got) => self.may_poll(plan, got),
         }
@@ -221,7 +221,7 @@ impl Core {
     {
         match got {
             Heard::Kept => false,
-            Heard::Quiet | Heard::Piece(_) | Heard::Lost => is_waiting(&self.link),
+            Heard::Quiet | Heard::Piece(_) | Heard::Lost => is_asked(&self.link),
         }
     }
 
