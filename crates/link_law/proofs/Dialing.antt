@@ -14,7 +14,7 @@ use Rattle.bay_core.specs.declared.event.Event.TheVariants.{Tended}
 use Rattle.bay_core.specs.declared.event.Tend.TheVariants.{Dialed, Asked}
 use Rattle.link_law.specs.Happened.{one, has, count}
 use Rattle.link_law.specs.Kinds.{bytes_in, is_dial, is_ask, is_quiet, is_quiet_wait}
-use Rattle.link_law.specs.Looked.{answer_in, messages_of}
+use Rattle.link_law.specs.Looked.{answer_in, unit_messages}
 use Rattle.link_law.specs.Follows.{last_dial, since_dial, is_ended, is_loss, phase_in, is_owed, taken}
 use Rattle.link_law.proofs.Lists.{has_more, count_more, count_same, behind_it, to_same, count_after_more, dial_is, or_true}
 use Rattle.link_law.proofs.Moving.{Stands, stands}
@@ -50,9 +50,9 @@ module _ (rules : LinkRules) (P : List UnitPlan) (es : List Event) (lost : Bool)
       dials = d.dials ∙ ap (λ (n : ℕ). n + 1) (none_more l.losses ∙ ap (λ (p : Phase). l.losses + one (not (is_down p))) (sym down) ∙ s.link.dials) ∙ sym (count_more is_dial (Tended (Dialed lost)) es);
       owes = d.owes ∙ ap is_owed (sym now);
       unasked = λ none_asked. ap bytes_in now;
-      came = λ a known. subst (λ (w : List Event). taken rules.tester P a w ≤ length (messages_of rules.tester a (bytes_in w))) (sym now) (omega arith);
-      inbox = λ a known. ap (messages_from a) d.inbox ∙ ap (λ (w : List Event). drop (taken rules.tester P a w) (messages_of rules.tester a (bytes_in w))) (sym now);
-      kept = λ a known. ap (λ (ms : List (ℕ × UnitMessage)). is_some (first_message a ms)) d.inbox ∙ ap (λ (w : List Event). nat_lt (taken rules.tester P a w) (length (messages_of rules.tester a (bytes_in w)))) (sym now);
+      came = λ a known. subst (λ (w : List Event). taken rules.tester P a w ≤ length (unit_messages rules.tester a (bytes_in w))) (sym now) (omega arith);
+      inbox = λ a known. ap (messages_from a) d.inbox ∙ ap (λ (w : List Event). drop (taken rules.tester P a w) (unit_messages rules.tester a (bytes_in w))) (sym now);
+      kept = λ a known. ap (λ (ms : List (ℕ × UnitMessage)). is_some (first_message a ms)) d.inbox ∙ ap (λ (w : List Event). nat_lt (taken rules.tester P a w) (length (unit_messages rules.tester a (bytes_in w)))) (sym now);
       others = λ a unknown. ap (messages_from a) d.inbox;
     };
     fresh = λ e. ap (count is_quiet_wait) now;

@@ -11,7 +11,7 @@ use Rattle.bay_core.specs.Core.{addresses_of}
 use Rattle.bay_core.specs.declared.event.Event.{Event}
 use Rattle.link_law.specs.Happened.{one, has, count, to_last}
 use Rattle.link_law.specs.Kinds.{event_bytes, bytes_in, is_dial, is_ask, is_quiet, is_quiet_wait, dial_of}
-use Rattle.link_law.specs.Looked.{messages_of}
+use Rattle.link_law.specs.Looked.{unit_messages}
 use Rattle.link_law.specs.Follows.{last_dial, since_dial, is_loss, phase_in, is_owed, takes, taken, IsLinkOf}
 use Rattle.link_law.proofs.Lists.{count_more, count_same, behind_same, bytes_more, count_after_more, dial_same}
 use Rattle.link_law.proofs.Words.{IsKept, more_came}
@@ -26,7 +26,7 @@ module _ (rules : LinkRules) (P : List UnitPlan) (es : List Event) (x : Event) w
   -- each unit's messages behind the event
   pub record WordsMove (l2 : Link) : Type 0 where
     pub known : (a : ℕ) → is_known (addresses_of P) a ≡ true
-        → IsKept (messages_from a l2.inbox) (taken rules.tester P a (since_dial es)) (takes rules.tester P a (since_dial es) x) (messages_of rules.tester a (bytes_in (since_dial es) ++ event_bytes x))
+        → IsKept (messages_from a l2.inbox) (taken rules.tester P a (since_dial es)) (takes rules.tester P a (since_dial es) x) (unit_messages rules.tester a (bytes_in (since_dial es) ++ event_bytes x))
     pub others : (a : ℕ) → is_known (addresses_of P) a ≡ false → messages_from a l2.inbox ≡ []
 
   pub record Moves (l l2 : Link) : Type 0 where
@@ -62,15 +62,15 @@ module _ (rules : LinkRules) (P : List UnitPlan) (es : List Event) (x : Event) w
       dials = m.dials ∙ is.dials ∙ sym (count_same is_dial x no_dial es);
       owes = m.owes ∙ ap is_owed (sym since);
       unasked = λ none_asked. bytes_now ∙ m.unasked (sym (ap (has is_ask) since) ∙ none_asked);
-      came = λ a known. subst (λ (n : ℕ). n ≤ length (messages_of rules.tester a (bytes_in (since_dial (es ++ (x ∷ [])))))) (sym (taken_now a))
-          (subst (λ (bs : List ℕ). taken rules.tester P a (since_dial es) + one (takes rules.tester P a (since_dial es) x) ≤ length (messages_of rules.tester a bs)) (sym bytes_now) (m.words.known a known).came);
+      came = λ a known. subst (λ (n : ℕ). n ≤ length (unit_messages rules.tester a (bytes_in (since_dial (es ++ (x ∷ [])))))) (sym (taken_now a))
+          (subst (λ (bs : List ℕ). taken rules.tester P a (since_dial es) + one (takes rules.tester P a (since_dial es) x) ≤ length (unit_messages rules.tester a bs)) (sym bytes_now) (m.words.known a known).came);
       inbox = words_now;
-      kept = λ a known. more_came a (taken rules.tester P a (since_dial (es ++ (x ∷ [])))) (messages_of rules.tester a (bytes_in (since_dial (es ++ (x ∷ []))))) l2.inbox (words_now a known);
+      kept = λ a known. more_came a (taken rules.tester P a (since_dial (es ++ (x ∷ [])))) (unit_messages rules.tester a (bytes_in (since_dial (es ++ (x ∷ []))))) l2.inbox (words_now a known);
       others = m.words.others;
     }
       where
-        words_now : (a : ℕ) → is_known (addresses_of P) a ≡ true → messages_from a l2.inbox ≡ drop (taken rules.tester P a (since_dial (es ++ (x ∷ [])))) (messages_of rules.tester a (bytes_in (since_dial (es ++ (x ∷ [])))))
-        words_now a known = (m.words.known a known).words ∙ (λ i. drop (sym (taken_now a) i) (messages_of rules.tester a (sym bytes_now i)))
+        words_now : (a : ℕ) → is_known (addresses_of P) a ≡ true → messages_from a l2.inbox ≡ drop (taken rules.tester P a (since_dial (es ++ (x ∷ [])))) (unit_messages rules.tester a (bytes_in (since_dial (es ++ (x ∷ [])))))
+        words_now a known = (m.words.known a known).words ∙ (λ i. drop (sym (taken_now a) i) (unit_messages rules.tester a (sym bytes_now i)))
 
     pub stands : (l l2 : Link) → Stands rules P es l → Moves l l2 → (l2.phase ≡ phase.Dialed → count is_quiet_wait (since_dial es) + one (is_quiet_wait x) ≡ 0)
         → (l2.phase ≡ phase.Asked → l2.ticks ≡ l2.asked + (count is_quiet_wait (since_dial es) + one (is_quiet_wait x))) → Stands rules P (es ++ (x ∷ [])) l2

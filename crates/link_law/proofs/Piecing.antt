@@ -16,7 +16,7 @@ use Rattle.bay_core.specs.LinkLaws.{phase_for}
 use Rattle.bay_core.specs.declared.event.Event.{Event}
 use Rattle.link_law.specs.Happened.{one, count}
 use Rattle.link_law.specs.Kinds.{event_bytes, bytes_in, is_dial, is_ask, is_say, is_quiet, is_quiet_wait, is_failed_call, dial_of}
-use Rattle.link_law.specs.Looked.{answer_in, is_broken, checks_in, checks_of, messages_of}
+use Rattle.link_law.specs.Looked.{answer_in, is_broken, checks_in, checks_of, unit_messages}
 use Rattle.link_law.specs.Follows.{last_dial, since_dial, is_ended, is_loss, phase_in, is_owed}
 use Rattle.link_law.proofs.Frames.{checks_more}
 use Rattle.link_law.proofs.Lists.{has_same, count_same, to_same, bytes_more, or_false, owed_more, brings}
@@ -108,7 +108,7 @@ module _ (rules : LinkRules) (P : List UnitPlan) (es : List Event) (x : Event) (
   pub reads : PieceReads rules.tester (addresses_of P) told behind before (stream_of all)
   reads = subst (PieceReads rules.tester (addresses_of P) told behind before) (sym whole) (piece_reads rules.tester (addresses_of P) told before (stream_of (l.rest ++ event_bytes x)) l.phase refl was.clean)
 
-  pub words_all : (a : ℕ) → messages_of rules.tester a all ≡ messages_of rules.tester a (bytes_in (since_dial es)) ++ messages_in rules.tester a reads.extra
+  pub words_all : (a : ℕ) → unit_messages rules.tester a all ≡ unit_messages rules.tester a (bytes_in (since_dial es)) ++ messages_in rules.tester a reads.extra
   words_all a = ap (messages_in rules.tester a) reads.looked ∙ words_more rules.tester a before reads.extra ∙ ap (λ (fs : List Frame). messages_in rules.tester a fs ++ messages_in rules.tester a reads.extra) (sym reads.old)
 
   checks_all : checks_of all ≡ checks_of (bytes_in (since_dial es)) + checks_in reads.extra

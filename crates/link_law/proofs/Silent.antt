@@ -13,7 +13,7 @@ use Rattle.bay_core.specs.LinkLaws.{phase_for}
 use Rattle.bay_core.specs.declared.event.Event.{Event}
 use Rattle.link_law.specs.Happened.{one, has, count, to_last}
 use Rattle.link_law.specs.Kinds.{event_bytes, bytes_in, is_dial, is_ask, is_say, is_quiet, is_quiet_wait, is_failed_call, dial_of}
-use Rattle.link_law.specs.Looked.{answer_in, is_broken, checks_of, messages_of}
+use Rattle.link_law.specs.Looked.{answer_in, is_broken, checks_of, unit_messages}
 use Rattle.link_law.specs.Follows.{last_dial, since_dial, is_ended, is_loss, phase_in, is_owed, takes, taken, IsLinkOf}
 use Rattle.link_law.proofs.Lists.{has_more, has_same, count_same, to_it, to_same, bytes_more, or_true, owed_more, brings}
 use Rattle.link_law.proofs.Words.{IsKept, untaken}
@@ -79,9 +79,9 @@ module _ (w : List Event) (x : Event) (silent : IsSilent x) where
 module _ (rules : LinkRules) (P : List UnitPlan) (es : List Event) (x : Event) (silent : IsSilent x) where
   pub untaken_words : (l l2 : Link) → ((a : ℕ) → takes rules.tester P a (since_dial es) x ≡ false) → IsLinkOf rules P es l → l2.inbox ≡ l.inbox → WordsMove rules P es x l2
   untaken_words l l2 takes_none is inbox = record {
-    known = λ a known. subst (λ (b : Bool). IsKept (messages_from a l2.inbox) (taken rules.tester P a (since_dial es)) b (messages_of rules.tester a (bytes_in (since_dial es) ++ event_bytes x))) (sym (takes_none a))
-        (subst (λ (bs : List ℕ). IsKept (messages_from a l2.inbox) (taken rules.tester P a (since_dial es)) false (messages_of rules.tester a bs)) (sym (all_bytes (since_dial es) x silent))
-        (untaken (messages_from a l2.inbox) (taken rules.tester P a (since_dial es)) (messages_of rules.tester a (bytes_in (since_dial es))) (is.came a known) (ap (messages_from a) inbox ∙ is.inbox a known)));
+    known = λ a known. subst (λ (b : Bool). IsKept (messages_from a l2.inbox) (taken rules.tester P a (since_dial es)) b (unit_messages rules.tester a (bytes_in (since_dial es) ++ event_bytes x))) (sym (takes_none a))
+        (subst (λ (bs : List ℕ). IsKept (messages_from a l2.inbox) (taken rules.tester P a (since_dial es)) false (unit_messages rules.tester a bs)) (sym (all_bytes (since_dial es) x silent))
+        (untaken (messages_from a l2.inbox) (taken rules.tester P a (since_dial es)) (unit_messages rules.tester a (bytes_in (since_dial es))) (is.came a known) (ap (messages_from a) inbox ∙ is.inbox a known)));
     others = λ a unknown. ap (messages_from a) inbox ∙ is.others a unknown;
   }
 

@@ -13,7 +13,7 @@ use Rattle.run_model.specs.Link as phase
 use Rattle.run_model.specs.Ways.{messages_from}
 use Rattle.link_law.specs.Happened.{one, has, count, behind_last, to_last, count_after, some_amid}
 use Rattle.link_law.specs.Kinds.{event_bytes, bytes_in, is_dial, is_ask, is_say, is_quiet, is_quiet_wait, is_failed_call, dial_of}
-use Rattle.link_law.specs.Looked.{answer_in, is_broken, checks_of, messages_of}
+use Rattle.link_law.specs.Looked.{answer_in, is_broken, checks_of, unit_messages}
 use Rattle.bay_core.specs.declared.event.Heard.{Heard}
 use Rattle.bay_core.specs.declared.event.Heard.TheVariants.{Kept, Quiet, Piece, Lost}
 use Rattle.bay_core.specs.declared.event.Tend.{Tend}
@@ -84,7 +84,7 @@ is_owed since = some_amid leaves_check [] since
 abbrev pub gets : ℕ → ℕ → List ℕ → Heard → Bool
 gets tester a before Kept = true
 gets tester a before Quiet = false
-gets tester a before (Piece bytes) = nat_lt (length (messages_of tester a before)) (length (messages_of tester a (before ++ bytes)))
+gets tester a before (Piece bytes) = nat_lt (length (unit_messages tester a before)) (length (unit_messages tester a (before ++ bytes)))
 gets tester a before Lost = false
 
 -- an event of one connection took a message of the unit with an address
@@ -115,9 +115,9 @@ pub record IsLinkOf (rules : LinkRules) (P : List UnitPlan) (events : List Event
   pub dials : l.losses + one (not (is_down l.phase)) ≡ count is_dial events
   pub owes : l.owes ≡ is_owed (since_dial events)
   pub unasked : has is_ask (since_dial events) ≡ false → bytes_since_dial events ≡ []
-  pub came : (a : ℕ) → is_known (addresses_of P) a ≡ true → taken rules.tester P a (since_dial events) ≤ length (messages_of rules.tester a (bytes_since_dial events))
-  pub inbox : (a : ℕ) → is_known (addresses_of P) a ≡ true → messages_from a l.inbox ≡ drop (taken rules.tester P a (since_dial events)) (messages_of rules.tester a (bytes_since_dial events))
-  pub kept : (a : ℕ) → is_known (addresses_of P) a ≡ true → is_some (first_message a l.inbox) ≡ nat_lt (taken rules.tester P a (since_dial events)) (length (messages_of rules.tester a (bytes_since_dial events)))
+  pub came : (a : ℕ) → is_known (addresses_of P) a ≡ true → taken rules.tester P a (since_dial events) ≤ length (unit_messages rules.tester a (bytes_since_dial events))
+  pub inbox : (a : ℕ) → is_known (addresses_of P) a ≡ true → messages_from a l.inbox ≡ drop (taken rules.tester P a (since_dial events)) (unit_messages rules.tester a (bytes_since_dial events))
+  pub kept : (a : ℕ) → is_known (addresses_of P) a ≡ true → is_some (first_message a l.inbox) ≡ nat_lt (taken rules.tester P a (since_dial events)) (length (unit_messages rules.tester a (bytes_since_dial events)))
   pub others : (a : ℕ) → is_known (addresses_of P) a ≡ false → messages_from a l.inbox ≡ []
 
 -- the link that a legal list of events gives follows from the list

@@ -45,5 +45,5 @@ abbrev pub checks_of : List ℕ → ℕ
 checks_of bytes = checks_in (looked_at (stream_of bytes).frames)
 
 -- the messages of a unit to the tester that are looked at, in their order
-abbrev pub messages_of : ℕ → ℕ → List ℕ → List UnitMessage
-messages_of tester a bytes = messages_in tester a (looked_at (stream_of bytes).frames)
+abbrev pub unit_messages : ℕ → ℕ → List ℕ → List UnitMessage
+unit_messages tester a bytes = messages_in tester a (looked_at (stream_of bytes).frames)

@@ -11,7 +11,7 @@ use Rattle.bay_core.specs.declared.event.Tend.TheVariants.{Dialed, Asked, Said, 
 use Rattle.bay_core.specs.declared.event.Event.{Event}
 use Rattle.bay_core.specs.declared.event.Event.TheVariants.{Sent, Collected, Tended}
 use Rattle.link_law.specs.Happened.{count_after}
-use Rattle.link_law.specs.Looked.{messages_of}
+use Rattle.link_law.specs.Looked.{unit_messages}
 use Rattle.link_law.specs.Follows.{phase_of, is_loss, is_owed, since_dial, taken}
 use Rattle.link_law.specs.Stopped.{first_cause}
 
@@ -77,7 +77,7 @@ pub record AreWorked : Type 0 where
   pub patience : (n : ℕ) → phase_of (asks ++ quiets n) ≡ (if nat_le 1000 n then phase.Down else phase.Asked)
   -- nothing behind a denial is looked at, no bytes that are no frame either
   pub behind : phase_of (hears (denies ++ (3 ∷ 253 ∷ []))) ≡ phase.Refused 1
-  pub unread : messages_of 3712 4097 (denies ++ answers) ≡ []
+  pub unread : unit_messages 3712 4097 (denies ++ answers) ≡ []
   -- 03 FD, a message without data, a length of 65,601, and a refused header
   pub pattern : IsLostAtOnce (3 ∷ 253 ∷ [])
   pub short : IsLostAtOnce (3 ∷ 252 ∷ 128 ∷ 1 ∷ 0 ∷ 0 ∷ 0 ∷ 4 ∷ 16 ∷ 1 ∷ 14 ∷ 128 ∷ [])
@@ -88,9 +88,9 @@ pub record AreWorked : Type 0 where
   pub said : is_owed (since_dial (collects (Collected 0 (Piece checks) ∷ Tended (Said false) ∷ []))) ≡ false
   pub twice : is_owed (since_dial (collects (Collected 0 (Piece checks) ∷ Tended (Said false) ∷ Collected 0 (Piece checks) ∷ []))) ≡ true
   -- messages for the tester 0E80 of the unit 1001, none for another tester or of another unit
-  pub words : messages_of 3712 4097 (accepting ++ (pends ++ (checks ++ (answers ++ misses)))) ≡ Reply (127 ∷ 54 ∷ 120 ∷ []) ∷ Reply (118 ∷ 1 ∷ []) ∷ Nacked 3 ∷ []
-  pub tester : messages_of 3713 4097 (accepting ++ pends) ≡ []
-  pub unit : messages_of 3712 4098 (accepting ++ pends) ≡ []
+  pub words : unit_messages 3712 4097 (accepting ++ (pends ++ (checks ++ (answers ++ misses)))) ≡ Reply (127 ∷ 54 ∷ 120 ∷ []) ∷ Reply (118 ∷ 1 ∷ []) ∷ Nacked 3 ∷ []
+  pub tester : unit_messages 3713 4097 (accepting ++ pends) ≡ []
+  pub unit : unit_messages 3712 4098 (accepting ++ pends) ≡ []
   -- two come at once: the first is taken with its piece, the second was kept
   pub taken_now : (u : UnitPlan) → u.address ≡ 4097 → taken 3712 (u ∷ []) 4097 (since_dial (collects (Collected 0 (Piece (pends ++ answers)) ∷ []))) ≡ 1
   pub taken_later : (u : UnitPlan) → u.address ≡ 4097 → taken 3712 (u ∷ []) 4097 (since_dial (collects (Collected 0 (Piece (pends ++ answers)) ∷ Collected 0 Kept ∷ []))) ≡ 2

@@ -14,7 +14,7 @@ use Rattle.uds_codec.specs.declared.request.Request.{Request}
 use Rattle.uds_codec.specs.declared.request.Request.TheVariants.{Session, Reset, ReadId, Seed, Key, Routine, Download, Upload, Transfer, Pull, Exit, Setting, Messages}
 use Rattle.unit_model.proofs.Steps.{step_frames}
 use Rattle.unit_model.proofs.Units.{hit, miss, with_same, with_other}
-use Rattle.unit_model.specs.Feed.{DueReply, with_unit, enqueue, queue_replies, tester_of, Handles, HandlesMessage, HandlesAt, Refuses, Activation, Accepts, Denies, Delays, Ignores, activation, Nothing, AfterCut, FeedsAll, Feeds, FeedsHearing, FeedsPart}
+use Rattle.unit_model.specs.Feed.{DueReply, with_unit, enqueue, queue_due, tester_of, Handles, HandlesMessage, HandlesAt, Refuses, Activation, Accepts, Denies, Delays, Ignores, activation, Nothing, AfterCut, FeedsAll, Feeds, FeedsHearing, FeedsPart}
 use Rattle.unit_model.specs.Poll.{Ticks, Carries, Misses, raises, raised_by}
 use Rattle.unit_model.specs.Step.{UnitStep, Obeys, Holds, Departs, Departure, Refuses as refuses, Odd, Fails, Mutes, Busies, Leaves, raised, raise_code, raise_if}
 use Rattle.flash_base.specs.Counts.{one_more}
@@ -402,7 +402,7 @@ record KeepsOwn (old new : Gateway) : Type 0 where
 word_keeps : (g : Gateway) (due : ℕ) (frame : List ℕ) → KeepsOwn g (enqueue g due frame)
 word_keeps g due frame = elim (cases_Bool (nat_le due g.tick)) [ inl e ↦ rw e (record { denied = refl; silent = refl }) | inr e ↦ rw e (record { denied = refl; silent = refl }) ]
 
-words_keep : (g : Gateway) (ws : List DueReply) → KeepsOwn g (queue_replies g ws)
+words_keep : (g : Gateway) (ws : List DueReply) → KeepsOwn g (queue_due g ws)
 words_keep g [] = record { denied = refl; silent = refl }
 words_keep g (w ∷ ws) =
     let frame : List ℕ = message_bytes w.unit (tester_of g) w.body in

@@ -28,7 +28,7 @@ use Rattle.run_model.specs.Link.{Link, Phase, is_live, is_up, is_open, is_asked,
 use Rattle.run_model.specs.Link as phase
 use Rattle.run_model.specs.Script.{bytes_at}
 use Rattle.uds_codec.specs.Request.{sid_of}
-use Rattle.unit_model.specs.Feed.{Activation, Accepts, Denies, Delays, Ignores, activation, Activates, Nothing, queue_replies}
+use Rattle.unit_model.specs.Feed.{Activation, Accepts, Denies, Delays, Ignores, activation, Activates, Nothing, queue_due}
 use Rattle.unit_model.specs.Poll.{ticked}
 use Rattle.unit_model.specs.Step.{raise_code}
 use Rattle.flash_base.specs.Counts.{one_more}
@@ -166,14 +166,14 @@ module _ (rules : LinkRules) (P : List UnitPlan) (found : Entry → Bool) (c : C
       let h = (activate_sends rules.tester v w (between rules c.link v.gateway now) did).handled in
       let a : Activates rules.tester v h.mid h.out = h.handles in
       asked_counted w a.how (fresh_parts rules.tester c.link.phase c.link v.gateway may now.phase)
-      (ap (λ (x : Vehicle). x.gateway) (h.becomes ∙ (λ j. record (a.becomes j) { gateway = queue_replies (record (a.becomes j).gateway { unfinished = [] }) (a.none j) }))) grow
+      (ap (λ (x : Vehicle). x.gateway) (h.becomes ∙ (λ j. record (a.becomes j) { gateway = queue_due (record (a.becomes j).gateway { unfinished = [] }) (a.none j) }))) grow
   tended_counted (Said true) w may did grow = dropped c.link (record c.link { owes = false }) faults first v w refl grow is
   tended_counted (Said false) w may did grow =
       let up = (and_parts _ _ may).0 in
       let live = open_live c.link.phase (up_open c.link.phase up) in
       let h = (alive_sends rules.tester v w (between rules c.link v.gateway (joint.connected live)) did).handled in
       let a : Nothing v h.mid h.out = h.handles in
-      let at : w.gateway ≡ record v.gateway { unfinished = [] } = ap (λ (x : Vehicle). x.gateway) (h.becomes ∙ (λ j. record (a.becomes j) { gateway = queue_replies (record (a.becomes j).gateway { unfinished = [] }) (a.none j) })) in
+      let at : w.gateway ≡ record v.gateway { unfinished = [] } = ap (λ (x : Vehicle). x.gateway) (h.becomes ∙ (λ j. record (a.becomes j) { gateway = queue_due (record (a.becomes j).gateway { unfinished = [] }) (a.none j) })) in
       let f = fair_on first.gateway.denied v.gateway.denied w.gateway.denied c.link v.gateway grow.denied (is.fair live) in
       no_fault (record c.link { owes = false }) faults first w (alike c.link (record c.link { owes = false }) faults first w refl refl refl refl
       (up_counted c.link faults first v w up grow (subst (λ (g : Gateway). AreFair first.gateway.denied w.gateway.denied c.link g) (sym at) (record { ready = f.ready; later = f.later })) is))

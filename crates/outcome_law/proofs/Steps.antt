@@ -51,7 +51,7 @@ use Rattle.doip_frame.specs.Frame.{stream_of}
 use Rattle.uds_codec.specs.Answer.{Verdict, Pending, Busy, Refusal, Accepted, BadStatus, Malformed, judge}
 use Rattle.uds_codec.specs.Request.{sid_of}
 use Rattle.unit_model.proofs.Units.{SameIn, SameUnits, same_self}
-use Rattle.unit_model.specs.Feed.{Nothing, queue_replies}
+use Rattle.unit_model.specs.Feed.{Nothing, queue_due}
 use Rattle.unit_model.specs.Poll.{Ticks, IsShown, ticked}
 use Rattle.unit_model.specs.Unit.{ControlUnit, Counts}
 use Rattle.unit_model.specs.Vehicle.{Gateway, Vehicle, unit_at}
@@ -694,7 +694,7 @@ module _ (rules : LinkRules) (P : List UnitPlan) (found : Entry → Bool) (c : C
       let s = alive_sends rules.tester v w (between rules c.link v.gateway (joint.connected lives)) did in
       let h = s.handled in
       let none : Nothing v h.mid h.out = h.handles in
-      let is : w.gateway ≡ record v.gateway { unfinished = [] } = ap (λ (x : Vehicle). x.gateway) (h.becomes ∙ (λ j. record (none.becomes j) { gateway = queue_replies (record (none.becomes j).gateway { unfinished = [] }) (none.none j) })) in
+      let is : w.gateway ≡ record v.gateway { unfinished = [] } = ap (λ (x : Vehicle). x.gateway) (h.becomes ∙ (λ j. record (none.becomes j) { gateway = queue_due (record (none.becomes j).gateway { unfinished = [] }) (none.none j) })) in
       still_awaited rules.tester (plan_of P n) (marks_of found n) t0 (c.slots n).talk c.link (record c.link { owes = false }) first v w
       (subst (λ (g : Gateway). IsStillOn rules.tester (plan_of P n).address c.link.inbox c.link.inbox c.link.rest c.link.rest v.gateway g) (sym is) (record { way = refl; came = λ e. e; due = refl; later = refl; holds = λ one e. e; tick = refl }))
       (same (plan_of P n).address) (grows.units (plan_of P n).address) (awaited n lt lives o a)

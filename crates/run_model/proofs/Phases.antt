@@ -1,5 +1,5 @@
 -- Phases of a link, and what one says of another.
-use Rattle.std.proofs.Common.{◌≡◌, true, false, refl, absurd}
+use Rattle.std.proofs.Common.{◌≡◌, true, false, refl}
 use Rattle.std.proofs.lemmas.Bool.{false≢true}
 use Rattle.run_model.specs.Link as phase
 use Rattle.run_model.specs.Link.{Link, Phase, is_down, is_dialed, is_asked, is_up, is_open, is_live, quiet_link, polled_quiet}

@@ -30,9 +30,9 @@ pub record DueReply : Type 0 where
   pub due : ℕ
   pub body : List ℕ
 
-abbrev pub queue_replies : Gateway → List DueReply → Gateway
-queue_replies g [] = g
-queue_replies g (w ∷ ws) = queue_replies (enqueue g w.due (message_bytes w.unit (tester_of g) w.body)) ws
+abbrev pub queue_due : Gateway → List DueReply → Gateway
+queue_due g [] = g
+queue_due g (w ∷ ws) = queue_due (enqueue g w.due (message_bytes w.unit (tester_of g) w.body)) ws
 
 -- of the replies of a unit to a service, those that are due at a tick
 abbrev pub due_reply : ℕ → Due → List ℕ → List DueReply
@@ -165,7 +165,7 @@ pub record FeedsHearing (bytes : List ℕ) (old new : Vehicle) : Type 0 where
   pub mid : Vehicle
   pub out : List DueReply
   pub all : FeedsAll (suc (length (old.gateway.unfinished ++ bytes))) (old.gateway.unfinished ++ bytes) old mid out
-  pub becomes : new ≡ record mid { gateway = queue_replies mid.gateway out }
+  pub becomes : new ≡ record mid { gateway = queue_due mid.gateway out }
 
 abbrev pub Feeds : List ℕ → Vehicle → Vehicle → Type 0
 Feeds bytes old new = MatchBool old.gateway.deaf (new ≡ old) (FeedsHearing bytes old new)
