@@ -9,7 +9,7 @@ use Rattle.run_model.proofs.Gateway.{AllHeld, message_held}
 use Rattle.run_model.proofs.Sends.{IsBetween as MaySend, Sends, message_sends, activate_sends}
 use Rattle.run_model.specs.Troubles.{IsCalm, IsVehicleCalm}
 use Rattle.shop_model.specs.History.{Received}
-use Rattle.unit_model.specs.Feed.{DueReply, enqueue, queue_replies, tester_of, Handles, HandlesMessage, HandlesAt, Feeds, Activation, Accepts, Denies, Delays, Ignores, activation}
+use Rattle.unit_model.specs.Feed.{DueReply, enqueue, queue_due, tester_of, Handles, HandlesMessage, HandlesAt, Feeds, Activation, Accepts, Denies, Delays, Ignores, activation}
 use Rattle.unit_model.specs.Poll.{Ticks, Carries, is_turn, held_on}
 use Rattle.unit_model.specs.Step.{raise_code}
 use Rattle.flash_base.specs.Counts.{one_more, LAST_COUNT}
@@ -83,7 +83,7 @@ record SameCounts (old new : Gateway) : Type 0 where
   denied : new.denied ≡ old.denied
   silent : new.silent ≡ old.silent
 
-words_count : (g : Gateway) (ws : List DueReply) → SameCounts g (queue_replies g ws)
+words_count : (g : Gateway) (ws : List DueReply) → SameCounts g (queue_due g ws)
 words_count g [] = record { denied = refl; silent = refl }
 words_count g (w ∷ ws) =
     let mid : Gateway = enqueue g w.due (message_bytes w.unit (tester_of g) w.body) in
@@ -158,7 +158,7 @@ asked tester v u w dialed feeds = go (subst (λ (x : Vehicle). Feeds (activate_b
         let h = s.handled in
         let a = h.handles in
         let is : w.gateway ≡ record (activation a.how tester (redialed v)).gateway { unfinished = [] } =
-        ap (λ (x : Vehicle). x.gateway) (h.becomes ∙ (λ j. record (a.becomes j) { gateway = queue_replies (record (a.becomes j).gateway { unfinished = [] }) (a.none j) })) in
+        ap (λ (x : Vehicle). x.gateway) (h.becomes ∙ (λ j. record (a.becomes j) { gateway = queue_due (record (a.becomes j).gateway { unfinished = [] }) (a.none j) })) in
         record {
           between = record {
             hears = s.queues.deaf ∙ at.hears;
