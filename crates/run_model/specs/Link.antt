@@ -32,39 +32,25 @@ link_start = record { phase = Down; ticks = 0; asked = 0; losses = 0; got = []; 
 
 abbrev pub is_down : Phase → Bool
 is_down Down = true
-is_down Dialed = false
-is_down Asked = false
-is_down Up = false
-is_down (Refused code) = false
+is_down p = false
 
 abbrev pub is_dialed : Phase → Bool
-is_dialed Down = false
 is_dialed Dialed = true
-is_dialed Asked = false
-is_dialed Up = false
-is_dialed (Refused code) = false
+is_dialed p = false
 
 abbrev pub is_asked : Phase → Bool
-is_asked Down = false
-is_asked Dialed = false
 is_asked Asked = true
-is_asked Up = false
-is_asked (Refused code) = false
+is_asked p = false
 
 abbrev pub is_up : Phase → Bool
-is_up Down = false
-is_up Dialed = false
-is_up Asked = false
 is_up Up = true
-is_up (Refused code) = false
+is_up p = false
 
 -- connected, and the activation was not denied
 abbrev pub is_live : Phase → Bool
 is_live Down = false
-is_live Dialed = true
-is_live Asked = true
-is_live Up = true
 is_live (Refused code) = false
+is_live p = true
 
 -- frames are looked at
 abbrev pub is_open : Phase → Bool
