@@ -100,13 +100,13 @@ module _ (rules : LinkRules) (P : List UnitPlan) (es : List Event) (x : Event) (
     pub no_wait : is_quiet_wait x ≡ false
     pub no_ask : is_ask x ≡ false
     pub no_loss : is_loss es x ≡ false
+    pub calm : l.phase ≡ phase.Asked → is_quiet x ≡ false
     pub phase : l2.phase ≡ l.phase
     pub losses : l2.losses ≡ l.losses
     pub got : l2.got ≡ l.got
     pub rest : l2.rest ≡ l.rest
     pub asked : l2.asked ≡ l.asked
     pub ticks : l2.ticks ≡ l.ticks + one (is_quiet x)
-    pub calm : l.phase ≡ phase.Asked → is_quiet x ≡ false
     pub owes : l2.owes ≡ is_owed (since_dial es ++ (x ∷ []))
     pub words : WordsMove rules P es x l2
 
