@@ -8,11 +8,9 @@ use Rattle.barrier_board.specs.declared.post.Post.{Post}
 use Rattle.barrier_board.proofs.Posts.{post_set, post_put}
 use Rattle.bay_core.specs.Core.{Core, Slot, with_slot, with_talk, addresses_of, slot_claimed, slot_start}
 use Rattle.bay_core.specs.Legal.{is_open_unit, may_send, may_record, may_end, is_clear, without_failures}
-use Rattle.bay_core.specs.declared.event.Event.{Event}
 use Rattle.bay_core.specs.declared.event.Event.TheVariants as event
 use Rattle.bay_core.proofs.Allowed.{begin_facts, mark_facts, finish_facts, running_stop}
 use Rattle.bay_core.proofs.Piecing.{known_address}
-use Rattle.bay_core.proofs.Takes.{take_none}
 use Rattle.flash_plan.specs.declared.outcome.Entry.{Entry}
 use Rattle.flash_plan.specs.declared.outcome.Entry.TheVariants as entry
 use Rattle.flash_plan.specs.declared.outcome.Outcome.{Outcome}
@@ -36,12 +34,13 @@ use Rattle.unit_session.specs.declared.session.UnitSession.{UnitSession}
 use Rattle.bay_replay.specs.declared.state.Core as kept
 use Rattle.bay_replay.specs.declared.units.Unit.{Unit as Kept}
 use Rattle.bay_replay.specs.Units.{unit_of, IsFresh, low_marks, kept_talk}
-use Rattle.bay_replay.specs.Held.{Told, HoldsSlot, HoldsSlots, HoldsBody, Holds, told_own, halt_of}
-use Rattle.bay_replay.specs.Hears.{KeepsSession, told_heard, HasHeard}
+use Rattle.bay_replay.specs.Held.{Told, HoldsSlot, HoldsSlots, HoldsBody, Holds, told_own}
+use Rattle.bay_replay.specs.Hears.{told_heard, HasHeard}
 use Rattle.bay_replay.specs.Verdict.{EndsRightly}
 use Rattle.bay_replay.proofs.Marks.{hears_low}
 use Rattle.bay_replay.proofs.Slots.{SameOf, same_of, slots_put, unit_slots, unit_set, unit_put, same_slots, talked_slot, entry_here, begun_else, mark_here, mark_else}
-use Rattle.bay_replay.proofs.Verdicts.{start_right, marked_right, needs_going}
+use Rattle.bay_replay.proofs.Verdicts.{start_right, marked_right}
+use Rattle.bay_core.proofs.Sending.{place_goes}
 
 -- ------ labels of a link
 pub labels_kept : (tester : ℕ) (addresses : List ℕ) (l l2 : LinkState) → SameLabels l l2 → IsOf tester addresses l → IsOf tester addresses l2
@@ -53,21 +52,20 @@ pub link_body : (P : List UnitPlan) (k : kept.Core) (t : Told) (l2 : LinkState) 
 link_body P k t l2 m b shows labels = record { posts = b.posts; units = b.units; slots = b.slots; link = shows; labels = labels; halt = b.halt; before = b.before; right = b.right }
 
 -- ------ the link changes, and one conversation
-pub talked_body : (P : List UnitPlan) (k k2 : kept.Core) (t : Told) (u : ℕ) (said : UnitSession) (f : Talk → Talk) (l2 : LinkState) (m : Link)
-    → u < count_of P → HoldsBody P k t → Shows l2 m → IsOf t.rules.tester (addresses_of P) l2 → KeepsSession u said (record k { link = l2 }) k2
+pub talked_body : (P : List UnitPlan) (k : kept.Core) (t : Told) (u : ℕ) (said : UnitSession) (f : Talk → Talk) (l2 : LinkState) (m : Link) (units2 : List Kept)
+    → u < count_of P → HoldsBody P k t → Shows l2 m → IsOf t.rules.tester (addresses_of P) l2 → units2 ≡ set k.units u (record (unit_of k.units u) { session = said })
     → (t.core.slots u).claimed ≡ true → is_begun said ≡ is_begun (unit_of k.units u).session → talk_of (plan_of P u) said ≡ kept_talk (f (t.core.slots u).talk)
     → ((n : ℕ) → (f (t.core.slots u).talk).marks n ≡ (t.core.slots u).talk.marks n) → session.IsOf (plan_of P u) said → EndsRightly (f (t.core.slots u).talk).place
-    → HoldsBody P k2 (record t { core = record t.core { link = m; slots = with_slot u (with_talk f (t.core.slots u)) t.core.slots } })
-talked_body P k k2 t u said f l2 m lt b shows labels keeps claimed known talk marks fits ends = record {
-  posts = ap (λ (ps : List Post). length ps) keeps.board ∙ b.posts;
-  units = ap (λ (us : List Kept). length us) keeps.units ∙ length-set k.units u _ ∙ b.units;
-  slots = subst (λ (ps : List Post). HoldsSlots P ps k2.units t.core.recorded (with_slot u (with_talk f (t.core.slots u)) t.core.slots)) (sym keeps.board)
-      (unit_slots P k.board k.units k2.units t.core.recorded t.core.slots u (with_talk f (t.core.slots u)) (record (unit_of k.units u) { session = said }) (omega (arith, lt, b.units)) keeps.units b.slots
-      (talked_slot (plan_of P u) (post_of k.board u) (unit_of k.units u) t.core.recorded u (t.core.slots u) said f (b.slots u lt) claimed known talk marks fits ends));
-  link = subst (λ (l : LinkState). Shows l m) (sym keeps.link) shows;
-  labels = subst (IsOf t.rules.tester (addresses_of P)) (sym keeps.link) labels;
-  halt = ap halt_of keeps.halt ∙ b.halt;
-  before = ap halt_of keeps.before ∙ b.before;
+    → HoldsBody P (record k { link = l2; units = units2 }) (record t { core = record t.core { link = m; slots = with_slot u (with_talk f (t.core.slots u)) t.core.slots } })
+talked_body P k t u said f l2 m units2 lt b shows labels units_are claimed known talk marks fits ends = record {
+  posts = b.posts;
+  units = ap (λ (us : List Kept). length us) units_are ∙ length-set k.units u _ ∙ b.units;
+  slots = unit_slots P k.board k.units units2 t.core.recorded t.core.slots u (with_talk f (t.core.slots u)) (record (unit_of k.units u) { session = said }) (omega (arith, lt, b.units)) units_are b.slots
+      (talked_slot (plan_of P u) (post_of k.board u) (unit_of k.units u) t.core.recorded u (t.core.slots u) said f (b.slots u lt) claimed known talk marks fits ends);
+  link = shows;
+  labels = labels;
+  halt = b.halt;
+  before = b.before;
   right = b.right;
 }
 
@@ -155,7 +153,7 @@ heard_talk plan pl said tick tick2 message word at unit t ok ep et ew ea is h =
 -- a unit that waits has not ended
 pub waits_going : (plan : UnitPlan) (post : Post) (unit : Kept) (R : Entry → Bool) (n : ℕ) (s : Slot) → HoldsSlot plan post unit R n s → s.talk.awaiting ≡ true → is_ended s.talk.place ≡ false
 waits_going plan post unit R n s h waits =
-    needs_going s.talk.place (ap (λ (t : Talk). needs_request t.place) (sym h.talk) ∙ h.fits.awaits (ap (λ (t : Talk). t.awaiting) h.talk ∙ waits))
+    place_goes s.talk.place (ap (λ (t : Talk). needs_request t.place) (sym h.talk) ∙ h.fits.awaits (ap (λ (t : Talk). t.awaiting) h.talk ∙ waits))
 
 -- ------ the claim
 pub claimed_body : (P : List UnitPlan) (k : kept.Core) (t : Told) (u : ℕ) (posts2 : List Post) (units2 : List Kept)

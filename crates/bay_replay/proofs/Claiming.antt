@@ -1,11 +1,10 @@
 -- The unit that the board gives is the one that may be claimed.
 use Rattle.std.proofs.Common.{◌≡◌, ◌≢◌, inl, inr, ℕ, zero, suc, ◌<◌, true, false, List, [], ◌∷◌, length, Some, None, refl, sym, ◌∙◌, ap, subst, arith}
 use Rattle.std.specs.Prelude.{Bool, Option, ◌==◌, ◌&&◌, not, nat_lt, is_none}
-use Rattle.std.proofs.lemmas.Bool.{cases_Bool, cases_lt, false≢true, and_parts, and_from, and_left, and_right, lt-ltb, le-ltb, eqb-true, eq-eqb}
+use Rattle.std.proofs.lemmas.Bool.{cases_Bool, cases_lt, false≢true, and_parts, and_from, and_left, and_right, lt-ltb, le-ltb, eqb-true, eq-eqb, not-true}
 use Rattle.flash_base.specs.Lists.{Each, all_of}
 use Rattle.flash_base.specs.Numbers.{each_below}
 use Rattle.barrier_board.specs.Board.{post_of, says_complete, is_complete, is_free_at, IsFirstFree, IsNextFree}
-use Rattle.barrier_board.specs.declared.post.Post.{Post}
 use Rattle.bay_core.proofs.Allowed.{claim_facts}
 use Rattle.bay_core.specs.Legal.{is_ready, may_claim}
 use Rattle.flash_plan.specs.declared.outcome.Entry.TheVariants.{Complete}
@@ -26,10 +25,6 @@ below_at (suc n) k p each lt = elim (cases_Bool (k == n)) [
 below_same : (n : ℕ) (p q : ℕ → Bool) → ((k : ℕ) → k < n → p k ≡ q k) → each_below n p ≡ each_below n q
 below_same zero p q same = refl
 below_same (suc n) p q same = λ i. below_same n p q (λ k lt. same k (omega (arith, lt))) i && same n (omega arith) i
-
-false_of : (b : Bool) → not b ≡ true → b ≡ false
-false_of true is = absurd (false≢true is)
-false_of false is = refl
 
 true_not : (b : Bool) → b ≡ true → not b ≡ true → ⊥
 true_not true is other = false≢true other
@@ -61,12 +56,12 @@ module _ (P : List UnitPlan) (k : kept.Core) (t : Told) (b : HoldsBody P k t) (o
 
   -- none is free
   none_claimed : (u : ℕ) → each_below (length k.board) (λ w. not (is_free_at k.board w)) ≡ true → may_claim P t.core u ≡ false
-  none_claimed u none = not_claimed u (not_ready u (λ lt. false_of _ (below_at (length k.board) u (λ w. not (is_free_at k.board w)) none (omega (arith, lt, b.posts)))))
+  none_claimed u none = not_claimed u (not_ready u (λ lt. not-true _ (below_at (length k.board) u (λ w. not (is_free_at k.board w)) none (omega (arith, lt, b.posts)))))
 
   -- another is the first
   other_claimed : (u n : ℕ) → IsFirstFree k.board n → n ≢ u → may_claim P t.core u ≡ false
   other_claimed u n first ne = elim (cases_lt u n) [
-    | inl lt ↦ not_claimed u (not_ready u (λ within. false_of _ (below_at n u (λ w. not (is_free_at k.board w)) first.lowest lt)))
+    | inl lt ↦ not_claimed u (not_ready u (λ within. not-true _ (below_at n u (λ w. not (is_free_at k.board w)) first.lowest lt)))
     | inr le ↦ and_right _ _ (none_below (each_below u (λ w. not (is_ready P t.core w))) refl (omega (arith, le, ne)))
   ]
     where

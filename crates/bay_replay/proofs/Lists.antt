@@ -1,9 +1,10 @@
 -- A list of events, one event after another.
-use Rattle.std.proofs.Common.{◌≡◌, inl, inr, ℕ, zero, suc, ◌+◌, ◌<◌, ◌≤◌, true, false, List, [], ◌∷◌, length, take, slice_get, Some, Result, Ok, Err, refl, sym, ◌∙◌, ap, subst, arith, add-one}
+use Rattle.std.proofs.Common.{◌≡◌, ℕ, zero, suc, ◌+◌, ◌<◌, ◌≤◌, true, false, List, [], ◌∷◌, length, take, slice_get, Some, Result, Ok, Err, refl, sym, ◌∙◌, ap, subst, arith, add-one}
 use Rattle.std.specs.Prelude.{Bool, ◌&&◌, IfOk, OnErr}
-use Rattle.std.proofs.lemmas.Bool.{cases_Bool, and_from, and_left, and_right}
+use Rattle.std.proofs.lemmas.Bool.{and_from, and_left, and_right}
+use Rattle.std.proofs.Math.Bool.{and-true}
 use Rattle.barrier_board.specs.Board.{has_entry}
-use Rattle.bay_core.specs.Core.{Core, core_after, core_of, core_start, link_after, heard_link, taken_link}
+use Rattle.bay_core.specs.Core.{Core, core_after, core_of, core_start, link_after, heard_link}
 use Rattle.bay_core.specs.Legal.{is_allowed, is_legal}
 use Rattle.bay_core.specs.declared.event.Event.{Event}
 use Rattle.bay_core.specs.declared.event.Event.TheVariants.{Claimed, Began, Sent, Collected, Tended, Marked, Completed, DiskFailed, Ended}
@@ -15,12 +16,13 @@ use Rattle.flash_plan.specs.declared.unit.LinkRules.{LinkRules}
 use Rattle.flash_plan.specs.declared.unit.UnitPlan.{UnitPlan}
 use Rattle.run_model.proofs.Sees.{piece_ticks}
 use Rattle.flash_plan.specs.Plan.{plan_of}
-use Rattle.run_model.specs.Link.{Link, lost_or, polled_quiet, unanswered, quiet_link, new_link}
+use Rattle.run_model.specs.Link.{Link, new_link}
 use Rattle.run_model.specs.Link as phase
 use Rattle.bay_core.specs.Core.{addresses_of}
 use Rattle.bay_replay.specs.declared.state.Core as kept
 use Rattle.bay_replay.specs.Held.{Told, Holds, Takes, told_after}
 use Rattle.bay_replay.specs.Replays.{core_by, told_by, TakesAt, IsFirstBad}
+use Rattle.bay_core.proofs.Ticks.{lost_ticks, quiet_ticks, taken_ticks}
 
 some_is : (a b : Event) → Some a ≡ Some b → a ≡ b
 some_is a b e = cc
@@ -33,17 +35,13 @@ core_take rules P (x ∷ xs) (suc i) e c is = core_take rules P xs i e (core_aft
 pub core_more : (rules : LinkRules) (P : List UnitPlan) (es : List Event) (i : ℕ) (e : Event) (c : Core) → slice_get es i ≡ Some e → core_of rules P c (take (i + 1) es) ≡ core_after rules P e (core_of rules P c (take i es))
 core_more rules P es i e c is = ap (λ (n : ℕ). core_of rules P c (take n es)) (add-one i) ∙ core_take rules P es i e c is
 
-and_true : (a : Bool) → (a && true) ≡ a
-and_true true = refl
-and_true false = refl
-
 and_moved : (a b c : Bool) → (a && (b && c)) ≡ ((a && b) && c)
 and_moved true b c = refl
 and_moved false b c = refl
 
 legal_take : (rules : LinkRules) (P : List UnitPlan) (es : List Event) (i : ℕ) (e : Event) (c : Core) → slice_get es i ≡ Some e → is_legal rules P c (take (suc i) es) ≡ (is_legal rules P c (take i es) && is_allowed P (core_of rules P c (take i es)) e)
 legal_take rules P [] i e c is = cc
-legal_take rules P (x ∷ xs) zero e c is = and_true (is_allowed P c x) ∙ ap (is_allowed P c) (some_is x e is)
+legal_take rules P (x ∷ xs) zero e c is = and-true (is_allowed P c x) ∙ ap (is_allowed P c) (some_is x e is)
 legal_take rules P (x ∷ xs) (suc i) e c is = ap (λ (b : Bool). is_allowed P c x && b) (legal_take rules P xs i e (core_after rules P x c) is) ∙ and_moved (is_allowed P c x) _ _
 
 pub legal_more : (rules : LinkRules) (P : List UnitPlan) (es : List Event) (i : ℕ) (e : Event) (c : Core) → slice_get es i ≡ Some e → is_legal rules P c (take i es) ≡ true → is_allowed P (core_of rules P c (take i es)) e ≡ true → is_legal rules P c (take (i + 1) es) ≡ true
@@ -70,24 +68,11 @@ first_bad rules P found es i lt legal bad = record {
 }
 
 -- ------ an event is at most one tick
-lost_ticks : (lost : Bool) (l a : Link) → a.ticks ≡ l.ticks → (lost_or lost a).ticks ≡ l.ticks
-lost_ticks true l a e = e
-lost_ticks false l a e = e
-
-pub quiet_ticks : (l : Link) → (polled_quiet l).ticks ≡ l.ticks + 1
-quiet_ticks l = elim (cases_Bool (unanswered (quiet_link l))) [ inl e ↦ rw e refl | inr e ↦ rw e refl ]
-
 heard_ticks : (rules : LinkRules) (P : List UnitPlan) (h : Heard) (l : Link) → (heard_link rules P h l).ticks ≤ l.ticks + 1
 heard_ticks rules P Kept l = omega arith
 heard_ticks rules P Quiet l = omega (arith, quiet_ticks l)
 heard_ticks rules P (Piece bytes) l = omega (arith, piece_ticks rules.tester (addresses_of P) bytes l)
 heard_ticks rules P Lost l = omega arith
-
-taken_ticks : (a : ℕ) (h : Heard) (l : Link) → (taken_link a h l).ticks ≡ l.ticks
-taken_ticks a Kept l = refl
-taken_ticks a Quiet l = refl
-taken_ticks a (Piece bytes) l = refl
-taken_ticks a Lost l = refl
 
 event_ticks : (rules : LinkRules) (P : List UnitPlan) (e : Event) (l : Link) → (link_after rules P e l).ticks ≤ l.ticks + 1
 event_ticks rules P (Claimed u) l = omega arith

@@ -2,6 +2,7 @@
 use Rattle.std.proofs.Common.{◌≡◌, inl, inr, ℕ, ◌+◌, ◌<◌, ◌≤◌, true, false, List, [], ◌∷◌, ◌++◌, length, Some, None, refl, sym, ◌∙◌, ap, subst, arith, length-append}
 use Rattle.std.specs.Prelude.{Bool, Option, ◌&&◌, ◌||◌, ◌==◌, nat_lt, nat_le, if◌then◌else◌}
 use Rattle.std.proofs.lemmas.Bool.{cases_Bool, cases_lt, false≢true, lt-ltb, le-ltb, ne_eqb, eq-eqb, eqb-true}
+use Rattle.std.proofs.Math.Bool.{and-false}
 use Rattle.flash_base.specs.declared.unit.KeyRule.{KeyRule}
 use Rattle.flash_base.specs.declared.unit.KeyRule.TheVariants.{Free, Xor, Digest}
 use Rattle.barrier_board.specs.Board.{has_entry}
@@ -14,7 +15,7 @@ use Rattle.flash_plan.specs.Plan.{IsAcceptedUnit}
 use Rattle.run_model.specs.Entries.{with_mark, marks_of}
 use Rattle.bay_core.specs.Legal.{is_mark}
 use Rattle.run_model.specs.Places.{IsPlace, needs_request}
-use Rattle.run_model.specs.Script.{Cursor, Place, AtIdent, AtBegin, AtProgram, AtSeed, AtKey, AtErase, AtDownload, AtBlock, AtExit, AtCheck, AtMark, AtFinish, AtReset, AtDone, AtEnd, segments_from, after_program, place_next, place_marked, place_judged, bytes_at, ask_at}
+use Rattle.run_model.specs.Script.{Place, AtIdent, AtBegin, AtProgram, AtSeed, AtKey, AtErase, AtDownload, AtBlock, AtExit, AtCheck, AtMark, AtFinish, AtReset, AtDone, AtEnd, segments_from, after_program, place_next, place_marked, place_judged, bytes_at, ask_at}
 use Rattle.run_model.specs.Talk.{Talk, end_talk, sid_at, keeps_on_loss, talk_start, talk_lost, talk_marked, talk_judged, talk_final, talk_hears, talk_takes, talk_quiet}
 use Rattle.run_model.specs.Ways.{UnitMessage, Reply, Nacked}
 use Rattle.flash_plan.specs.declared.outcome.Outcome.TheVariants.{PendingLimit, BusyLimit, NoAnswer}
@@ -173,10 +174,6 @@ or_moved true false low rest is = refl
 or_moved false true low rest is = ap (λ (b : Bool). b && true) (is refl)
 or_moved false false low rest is = refl
 
-and_false : (b : Bool) → (b && false) ≡ false
-and_false true = refl
-and_false false = refl
-
 -- one that is
 pub mark_found : (rest : List Entry) (u s : ℕ) (marks more : ℕ → Bool) → (s < 256 → more ≡ with_mark s marks) → (256 ≤ s → more ≡ marks) → (k : ℕ)
     → (marks k || low_marks (marks_of (has_entry (entry.Marked u s ∷ rest)) u) k) ≡ (more k || low_marks (marks_of (has_entry rest) u) k)
@@ -188,7 +185,7 @@ mark_found rest u s marks more one beyond k = elim (cases_lt s 256) [
   | inr le ↦ elim (cases_lt k 256) [
     | inl less ↦
         let ne : (k == s) ≡ false = ne_eqb k s (λ is. absurd (omega (arith, less, le, is))) in
-        ap (λ (b : Bool). marks k || (nat_lt k 256 && (b || has_entry rest (entry.Marked u k)))) (ap (λ (b : Bool). (u == u) && b) ne ∙ and_false (u == u))
+        ap (λ (b : Bool). marks k || (nat_lt k 256 && (b || has_entry rest (entry.Marked u k)))) (ap (λ (b : Bool). (u == u) && b) ne ∙ and-false (u == u))
         ∙ ap (λ (f : ℕ → Bool). f k || (nat_lt k 256 && has_entry rest (entry.Marked u k))) (sym (beyond le))
     | inr more_than ↦
         let high : nat_lt k 256 ≡ false = le-ltb k 256 more_than in

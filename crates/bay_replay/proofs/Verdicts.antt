@@ -1,7 +1,7 @@
 -- A conversation ends with an outcome of its own, and a run stops with one of its link or its disk.
 use Rattle.std.proofs.Common.{◌≡◌, ◌⊎◌, inl, inr, ℕ, ◌+◌, ◌<◌, true, false, List, [], ◌∷◌, ◌++◌, length, Some, None, refl, subst}
 use Rattle.std.specs.Prelude.{Bool, Option, ◌==◌, ◌&&◌, ◌||◌, nat_le, if◌then◌else◌}
-use Rattle.std.proofs.lemmas.Bool.{cases_Bool, false≢true, and_parts, eqb-true}
+use Rattle.std.proofs.lemmas.Bool.{cases_Bool, false≢true, and_parts, eqb-true, or_cases}
 use Rattle.bay_core.specs.Core.{Core}
 use Rattle.bay_core.specs.Legal.{is_end, is_stop, is_memory, is_blocker, is_blocked, may_end}
 use Rattle.flash_base.specs.Lists.{Each}
@@ -12,7 +12,7 @@ use Rattle.flash_plan.specs.declared.unit.Segment.{Segment}
 use Rattle.flash_plan.specs.declared.unit.UnitPlan.{UnitPlan}
 use Rattle.flash_plan.specs.Outcomes.{same_outcome}
 use Rattle.flash_plan.specs.Plan.{plan_of, count_of}
-use Rattle.run_model.specs.Places.{is_ended, needs_request}
+use Rattle.run_model.specs.Places.{is_ended}
 use Rattle.run_model.specs.Script.{Place, AtMark, AtEnd, start_place, idents_from, segments_from, place_marked}
 use Rattle.run_model.specs.Entries.{with_mark}
 use Rattle.run_model.specs.Talk.{Talk, talk_marked, talk_lost, talk_hears, talk_takes, talk_quiet, keeps_on_loss}
@@ -69,10 +69,6 @@ takes_right plan tick (Some word) t going right = hears_right plan tick word t g
 pub quiet_right : (plan : UnitPlan) (tick : ℕ) (t : Talk) → EndsRightly t.place → EndsRightly (talk_quiet plan tick t).place
 quiet_right plan tick t right = elim (cases_Bool (nat_le (t.since + 1000) tick)) [ inl e ↦ rw e tt | inr e ↦ rw e right ]
 
-pub needs_going : (place : Place) → needs_request place ≡ true → is_ended place ≡ false
-needs_going (AtEnd outcome) needs = absurd (false≢true needs)
-needs_going place needs = refl
-
 -- ------ outcomes, compared
 same_right : (a b : Outcome) → IsVerdict a → same_outcome a b ≡ true → IsVerdict b
 same_right Complete b right is = absurd right
@@ -112,25 +108,21 @@ blocked_other : (P : List UnitPlan) (c : Core) (u : ℕ) (o : Outcome) → Each 
 blocked_other P c u (Blocked by) within is = record { other = λ eq. cc; within = blocker_within c (count_of P) (plan_of P u).after by within is }
 blocked_other P c u o within is = absurd (false≢true is)
 
-or_parts : (a b : Bool) → (a || b) ≡ true → (a ≡ true) ⊎ (b ≡ true)
-or_parts true b is = inl refl
-or_parts false b is = inr is
-
 by_stop : (faulted : Bool) (stop : Option Outcome) (o : Outcome) → StopsRightly stop → (if faulted then same_outcome DiskFault o else is_stop stop o) ≡ true → IsVerdict o
 by_stop true stop o right is = same_right DiskFault o tt is
 by_stop false stop o right is = stopped_right stop o right is
 
 pub end_other : (P : List UnitPlan) (c : Core) (u : ℕ) (o : Outcome) → Each (λ w. w < count_of P) (plan_of P u).after → EndsRightly (c.slots u).talk.place → StopsRightly c.halt.stop → may_end P c u o ≡ true → IsOther (count_of P) o
-end_other P c u o within ends stops is = first (or_parts _ _ (and_parts _ _ is).1)
+end_other P c u o within ends stops is = first (or_cases _ _ (and_parts _ _ is).1)
   where
     third : (((c.slots u).claimed && is_end (c.slots u).talk.place o) ≡ true) ⊎ ((if (c.slots u).faulted then same_outcome DiskFault o else is_stop c.halt.stop o) ≡ true) → IsOther (count_of P) o
     third (inl e) = verdict_other (count_of P) o (end_right (c.slots u).talk.place o ends (and_parts _ _ e).1)
     third (inr e) = verdict_other (count_of P) o (by_stop (c.slots u).faulted c.halt.stop o stops e)
 
     second : ((((c.slots u).claimed && is_end (c.slots u).talk.place o) || (if (c.slots u).faulted then same_outcome DiskFault o else is_stop c.halt.stop o)) ≡ true) ⊎ (is_memory o ≡ true) → IsOther (count_of P) o
-    second (inl e) = third (or_parts _ _ e)
+    second (inl e) = third (or_cases _ _ e)
     second (inr e) = verdict_other (count_of P) o (memory_right o e)
 
     first : (((((c.slots u).claimed && is_end (c.slots u).talk.place o) || (if (c.slots u).faulted then same_outcome DiskFault o else is_stop c.halt.stop o)) || is_memory o) ≡ true) ⊎ (is_blocked P c u o ≡ true) → IsOther (count_of P) o
-    first (inl e) = second (or_parts _ _ e)
+    first (inl e) = second (or_cases _ _ e)
     first (inr e) = blocked_other P c u o within e

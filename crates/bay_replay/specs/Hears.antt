@@ -21,14 +21,6 @@ pub record HasHeard (plan : UnitPlan) (tick : ℕ) (message : Message) (old new 
   pub talk : talk_of plan new ≡ talk_hears plan tick (message_of message) (talk_of plan old)
   pub fits : IsOf plan new
 
--- a unit keeps another conversation
-pub record KeepsSession (n : ℕ) (said : UnitSession) (old new : kept.Core) : Type 0 where
-  pub board : new.board ≡ old.board
-  pub units : new.units ≡ set old.units n (record (unit_of old.units n) { session = said })
-  pub link : new.link ≡ old.link
-  pub halt : new.halt ≡ old.halt
-  pub before : new.before ≡ old.before
-
 -- the oldest message of a unit was taken, and the unit has heard it
 abbrev pub told_heard : List UnitPlan → ℕ → Told → Told
 told_heard P u t = record t {

@@ -164,6 +164,11 @@ abbrev pub IsSessionSeen : UnitPlan → Slot → Option UnitSession → Type 0
 IsSessionSeen plan s None = s.claimed ≡ false
 IsSessionSeen plan s (Some said) = (s.claimed ≡ true) × (talk_of plan said ≡ kept_talk s.talk)
 
+-- the conversation of a unit as it is kept
+pub record IsConversation (plan : UnitPlan) (s : Slot) (said : UnitSession) : Type 0 where
+  pub fits : session.IsOf plan said
+  pub talk : talk_of plan said ≡ kept_talk s.talk
+
 -- who was claimed, and the outcome of each unit
 pub record IsBoardOf (P : List UnitPlan) (c : Core) (posts : List Post) : Type 0 where
   pub size : length posts ≡ count_of P

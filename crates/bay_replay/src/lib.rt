@@ -14,8 +14,6 @@ mod links;
 mod replaying;
 mod sessions;
 mod state;
-#[cfg(test)]
-mod tests;
 mod units;
 
 pub use fault::ReplayFault;

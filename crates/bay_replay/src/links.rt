@@ -26,40 +26,28 @@ pub fn addresses(alloc: Global, plan: &Plan) -> Result<Vec<u16>, NoMemory>
 pub fn is_down(link: &LinkState) -> bool
     ensures { (l : Link) → Shows link.now l → result ≡ model.is_down l.phase }
 {
-    match link.phase() {
-        Phase::Down => true,
-        Phase::Dialed | Phase::Asked | Phase::Up | Phase::Refused { .. } => false,
-    }
+    matches!(link.phase(), Phase::Down)
 }
 
 /// Whether the connection is new.
 pub fn is_dialed(link: &LinkState) -> bool
     ensures { (l : Link) → Shows link.now l → result ≡ model.is_dialed l.phase }
 {
-    match link.phase() {
-        Phase::Dialed => true,
-        Phase::Down | Phase::Asked | Phase::Up | Phase::Refused { .. } => false,
-    }
+    matches!(link.phase(), Phase::Dialed)
 }
 
 /// Whether the activation is awaited.
 pub fn is_asked(link: &LinkState) -> bool
     ensures { (l : Link) → Shows link.now l → result ≡ model.is_asked l.phase }
 {
-    match link.phase() {
-        Phase::Asked => true,
-        Phase::Down | Phase::Dialed | Phase::Up | Phase::Refused { .. } => false,
-    }
+    matches!(link.phase(), Phase::Asked)
 }
 
 /// Whether the activation was accepted.
 pub fn is_up(link: &LinkState) -> bool
     ensures { (l : Link) → Shows link.now l → result ≡ model.is_up l.phase }
 {
-    match link.phase() {
-        Phase::Up => true,
-        Phase::Down | Phase::Dialed | Phase::Asked | Phase::Refused { .. } => false,
-    }
+    matches!(link.phase(), Phase::Up)
 }
 
 /// The connection is lost, if `lost`.

@@ -91,32 +91,28 @@ pub fn is_waiting(session: &UnitSession, unit: &UnitPlan) -> bool
     }
 }
 
-/// The conversation once a message of its unit has come.
-pub fn heard(session: UnitSession, unit: &UnitPlan, message: &Message, tick: u64) -> UnitSession
+/// A message of its unit has come.
+pub fn hear(session: &mut UnitSession, unit: &UnitPlan, message: &Message, tick: u64)
     requires accepted { IsAcceptedUnit unit.now }
-    requires of { IsOf unit.now session }
-    requires wait { ask_of unit.now (talk_of unit.now session) ≡ Ask.Wait }
-    ensures { HasHeard unit.now tick message.now session result }
+    requires of { IsOf unit.now session.old }
+    requires wait { ask_of unit.now (talk_of unit.now session.old) ≡ Ask.Wait }
+    ensures { HasHeard unit.now tick message.now session.old session.new }
 {
-    let mut session = session;
     match message {
         Message::Reply(body) => session.hear(unit, body.as_slice(), tick),
         Message::Nack(code) => session.nack(*code),
     }
-    session
 }
 
-/// The conversation once the link was lost: at Begin, at a mark, at Done and behind its end it stays, and
-/// else the attempt starts again.
-pub fn lost(session: UnitSession, unit: &UnitPlan) -> UnitSession
+/// The link was lost: at Begin, at a mark, at Done and behind its end the conversation stays, and else the attempt
+/// starts again.
+pub fn lose(session: &mut UnitSession, unit: &UnitPlan)
     requires accepted { IsAcceptedUnit unit.now }
-    requires of { IsOf unit.now session }
-    ensures { IsLostSession unit.now session result }
+    requires of { IsOf unit.now session.old }
+    ensures { IsLostSession unit.now session.old session.new }
 {
-    let mut session = session;
     match session.next(unit) {
         Ask::Begin => {}
         Ask::Send | Ask::Wait | Ask::Mark { .. } | Ask::Done | Ask::Ended(_) => session.lost(),
     }
-    session
 }

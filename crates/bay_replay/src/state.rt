@@ -1,14 +1,15 @@
-ghost use Rattle.std.specs.Prelude.{◌≡◌, ◌<◌, ◌^◌, List, [], take, length, true, false, IfOk, IsOk, OnOk, OnErr};
+ghost use Rattle.std.specs.Prelude.{◌≡◌, ◌<◌, ◌&&◌, not, ◌^◌, List, [], take, length, true, false, IfOk, IsOk, OnOk, OnErr};
 ghost use Rattle.bay_core.specs.Legal.{is_allowed};
 ghost use Rattle.flash_plan.specs.Plan.{count_of, plan_of};
 ghost use Rattle.flash_plan.specs.declared.unit.UnitPlan.{UnitPlan};
 ghost use Rattle.link_state.specs.State.{Shows};
-ghost use Rattle.bay_replay.specs.Held.{Told, Holds, HoldsBody, Takes, Claims, IsSessionSeen, IsBoardOf, told_after, told_settled, told_lost, told_down, told_shut};
+ghost use Rattle.run_model.specs.Link.{is_up};
+ghost use Rattle.bay_replay.specs.Held.{Told, Holds, HoldsBody, Takes, Claims, IsSessionSeen, IsConversation, IsBoardOf, told_after, told_settled, told_lost, told_down, told_shut};
 ghost use Rattle.bay_replay.specs.Bytes.{has_bytes};
 ghost use Rattle.bay_replay.specs.Replays.{told_by, TakesAt};
 
 use crate::halt::Halt;
-use crate::links::{addresses, stop_by};
+use crate::links::{addresses, is_up, stop_by};
 use crate::units::Units;
 use barrier_board::{Board, Claimed};
 use bay_core::{Event, Events};
@@ -75,6 +76,26 @@ impl Core {
         }
     }
 
+    /// The conversation of a unit of the plan as it is kept, also where the unit was never claimed.
+    pub fn conversation(&self, plan: &Plan, unit: u16) -> UnitSession
+        ghost told: { Told }
+        requires holds { Holds plan.now self.now told }
+        requires within { unit < count_of plan.now }
+        ensures { IsConversation (plan_of plan.now unit) (told.core.slots unit) result }
+    {
+        self.units.at(unit).session
+    }
+
+    /// Whether an append for the unit failed.
+    pub fn has_faulted(&self, plan: &Plan, unit: u16) -> bool
+        ghost told: { Told }
+        requires holds { Holds plan.now self.now told }
+        requires within { unit < count_of plan.now }
+        ensures { result ≡ (told.core.slots unit).faulted }
+    {
+        self.units.at(unit).faulted
+    }
+
     /// The link: phase, ticks, losses, inboxes, and whether it owes an alive answer.
     pub fn link(&self) -> &LinkState
         ensures { (plan : List UnitPlan) (told : Told) → Holds plan self.now told
@@ -89,6 +110,22 @@ impl Core {
             → result ≡ told.core.halt.stop }
     {
         self.halt.stop
+    }
+
+    /// Whether an append has failed.
+    pub fn has_failed(&self) -> bool
+        ensures { (plan : List UnitPlan) (told : Told) → Holds plan self.now told
+            → result ≡ told.core.halt.failed }
+    {
+        self.halt.failed
+    }
+
+    /// Whether the link is up and owes no alive answer.
+    pub fn is_linked(&self) -> bool
+        ensures { (plan : List UnitPlan) (told : Told) → Holds plan self.now told
+            → result ≡ (is_up told.core.link.phase && not told.core.link.owes) }
+    {
+        is_up(&self.link) && !self.link.owes()
     }
 
     /// The state before any event.
@@ -148,6 +185,17 @@ impl Core {
     {
         self.link.shut();
         self.units.lose(plan);
+    }
+
+    /// There is no memory to go on with: the link is used no more, no message and no byte of it is kept, and each
+    /// attempt starts again.
+    pub fn starve(&mut self, plan: &Plan)
+        ghost told: { Told }
+        requires { Holds plan.now self.old told }
+        ensures { Holds plan.now self.new (told_shut plan.now told) }
+    {
+        self.link.empty();
+        self.shut(plan);
     }
 
     /// Takes an event that is allowed. It wants memory only for bytes that a receive brought. Where there is

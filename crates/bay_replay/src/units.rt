@@ -1,11 +1,13 @@
-ghost use Rattle.std.specs.Prelude.{◌≡◌, ◌<◌, ℕ, length, set, IfOk};
+ghost use Rattle.std.specs.Prelude.{◌≡◌, ◌<◌, ℕ, length, IfOk};
+ghost use Rattle.std.specs.Borrow.{sem};
 ghost use Rattle.barrier_board.specs.Board.{has_entry};
 ghost use Rattle.flash_plan.specs.Plan.{count_of, plan_of};
 ghost use Rattle.unit_session.specs.Session.{IsOf, has_mark};
 ghost use Rattle.run_model.specs.Entries.{marks_of};
+ghost use Rattle.bay_replay.specs.Lending.{LendsUnit};
 ghost use Rattle.bay_replay.specs.Units.{unit_of, low_marks, AreFresh, AreOf, AreLost, IsLostAt};
 
-use crate::sessions::lost;
+use crate::sessions::lose;
 use flash_base::NoMemory;
 use flash_plan::{Entries, Entry, Plan};
 use std::alloc::Global;
@@ -95,19 +97,20 @@ impl Units {
     }
 
     /// The unit with this number.
-    pub fn at(&self, n: u16) -> Unit
+    pub fn at(&self, n: u16) -> &Unit
         requires { n < length self.now }
-        ensures { result ≡ unit_of self.now n }
+        ensures { result.now ≡ unit_of self.now n }
     {
-        self.items[n as usize]
+        &self.items[n as usize]
     }
 
-    /// Keeps this of the unit with this number.
-    pub fn put(&mut self, n: u16, unit: Unit)
+    /// The unit with this number, to be changed in its place.
+    pub fn at_mut(&mut self, n: u16) -> &mut Unit
         requires { n < length self.old }
-        ensures { self.new ≡ set self.old n unit }
+        ensures* lends { sem 𝓛 (LendsUnit self.entry n result) }
+        ensures value { result.now ≡ unit_of self.old n }
     {
-        self.items[n as usize] = unit;
+        &mut self.items[n as usize]
     }
 
     /// One conversation after a loss of the link.
@@ -118,9 +121,7 @@ impl Units {
         ensures { IsLostAt (plan_of plan.now n) n self.old self.new }
     {
         plan.is_accepted();
-        let mut unit = self.at(n);
-        unit.session = lost(unit.session, plan.unit(n));
-        self.put(n, unit);
+        lose(&mut self.at_mut(n).session, plan.unit(n));
     }
 
     /// The link was lost: each attempt starts again.

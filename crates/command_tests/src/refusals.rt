@@ -34,7 +34,7 @@ const OF_THE_ORDER: [(&str, &str, &str); 18] = [
     ),
     (
         r#""at":"2000""#,
-        r#""at":"FFFFFFFE""#,
+        r#""at":"FFFFFFFFFE""#,
         "input o.json out of range 0",
     ),
     (r#""name":"B""#, r#""name":"A""#, "input o.json same name A"),

@@ -6,8 +6,6 @@ mod deframer;
 mod frame;
 mod laws;
 mod payload;
-#[cfg(test)]
-mod tests;
 mod write;
 
 pub use deframer::{Deframer, Fed};

@@ -14,7 +14,8 @@ use Rattle.ecu_mem.specs.declared.entry.Entry.{Entry}
 use Rattle.ecu_mem.specs.declared.entry.Entry.TheVariants as entry
 use Rattle.ecu_mem.specs.Refusals.{Reading, ◌>>=◌, read_as, both, in_kid, missing, bad_number}
 use Rattle.ecu_mem.specs.Parts.{kid, kid_of_two, required_of, required, some_of, optional_of, optional, choice_of, choice, each_from, each, listed_of, listed, attribute, attribute_in, has_tag, kids_of}
-use Rattle.ecu_mem.specs.Values.{address_limit, text_of, or_bad, if_within, text_in, address_in, byte_in, bytes_in, size_to, end_in, size_from, size_in, extent_in, segment_in, filter_in, is_bytefield, if_filled, ident_value_in, format_in, plain_in, inside_in, file_in}
+use Rattle.span_store.specs.ByteMap.{top}
+use Rattle.ecu_mem.specs.Values.{text_of, or_bad, if_within, text_in, address_in, byte_in, bytes_in, size_to, end_in, size_from, size_in, extent_in, segment_in, filter_in, is_bytefield, if_filled, ident_value_in, format_in, plain_in, inside_in, file_in}
 use Rattle.ecu_mem.specs.Elements.{at_least_one, values_in, one_value_in, ident_in, check_of, check_in, session_of, session_in, signed, up_of, offset_in, offset_or_0, block_of, block_in, flash_of, flash_in, entry_in}
 use Rattle.ecu_mem.specs.Bounds.{IsRange, IsCheck, AreValues, IsIdent}
 
@@ -79,13 +80,13 @@ within-gives limit (Some n) = go (nat_lt n limit) refl
     go true h = ltb-true n limit h
     go false h = tt
 
-address-gives : (e : Element) → IfOk (address_in e) (λ n. n < address_limit)
-address-gives e = within-gives address_limit (hex_text (text_of e))
+address-gives : (e : Element) → IfOk (address_in e) (λ n. n < top)
+address-gives e = within-gives top (hex_text (text_of e))
 
-size_to-gives : (start last : ℕ) → last < address_limit → IfOk (size_to start last) (λ s. IsRange (start, s))
+size_to-gives : (start last : ℕ) → last < top → IfOk (size_to start last) (λ s. IsRange (start, s))
 size_to-gives start last h = go (nat_le start last) refl
   where
-    within : (start last : ℕ) → last < address_limit → start ≤ last → IsRange (start, last + 1 - start)
+    within : (start last : ℕ) → last < top → start ≤ last → IsRange (start, last + 1 - start)
     within start last h k = (omega arith, omega arith)
 
     go : (b : Bool) → nat_le start last ≡ b → IfOk (cond b (Ok (last + 1 - start)) (Err bad_number)) (λ s. IsRange (start, s))
@@ -93,17 +94,17 @@ size_to-gives start last h = go (nat_le start last) refl
     go false k = tt
 
 end-gives : (start : ℕ) (e : Element) → IfOk (end_in start e) (λ s. IsRange (start, s))
-end-gives start e = bind-gives (λ n. n < address_limit) (λ s. IsRange (start, s)) (address_in e) (λ last. size_to start last) (address-gives e) (λ last h. size_to-gives start last h)
+end-gives start e = bind-gives (λ n. n < top) (λ s. IsRange (start, s)) (address_in e) (λ last. size_to start last) (address-gives e) (λ last h. size_to-gives start last h)
 
 size-gives : (start : ℕ) (e : Element) → IfOk (size_in start e) (λ s. IsRange (start, s))
 size-gives start e = of_text (decimal_text (text_of e))
   where
     of_text : (o : Option ℕ) → IfOk (or_bad (size_from start o)) (λ s. IsRange (start, s))
     of_text None = tt
-    of_text (Some n) = go (nat_lt 0 n && nat_le (start + n) address_limit) refl
+    of_text (Some n) = go (nat_lt 0 n && nat_le (start + n) top) refl
       where
-        go : (b : Bool) → (nat_lt 0 n && nat_le (start + n) address_limit) ≡ b → IfOk (or_bad (cond b (Some n) None)) (λ s. IsRange (start, s))
-        go true k = let parts : (nat_lt 0 n ≡ true) × (nat_le (start + n) address_limit ≡ true) = and_parts (nat_lt 0 n) (nat_le (start + n) address_limit) k in (ltb-true 0 n parts.0, leb-true (start + n) address_limit parts.1)
+        go : (b : Bool) → (nat_lt 0 n && nat_le (start + n) top) ≡ b → IfOk (or_bad (cond b (Some n) None)) (λ s. IsRange (start, s))
+        go true k = let parts : (nat_lt 0 n ≡ true) × (nat_le (start + n) top ≡ true) = and_parts (nat_lt 0 n) (nat_le (start + n) top) k in (ltb-true 0 n parts.0, leb-true (start + n) top parts.1)
         go false k = tt
 
 extent-gives : (last size : List ℕ) (start : ℕ) (e : Element) → IfOk (choice last (end_in start) size (size_in start) e) (λ s. IsRange (start, s))
@@ -169,7 +170,7 @@ check-gives e = of_parts (required (codes "SHORT-NAME") text_in e) (optional (co
 -- what is kept of an entry
 abbrev pub IsGood : Entry → Type 0
 IsGood (entry.Session s refs) = Each IsIdent s.idents × Each IsCheck s.checks
-IsGood (entry.Block b ref) = Each IsRange b.filters × (Each IsRange b.segments × ((b.offset < address_limit) × Each IsIdent b.own))
+IsGood (entry.Block b ref) = Each IsRange b.filters × (Each IsRange b.segments × ((b.offset < top) × Each IsIdent b.own))
 IsGood (entry.Flash f) = ⊤
 
 session-gives : (e : Element) → IfOk (session_in e) IsGood
@@ -188,21 +189,21 @@ session-gives e =
         (both-gives (Each IsIdent) (λ p. Each IsCheck p.0 × ⊤) idents (both checks refs) h
         (both-gives (Each IsCheck) (λ x. ⊤) checks refs k (any refs)))))
 
-signed-gives : (down : Bool) (r : Reading ℕ) → IfOk r (λ n. n < address_limit) → IfOk (signed down r) (λ q. q.1 < address_limit)
+signed-gives : (down : Bool) (r : Reading ℕ) → IfOk r (λ n. n < top) → IfOk (signed down r) (λ q. q.1 < top)
 signed-gives down (Ok n) h = h
 signed-gives down (Err g) h = tt
 
-offset-gives : (e : Element) → IfOk (offset_in e) (λ q. q.1 < address_limit)
+offset-gives : (e : Element) → IfOk (offset_in e) (λ q. q.1 < top)
 offset-gives e = up (kid_of_two (codes "POSITIVE-OFFSET") (codes "POS-OFFSET") e)
   where
-    up : (found : Option (ℕ × Element)) → IfOk (up_of e found) (λ q. q.1 < address_limit)
-    up None = signed-gives true (required_of (codes "POSITIVE-OFFSET") address_in found) (required_of-gives (λ n. n < address_limit) (codes "POSITIVE-OFFSET") address_in found address-gives)
+    up : (found : Option (ℕ × Element)) → IfOk (up_of e found) (λ q. q.1 < top)
+    up None = signed-gives true (required_of (codes "POSITIVE-OFFSET") address_in found) (required_of-gives (λ n. n < top) (codes "POSITIVE-OFFSET") address_in found address-gives)
       where
         found : Option (ℕ × Element)
         found = kid_of_two (codes "NEGATIVE-OFFSET") (codes "NEG-OFFSET") e
-    up (Some p) = signed-gives false (in_kid p.0 (address_in p.1)) (kid-gives (λ n. n < address_limit) p.0 (address_in p.1) (address-gives p.1))
+    up (Some p) = signed-gives false (in_kid p.0 (address_in p.1)) (kid-gives (λ n. n < top) p.0 (address_in p.1) (address-gives p.1))
 
-or_0-below : (o : Option (Bool × ℕ)) → IfSome o (λ q. q.1 < address_limit) → (offset_or_0 o).1 < address_limit
+or_0-below : (o : Option (Bool × ℕ)) → IfSome o (λ q. q.1 < top) → (offset_or_0 o).1 < top
 or_0-below None h = omega arith
 or_0-below (Some q) h = h
 
@@ -212,22 +213,22 @@ block-gives e =
     (listed (codes "FILTERS") (codes "FILTER") filter_in e) (listed (codes "SEGMENTS") (codes "SEGMENT") segment_in e) (optional (codes "TARGET-ADDR-OFFSET") offset_in e) (listed (codes "OWN-IDENTS") (codes "OWN-IDENT") ident_in e)
     (listed_of-gives IsRange (codes "FILTER") filter_in (kid (codes "FILTERS") e) filter-gives)
     (listed_of-gives IsRange (codes "SEGMENT") segment_in (kid (codes "SEGMENTS") e) segment-gives)
-    (optional_of-gives (λ q. q.1 < address_limit) offset_in (kid (codes "TARGET-ADDR-OFFSET") e) offset-gives)
+    (optional_of-gives (λ q. q.1 < top) offset_in (kid (codes "TARGET-ADDR-OFFSET") e) offset-gives)
     (listed_of-gives IsIdent (codes "OWN-IDENT") ident_in (kid (codes "OWN-IDENTS") e) ident-gives)
   where
     of_parts : (id name ref : Reading (List ℕ)) (filters segments : Reading (List (ℕ × ℕ))) (offset : Reading (Option (Bool × ℕ))) (own : Reading (List Ident)) →
-        IfOk filters (Each IsRange) → IfOk segments (Each IsRange) → IfOk offset (λ o. IfSome o (λ q. q.1 < address_limit)) → IfOk own (Each IsIdent) →
+        IfOk filters (Each IsRange) → IfOk segments (Each IsRange) → IfOk offset (λ o. IfSome o (λ q. q.1 < top)) → IfOk own (Each IsIdent) →
         IfOk (read_as block_of (both id (both name (both ref (both filters (both segments (both offset own))))))) IsGood
     of_parts id name ref filters segments offset own f s o w =
-        as-gives (λ p. ⊤ × (⊤ × (⊤ × (Each IsRange p.1.1.1.0 × (Each IsRange p.1.1.1.1.0 × (IfSome p.1.1.1.1.1.0 (λ q. q.1 < address_limit) × Each IsIdent p.1.1.1.1.1.1)))))) IsGood block_of
+        as-gives (λ p. ⊤ × (⊤ × (⊤ × (Each IsRange p.1.1.1.0 × (Each IsRange p.1.1.1.1.0 × (IfSome p.1.1.1.1.1.0 (λ q. q.1 < top) × Each IsIdent p.1.1.1.1.1.1)))))) IsGood block_of
         (both id (both name (both ref (both filters (both segments (both offset own))))))
         (λ p g. (g.1.1.1.0, (g.1.1.1.1.0, (or_0-below p.1.1.1.1.1.0 g.1.1.1.1.1.0, g.1.1.1.1.1.1))))
-        (both-gives (λ x. ⊤) (λ p. ⊤ × (⊤ × (Each IsRange p.1.1.0 × (Each IsRange p.1.1.1.0 × (IfSome p.1.1.1.1.0 (λ q. q.1 < address_limit) × Each IsIdent p.1.1.1.1.1))))) id _ (any id)
-        (both-gives (λ x. ⊤) (λ p. ⊤ × (Each IsRange p.1.0 × (Each IsRange p.1.1.0 × (IfSome p.1.1.1.0 (λ q. q.1 < address_limit) × Each IsIdent p.1.1.1.1)))) name _ (any name)
-        (both-gives (λ x. ⊤) (λ p. Each IsRange p.0 × (Each IsRange p.1.0 × (IfSome p.1.1.0 (λ q. q.1 < address_limit) × Each IsIdent p.1.1.1))) ref _ (any ref)
-        (both-gives (Each IsRange) (λ p. Each IsRange p.0 × (IfSome p.1.0 (λ q. q.1 < address_limit) × Each IsIdent p.1.1)) filters _ f
-        (both-gives (Each IsRange) (λ p. IfSome p.0 (λ q. q.1 < address_limit) × Each IsIdent p.1) segments _ s
-        (both-gives (λ o. IfSome o (λ q. q.1 < address_limit)) (Each IsIdent) offset own o w))))))
+        (both-gives (λ x. ⊤) (λ p. ⊤ × (⊤ × (Each IsRange p.1.1.0 × (Each IsRange p.1.1.1.0 × (IfSome p.1.1.1.1.0 (λ q. q.1 < top) × Each IsIdent p.1.1.1.1.1))))) id _ (any id)
+        (both-gives (λ x. ⊤) (λ p. ⊤ × (Each IsRange p.1.0 × (Each IsRange p.1.1.0 × (IfSome p.1.1.1.0 (λ q. q.1 < top) × Each IsIdent p.1.1.1.1)))) name _ (any name)
+        (both-gives (λ x. ⊤) (λ p. Each IsRange p.0 × (Each IsRange p.1.0 × (IfSome p.1.1.0 (λ q. q.1 < top) × Each IsIdent p.1.1.1))) ref _ (any ref)
+        (both-gives (Each IsRange) (λ p. Each IsRange p.0 × (IfSome p.1.0 (λ q. q.1 < top) × Each IsIdent p.1.1)) filters _ f
+        (both-gives (Each IsRange) (λ p. IfSome p.0 (λ q. q.1 < top) × Each IsIdent p.1) segments _ s
+        (both-gives (λ o. IfSome o (λ q. q.1 < top)) (Each IsIdent) offset own o w))))))
 
 flash-gives : (e : Element) → IfOk (flash_in e) IsGood
 flash-gives e = of_parts (both (attribute_in (codes "ID") e) (both (required (codes "DATAFORMAT") format_in e) (both (optional (codes "ENCRYPT-COMPRESS-METHOD") plain_in e) (choice (codes "DATA") inside_in (codes "DATAFILE") file_in e))))

@@ -7,11 +7,11 @@ use Rattle.ecu_mem.specs.declared.types.Session.{Session}
 use Rattle.ecu_mem.specs.declared.types.Block.{Block}
 use Rattle.ecu_mem.specs.declared.types.Flash.{Flash}
 use Rattle.ecu_mem.specs.declared.types.EcuMem.{EcuMem}
-use Rattle.ecu_mem.specs.Values.{address_limit}
+use Rattle.span_store.specs.ByteMap.{top}
 
 -- a range, as its address and its size, has at least one address, and none at the limit or past it
 abbrev pub IsRange : ℕ × ℕ → Type 0
-IsRange r = (1 ≤ r.1) × (r.0 + r.1 ≤ address_limit)
+IsRange r = (1 ≤ r.1) × (r.0 + r.1 ≤ top)
 
 abbrev pub IsCheck : Check → Type 0
 IsCheck c = IsRange (c.from, c.size)
@@ -34,7 +34,7 @@ pub record IsBlockAmong (count : ℕ) (b : Block) : Type 0 where
   pub position : b.flash < count
   pub filters : Each IsRange b.filters
   pub segments : Each IsRange b.segments
-  pub offset : b.offset < address_limit
+  pub offset : b.offset < top
   pub own : Each IsIdent b.own
 
 abbrev pub one_if : Bool → ℕ

@@ -6,16 +6,13 @@ use Rattle.text_forms.specs.Trim.{cut}
 use Rattle.text_forms.specs.Numbers.{hex_text, decimal_text}
 use Rattle.text_forms.specs.Bytes.{byte_text, bytes_text}
 use Rattle.text_forms.specs.FileNames.{file_name}
+use Rattle.span_store.specs.ByteMap.{top}
 use Rattle.ecu_mem.specs.declared.types.Format.{Format}
 use Rattle.ecu_mem.specs.declared.types.Format.TheVariants.{IntelHex, MotorolaS, Binary, UserDefined}
 use Rattle.ecu_mem.specs.declared.types.Source.{Source}
 use Rattle.ecu_mem.specs.declared.types.Source.TheVariants.{Inside, File}
 use Rattle.ecu_mem.specs.Refusals.{Reading, ◌>>=◌, both, bad_number}
 use Rattle.ecu_mem.specs.Parts.{required, choice, attribute, attribute_in}
-
--- one past the greatest address
-abbrev pub address_limit : ℕ
-address_limit = 4294967296
 
 -- a text without blanks at its ends
 abbrev pub text_of : Element → List ℕ
@@ -34,7 +31,7 @@ if_within limit (Some n) = if nat_lt n limit then Some n else None
 
 -- an address or an offset: 1 to 16 hexadecimal digits, below the limit
 abbrev pub address_in : Element → Reading ℕ
-address_in e = or_bad (if_within address_limit (hex_text (text_of e)))
+address_in e = or_bad (if_within top (hex_text (text_of e)))
 
 -- two hexadecimal digits
 abbrev pub byte_in : Element → Reading ℕ
@@ -53,7 +50,7 @@ end_in start e = address_in e >>= λ end. size_to start end
 
 abbrev pub size_from : ℕ → Option ℕ → Option ℕ
 size_from start None = None
-size_from start (Some n) = if nat_lt 0 n && nat_le (start + n) address_limit then Some n else None
+size_from start (Some n) = if nat_lt 0 n && nat_le (start + n) top then Some n else None
 
 -- decimal digits that say a size from 1, where start and size end at most at the limit
 abbrev pub size_in : ℕ → Element → Reading ℕ

@@ -20,7 +20,7 @@ mod values;
 
 pub use fault::MemFault;
 pub use resolving::resolve;
-pub use types::{ADDRESS_LIMIT, Block, Check, EcuMem, Flash, Format, Ident, Session, Source};
+pub use types::{Block, Check, EcuMem, Flash, Format, Ident, Session, Source};
 
 #[cfg(test)]
 mod tests;

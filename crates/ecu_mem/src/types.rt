@@ -1,9 +1,5 @@
 use flash_base::{Bytes, Items, Text};
 
-/// One past the greatest address: addresses and offsets are below it, and a range ends at most
-/// there. A later width of addresses raises it.
-pub const ADDRESS_LIMIT: u64 = 4_294_967_296;
-
 /// A session: what one flash process of one unit needs (SESSION of the ECU-MEM layer,
 /// ISO 22901-1).
 #[derive(Debug, Drop)]

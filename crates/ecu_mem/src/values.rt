@@ -1,14 +1,16 @@
 ghost use Rattle.std.specs.Prelude.{◌≡◌, ◌==◌, ◌<◌, codes, IfOk, IfSome};
 ghost use Rattle.std.specs.List.{list_all};
 ghost use Rattle.text_forms.specs.Numbers.{hex_text, decimal_text};
+ghost use Rattle.span_store.specs.ByteMap.{top};
 ghost use Rattle.ecu_mem.specs.Parts.{attribute};
-ghost use Rattle.ecu_mem.specs.Values.{address_limit, text_of, or_bad, text_in, if_within, address_in, byte_in, bytes_in, size_to, end_in, size_from, size_in, or_0, range_in, segment_in, filter_in, is_bytefield, if_filled, ident_value_in, format_of, format_in, plain_in, inside_in, file_in};
+ghost use Rattle.ecu_mem.specs.Values.{text_of, or_bad, text_in, if_within, address_in, byte_in, bytes_in, size_to, end_in, size_from, size_in, or_0, range_in, segment_in, filter_in, is_bytefield, if_filled, ident_value_in, format_of, format_in, plain_in, inside_in, file_in};
 
 use crate::parts::{Reader, attribute, attribute_in, choice, required};
 use crate::refusal::{Reading, bad_number, both};
-use crate::types::{ADDRESS_LIMIT, Format, Source};
+use crate::types::{Format, Source};
 use flash_base::{Bytes, NoMemory, Text};
 use odx_tree::Element;
+use span_store::TOP;
 use std::alloc::Global;
 use text_forms::{decimal_number, hex_byte, hex_bytes, hex_number, is_file_name, trimmed};
 
@@ -41,15 +43,11 @@ impl Reader for TrimmedText {
 }
 
 fn address_in(element: &Element) -> Option<u64>
-    ensures value { result ≡ if_within address_limit (hex_text (text_of element.now)) }
-    ensures small { IfSome result (λ n. n < address_limit) }
+    ensures value { result ≡ if_within top (hex_text (text_of element.now)) }
+    ensures small { IfSome result (λ n. n < top) }
 {
     let number = hex_number(text_of(element))?;
-    if number < ADDRESS_LIMIT {
-        Some(number)
-    } else {
-        None
-    }
+    if number < TOP { Some(number) } else { None }
 }
 
 /// An address or an offset.
@@ -92,7 +90,7 @@ impl Reader for HexBytes {
 }
 
 fn size_to(alloc: Global, start: u64, end: u64) -> Reading<u64>
-    requires { end < address_limit }
+    requires { end < top }
     ensures { result ≡ size_to start end }
 {
     if start <= end {
@@ -126,7 +124,7 @@ fn size_from(start: u64, size: Option<u64>) -> Option<u64>
 {
     let size = size?;
     let end = start.checked_add(size)?;
-    if size > 0 && end <= ADDRESS_LIMIT {
+    if size > 0 && end <= TOP {
         Some(size)
     } else {
         None

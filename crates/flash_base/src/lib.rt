@@ -14,8 +14,6 @@ mod fault;
 mod files;
 mod items;
 mod names;
-#[cfg(test)]
-mod tests;
 mod text;
 mod unit;
 

@@ -1,4 +1,12 @@
 pub mod Appends
+pub mod Counts
+pub mod Groups
 pub mod Looks
-pub mod Opens
+pub mod Marks
+pub mod Moves
+pub mod Notes
 pub mod OneSlot
+pub mod Opens
+pub mod Runs
+pub mod Seconds
+pub mod Versions

@@ -1,42 +1,47 @@
 -- From the bytes of a disk to the journal in memory.
 use Rattle.std.proofs.Common.{◌≡◌, ◌⊎◌, inl, inr, ℕ, ◌+◌, ◌*◌, ◌<◌, ◌≤◌, Bool, true, false, List, length, get_or, refl, sym, ◌∙◌, ap, subst, arith, Result, Ok, Err}
-use Rattle.std.specs.Prelude.{◌&&◌, ◌||◌, not, IfOk, IfErr, replicate}
-use Rattle.std.proofs.lemmas.Bool.{ne_eqb, and_left, and_parts, false≢true}
-use Rattle.std.proofs.lemmas.List.{get_or_past}
+use Rattle.std.specs.Prelude.{nat_le, ◌&&◌, ◌||◌, ◌++◌, ◌==◌, not, slice_index, IfOk, IfErr, replicate}
+use Rattle.std.proofs.lemmas.Bool.{ne_eqb, and_left, and_parts, false≢true, ltb-true}
 use Rattle.disk_model.specs.Disk.{DiskState, IsCrashImage, IsSettled, Synced}
 use Rattle.shop_model.specs.History.{History, Call, LAST, DiskCall, disk_now}
 use Rattle.disk_model.specs.declared.device.DeviceFault.{DeviceFault}
 use Rattle.flash_plan.specs.declared.outcome.Entry.{Entry}
-use Rattle.flash_plan.specs.declared.outcome.Entry.TheVariants.{Complete}
-use Rattle.journal_model.specs.Records.{Label, slots_of, is_fresh, is_journal, has}
+use Rattle.flash_plan.specs.declared.outcome.Entry.TheVariants.{Begun, Marked, Complete}
+use Rattle.journal_model.specs.Records.{Label, Form, unit_of, total, slots_of, old_form, new_form, behind, form_of, end_of, gate_at, is_fresh, is_headed, says_digest, counts, has_second, is_journal, is_new, is_migrated, is_open, is_formed, is_distinct, is_filled, is_ordered, is_standing, names, has, records}
 use Rattle.journal_steps.specs.Append.{Records}
 use Rattle.journal_steps.specs.File.{new_bytes}
 use Rattle.journal_steps.specs.Later.{HoldsOnDisk, SameDisk, IsDisk}
 use Rattle.journal_steps.specs.Make.{no_entry, Starts, CanStart, IsNew, AllFollow}
-use Rattle.journal_steps.specs.Read.{IsRead, table_ordered}
-use Rattle.journal_steps.specs.Tables.{is_found}
+use Rattle.journal_steps.specs.Move.{AllRecord, IsOld, IsSecond, CanMove, HasMoved}
+use Rattle.journal_steps.specs.Read.{IsFront, IsRead, limit_of, one_ordered}
+use Rattle.journal_steps.specs.Tables.{count_true, place_of, is_found}
 use Rattle.journal_steps.proofs.File.{new_made, new_size}
-use Rattle.journal_steps.specs.Read.{IsFront}
-use Rattle.journal_steps.proofs.Front.{front_fresh, front_journal, front_has, front_gate}
+use Rattle.journal_steps.proofs.Front.{front_fresh, front_journal, front_has, front_form, front_gate}
+use Rattle.journal_steps.proofs.Group.{retold}
+use Rattle.journal_steps.proofs.Listing.{IsBehind, behind_of}
 use Rattle.journal_steps.proofs.Made.{fresh_no_journal}
+use Rattle.journal_steps.proofs.Migrating.{old_form_of, gates_moved, second_front}
 use Rattle.journal_steps.proofs.Moments.{weakens, joins, one_call}
-use Rattle.journal_steps.proofs.Opening.{follows_itself, follows_start, follows_on, follows_synced}
-use Rattle.journal_steps.proofs.Reading.{none_of, none_found, read_ordered}
+use Rattle.journal_steps.proofs.Opening.{follows_itself, follows_start, follows_on, follows_synced, follows_records}
+use Rattle.journal_steps.proofs.Reading.{none_of, none_found}
 use Rattle.journal_steps.proofs.Slots.{below_at}
 use Rattle.journal_steps.proofs.Settled.{itself, all_settled}
 use Rattle.journal_steps.proofs.Tests.{tested_fresh, tested_journal}
+use Rattle.journal_steps.proofs.Tables.{unit_named}
+use Rattle.journal_steps.proofs.Wider.{found_wider}
 use Rattle.flash_journal.specs.declared.journal.Journal.{Journal}
 use Rattle.flash_journal.specs.declared.looking.OpenFault.{OpenFault}
 use Rattle.flash_journal.specs.declared.looking.OpenFault.TheVariants.{NotJournal, OtherPlan, DiskFault, NoMemory}
-use Rattle.flash_journal.specs.Kept.{journal_label, has_entry, IsKeptOn}
+use Rattle.flash_journal.specs.Kept.{journal_label, journal_form, has_entry, IsKeptOn}
 use Rattle.flash_journal.specs.Look.{IsWant, SaysOther}
 use Rattle.flash_journal.specs.Opened.{IsOpened, OpenAnswer, OnRefusal, HasBytes, IsEmpty, IsOrdered}
-use Rattle.flash_journal.proofs.Appends.{told_as}
 
-pub front_is : (units : ℕ) (image front : List ℕ) → IsFront (64 + 34 * units) image front → IsFront (64 + 17 * (2 * units)) image front
-front_is units image front is = subst (λ (m : ℕ). IsFront m image front) (omega arith) is
+-- the entries of a journal with these slots and this table
+pub entries_as : (j : Journal) (F : Form) (found : List Bool) → journal_form j ≡ F → j.found.items ≡ found → (e : Entry) → has_entry j e ≡ is_found F found e
+entries_as j F found form is e = λ i. is_found (form i) (is i) e
 
-pub can_start : (P : Label) (disk : DiskState) (front file : List ℕ) → length P.digest ≡ 32 → IsSettled disk → IsFront (64 + 17 * slots_of P) disk.bytes front → is_fresh front ≡ true → file ≡ new_bytes P → CanStart P disk file
+-- ------ a file that is made
+pub can_start : (P : Label) (disk : DiskState) (front file : List ℕ) → length P.digest ≡ 32 → IsSettled disk → IsFront (limit_of P) disk.bytes front → is_fresh front ≡ true → file ≡ new_bytes P → CanStart P disk file
 can_start P disk front file d32 settled is fresh file_is = subst (λ (xs : List ℕ). CanStart P disk xs) (sym file_is) (record {
   settled = settled;
   fresh = sym (front_fresh P disk.bytes front is) ∙ fresh;
@@ -44,38 +49,156 @@ can_start P disk front file d32 settled is fresh file_is = subst (λ (xs : List 
   size = new_size P d32;
 })
 
-pub kept_new : (P : Label) (j : Journal) (disk : DiskState) → IsNew P disk → journal_label j ≡ P → j.gates.items ≡ replicate (slots_of P) false → j.found.items ≡ replicate (slots_of P) false → IsKeptOn j disk
-kept_new P j disk new label gates found = record {
-  settled = new.settled;
-  records = now;
-  each = λ image left. all_settled (journal_label j) (has_entry j) disk image new.settled now left;
-  gates = λ k lt. ne_eqb _ _ (λ is. omega (arith, is, new.gates k (omega (arith, lt, ap slots_of label)))) ∙ sym (ap (λ (xs : List Bool). get_or xs k false) gates ∙ none_of (slots_of P) k);
-}
-  where
-    now : Records (journal_label j) (has_entry j) disk.bytes
-    now = subst (λ (Q : Label). Records Q (has_entry j) disk.bytes) (sym label) (told_as P no_entry (has_entry j) disk.bytes (λ e. ap (λ (xs : List Bool). is_found xs e) found ∙ none_found (slots_of P) e) new.records)
+module _ (P : Label) (j : Journal) (label : journal_label j ≡ P) (form : journal_form j ≡ new_form P 0) (gates : j.gates.items ≡ replicate (slots_of (new_form P 0)) false) (found : j.found.items ≡ replicate (slots_of (new_form P 0)) false) where
+  pub none_there : (e : Entry) → has_entry j e ≡ false
+  none_there e = entries_as j (new_form P 0) (replicate (slots_of (new_form P 0)) false) form found e ∙ none_found (new_form P 0) (slots_of (new_form P 0)) e
 
-pub opened_read : (P : Label) (j : Journal) (disk : DiskState) (front : List ℕ) (gates found : List Bool) → IsSettled disk → IsFront (64 + 17 * slots_of P) disk.bytes front → is_journal P front ≡ true → IsRead front (slots_of P) gates found
-    → journal_label j ≡ P → j.gates.items ≡ gates → j.found.items ≡ found → IsOpened P disk.bytes j disk
-opened_read P j disk front gates found settled is journal read label gates_is found_is = record {
-  opens = inr (tested_journal P disk.bytes journal2);
-  entries = λ e. sym (holds e) ∙ (λ i. sym journal2 i && has disk.bytes (slots_of P) e);
-  kept = record {
-    settled = settled;
+  pub kept_new : (disk : DiskState) → IsNew P disk → IsKeptOn j disk
+  kept_new disk new = record {
+    settled = new.settled;
     records = now;
-    each = λ image left. all_settled (journal_label j) (has_entry j) disk image settled now left;
-    gates = λ k lt. sym (front_gate P disk.bytes front is k (omega (arith, lt, ap slots_of label))) ∙ read.gate k (omega (arith, lt, ap slots_of label)) ∙ sym (ap (λ (xs : List Bool). get_or xs k false) gates_is);
-  };
+    each = λ image left. all_settled (journal_label j) (has_entry j) disk image new.settled now left;
+    form = (λ i. form_of (label i) disk.bytes) ∙ new.form ∙ sym form;
+    gates = λ k lt. (λ i. is_open (form i) disk.bytes k) ∙ shut k (omega (arith, lt, ap slots_of form)) ∙ sym ((λ i. get_or (gates i) k false) ∙ none_of (slots_of (new_form P 0)) k);
+  }
+    where
+      shut : (k : ℕ) → k < slots_of (new_form P 0) → is_open (new_form P 0) disk.bytes k ≡ false
+      shut k lt =
+          let at : 0 + (64 + k) ≡ 64 + k = omega arith in
+          let none : slice_index disk.bytes (gate_at (new_form P 0) k) ≡ 0 = ap (λ (n : ℕ). slice_index disk.bytes n) at ∙ new.gates k lt in
+          ne_eqb _ _ (λ is. omega (arith, is, none))
+
+      now : Records (journal_label j) (has_entry j) disk.bytes
+      now = subst (λ (Q : Label). Records Q (has_entry j) disk.bytes) (sym label) (retold P no_entry (has_entry j) disk.bytes (λ e. sym (none_there e)) new.records)
+
+-- ------ a journal that was read
+-- none is complete or marked that is not begun
+pub read_is_ordered : (P : Label) (bytes : List ℕ) (gates found : List Bool) (j : Journal) → is_journal P bytes ≡ true → IsRead (form_of P bytes) bytes gates found
+    → ((e : Entry) → has_entry j e ≡ is_found (form_of P bytes) found e) → IsOrdered j
+read_is_ordered P bytes gates found j is read same = record {
+  begun = λ u there. told (Begun u) ((behind u (named (Complete u) there)).complete (held (Complete u) there));
+  marked = λ u s there.
+      let parts = and_parts _ _ (name (Marked u s) there) in
+      told (Begun u) ((behind u (ltb-true u F.units parts.0)).marked s (ltb-true s _ parts.1) (held (Marked u s) there));
 }
   where
-    journal2 : is_journal P disk.bytes ≡ true
-    journal2 = sym (front_journal P disk.bytes front is) ∙ journal
+    F : Form
+    F = form_of P bytes
 
-    holds : (e : Entry) → has disk.bytes (slots_of P) e ≡ has_entry j e
-    holds e = sym (front_has P disk.bytes front is e) ∙ read.entry e ∙ sym (ap (λ (xs : List Bool). is_found xs e) found_is)
+    held : (e : Entry) → has_entry j e ≡ true → has F bytes e ≡ true
+    held e there = read.entry e ∙ sym (same e) ∙ there
 
-    now : Records (journal_label j) (has_entry j) disk.bytes
-    now = subst (λ (Q : Label). Records Q (has_entry j) disk.bytes) (sym label) (record { journal = journal2; entries = holds })
+    told : (e : Entry) → has F bytes e ≡ true → has_entry j e ≡ true
+    told e there = same e ∙ sym (read.entry e) ∙ there
+
+    name : (e : Entry) → has_entry j e ≡ true → names F e ≡ true
+    name e there = (and_parts (names F e) (get_or found (place_of F e) false) (sym (same e) ∙ there)).0
+
+    named : (e : Entry) → has_entry j e ≡ true → unit_of e < F.units
+    named e there = unit_named F e (name e there)
+
+    standing : is_standing P bytes ≡ true
+    standing = (and_parts (is_headed bytes && says_digest P bytes 0) (is_standing P bytes) is).1
+
+    filled : is_filled F bytes ≡ true
+    filled = (and_parts (counts P bytes && has_second P bytes) (is_filled F bytes) standing).1
+
+    ordered : is_ordered F bytes ≡ true
+    ordered = (and_parts (nat_le (end_of F) (length bytes) && is_formed F bytes && is_distinct F bytes) (is_ordered F bytes) filled).1
+
+    behind : (u : ℕ) → u < F.units → IsBehind F (has F bytes) u
+    behind u lt = behind_of F (has F bytes) u (below_at F.units (one_ordered F (has F bytes)) ordered u lt)
+
+module _ (P : Label) (disk : DiskState) (front : List ℕ) (is : IsFront (limit_of P) disk.bytes front) (settled : IsSettled disk) (journal : is_journal P front ≡ true) where
+  journal_there : is_journal P disk.bytes ≡ true
+  journal_there = sym (front_journal P disk.bytes front is) ∙ journal
+
+  -- one of version 2
+  pub opened_read : (j : Journal) (gates found : List Bool) → IsRead (form_of P front) front gates found → journal_label j ≡ P → journal_form j ≡ form_of P front
+      → j.gates.items ≡ gates → j.found.items ≡ found → IsOpened P disk.bytes j disk
+  opened_read j gates found read label form gates_is found_is = record {
+    opens = inr (tested_journal P disk.bytes journal_there);
+    entries = λ e. sym (holds e) ∙ (λ i. sym journal_there i && has (form_of P disk.bytes) disk.bytes e);
+    kept = record {
+      settled = settled;
+      records = now;
+      each = λ image left. all_settled (journal_label j) (has_entry j) disk image settled now left;
+      form = (λ i. form_of (label i) disk.bytes) ∙ sym (front_form P disk.bytes front is) ∙ sym form;
+      gates = λ k lt. (λ i. is_open (there i) disk.bytes k) ∙ sym (front_gate P disk.bytes front is k (omega (arith, lt, ap slots_of there)))
+          ∙ (λ i. is_open (sym (front_form P disk.bytes front is) i) front k) ∙ read.gate k (omega (arith, lt, ap slots_of form)) ∙ sym (λ i. get_or (gates_is i) k false);
+    };
+  }
+    where
+      there : journal_form j ≡ form_of P disk.bytes
+      there = form ∙ front_form P disk.bytes front is
+
+      holds : (e : Entry) → has (form_of P disk.bytes) disk.bytes e ≡ has_entry j e
+      holds e = sym (front_has P disk.bytes front is e) ∙ read.entry e ∙ sym (entries_as j (form_of P front) found form found_is e)
+
+      now : Records (journal_label j) (has_entry j) disk.bytes
+      now = subst (λ (Q : Label). Records Q (has_entry j) disk.bytes) (sym label) (record { journal = journal_there; entries = holds })
+
+  -- ------ one of version 1
+  abbrev R : Entry → Bool
+  R = has (form_of P disk.bytes) disk.bytes
+
+  pub holds_now : Records P R disk.bytes
+  holds_now = record { journal = journal_there; entries = λ e. refl }
+
+  pub can_move : (at : ℕ) (second : List ℕ) → IsOld front → at ≡ behind P → IsSecond P front second → CanMove P R disk at second
+  can_move at second old place made = record {
+    place = place;
+    settled = settled;
+    holds = holds_now;
+    old = record {
+      version = (λ i. sym (is.same 8 (omega arith)) i == 2) ∙ old.version;
+      stays = (λ i. not (sym (is.same 8 (omega arith)) i == 2) && (sym (is.same 63 (omega arith)) i == 165)) ∙ old.stays;
+    };
+    written = second_front P disk.bytes front second is made;
+  }
+
+  pub opened_moved : (j : Journal) (new : DiskState) (gates found : List Bool) → IsOld front → IsRead (form_of P front) front gates found → HasMoved P R disk.bytes new
+      → journal_label j ≡ P → journal_form j ≡ new_form P (behind P) → j.gates.items ≡ gates ++ replicate (total P.segments) false → j.found.items ≡ found ++ replicate (total P.segments) false
+      → IsOpened P disk.bytes j new
+  opened_moved j new gates found old read moved label form gates_is found_is = record {
+    opens = inr (tested_journal P disk.bytes journal_there);
+    entries = λ e. sym (holds e) ∙ (λ i. sym journal_there i && R e);
+    kept = record {
+      settled = moved.settled;
+      records = now;
+      each = λ image left. all_settled (journal_label j) (has_entry j) new image moved.settled now left;
+      form = (λ i. form_of (label i) new.bytes) ∙ moved.form ∙ sym form;
+      gates = λ k lt. (λ i. is_open (form i) new.bytes k)
+          ∙ gates_moved P R disk.bytes new gates moved (read.gates_size ∙ ap slots_of first) was k (omega (arith, lt, ap slots_of form))
+          ∙ sym (λ i. get_or (gates_is i) k false);
+    };
+  }
+    where
+      first : form_of P front ≡ old_form P
+      first = old_form_of P front old
+
+      here : form_of P disk.bytes ≡ old_form P
+      here = sym (front_form P disk.bytes front is) ∙ first
+
+      holds : (e : Entry) → R e ≡ has_entry j e
+      holds e = sym (front_has P disk.bytes front is e) ∙ read.entry e ∙ (λ i. is_found (first i) found e)
+          ∙ sym (found_wider P (behind P) found (read.found_size ∙ ap slots_of first) e) ∙ sym (entries_as j (new_form P (behind P)) (found ++ replicate (total P.segments) false) form found_is e)
+
+      now : Records (journal_label j) (has_entry j) new.bytes
+      now = subst (λ (Q : Label). Records Q (has_entry j) new.bytes) (sym label) (retold P R (has_entry j) new.bytes holds moved.holds)
+
+      was : (k : ℕ) → k < slots_of (old_form P) → is_open (old_form P) disk.bytes k ≡ get_or gates k false
+      was k lt = (λ i. is_open (sym here i) disk.bytes k) ∙ sym (front_gate P disk.bytes front is k (omega (arith, lt, ap slots_of here)))
+          ∙ (λ i. is_open (sym (front_form P disk.bytes front is) i) front k) ∙ read.gate k (omega (arith, lt, ap slots_of first))
+
+  pub move_follows : (old new : History) → disk_now old ≡ disk → HoldsOnDisk old new (AllRecord P R) → HoldsOnDisk old new (AllFollow P disk)
+  move_follows old new at each = weakens (AllRecord P R) (AllFollow P disk) old new (λ d all. follows_records P R disk d (itself disk settled) holds_now all) each
+
+-- the entries of a journal whose tables were widened
+pub wider_entries : (P : Label) (F : Form) (j : Journal) (found : List Bool) → F ≡ old_form P → length found ≡ slots_of F → journal_form j ≡ new_form P (behind P) → j.found.items ≡ found ++ replicate (total P.segments) false
+    → (e : Entry) → has_entry j e ≡ is_found F found e
+wider_entries P F j found first size form found_is e = entries_as j (new_form P (behind P)) (found ++ replicate (total P.segments) false) form found_is e
+    ∙ found_wider P (behind P) found (size ∙ ap slots_of first) e ∙ (λ i. is_found (sym first i) found e)
 
 -- the answer where a file was made
 pub answer_made : (P : Label) (old : List ℕ) (r : Result Journal OpenFault) (disk : DiskState) → is_fresh old ≡ true → IfOk r IsEmpty → IfOk r (λ j. IsKeptOn j disk) → IfErr r IsWant → OpenAnswer P old r disk
@@ -133,30 +256,22 @@ synced_same old mid new r bounded did same still = joins (HasBytes (disk_now old
 pub answer_synced : (P : Label) (old mid : DiskState) (r : Result Journal OpenFault) (disk : DiskState) → mid.bytes ≡ old.bytes → OpenAnswer P mid.bytes r disk → OpenAnswer P old.bytes r disk
 answer_synced P old mid r disk same answer = subst (λ (xs : List ℕ). OpenAnswer P xs r disk) same answer
 
--- ------ none is complete that is not begun
+-- ------ none is complete or marked that is not begun
 pub empty_ordered : (r : Result Journal OpenFault) → IfOk r IsEmpty → IfOk r IsOrdered
-empty_ordered (Ok j) is = record { begun = λ u done. absurd (false≢true (sym (is.none (Complete u)) ∙ done)) }
+empty_ordered (Ok j) is = record {
+  begun = λ u there. absurd (false≢true (sym (is.none (Complete u)) ∙ there));
+  marked = λ u s there. absurd (false≢true (sym (is.none (Marked u s)) ∙ there));
+}
 empty_ordered (Err e) is = tt
 
-or_of : (a b : Bool) → (not a || b) ≡ true → a ≡ true → b ≡ true
-or_of true b is e = is
-or_of false b is e = absurd (false≢true e)
+-- what is opened, once the disk is told
+pub answer_opened : (P : Label) (old : List ℕ) (T : Type 0) (r : Result Journal OpenFault) (disk : DiskState) → IfOk r (λ j. T → IsOpened P old j disk) → IfErr r IsWant → T → OpenAnswer P old r disk
+answer_opened P old T (Ok j) disk opened want told = opened told
+answer_opened P old T (Err NotJournal) disk opened want told = absurd want
+answer_opened P old T (Err (OtherPlan said)) disk opened want told = absurd want
+answer_opened P old T (Err DiskFault) disk opened want told = tt
+answer_opened P old T (Err NoMemory) disk opened want told = tt
 
-under_or_not : (a b : ℕ) → (a < b) ⊎ (b ≤ a)
-under_or_not a b = grind arith
-
-pub tables_ordered : (P : Label) (bytes : List ℕ) (j : Journal) (gates found : List Bool) → is_journal P bytes ≡ true → IsRead bytes (slots_of P) gates found → j.found.items ≡ found → IsOrdered j
-tables_ordered P bytes j gates found is read same = record {
-  begun = λ u done.
-      let standing = (and_parts _ _ is).1 in
-      let all : table_ordered found P.units ≡ true = sym (read_ordered bytes (slots_of P) P.units gates found read) ∙ (and_parts _ _ standing).1 in
-      let has : get_or found (2 * u + 1) false ≡ true = ap (λ (xs : List Bool). get_or xs (2 * u + 1) false) (sym same) ∙ done in
-      let begun : get_or found (2 * u) false ≡ true = within u has all in
-      ap (λ (xs : List Bool). get_or xs (2 * u) false) same ∙ begun;
-}
-  where
-    within : (u : ℕ) → get_or found (2 * u + 1) false ≡ true → table_ordered found P.units ≡ true → get_or found (2 * u) false ≡ true
-    within u has all = elim (under_or_not u P.units) [
-      | inl lt ↦ or_of _ _ (below_at P.units (λ (k : ℕ). not (get_or found (2 * k + 1) false) || get_or found (2 * k) false) all u lt) has
-      | inr le ↦ absurd (false≢true (sym (get_or_past found (2 * u + 1) false (omega (arith, le, read.found_size))) ∙ has))
-    ]
+-- what is opened over a disk that is the same
+pub answer_same : (P : Label) (old mid : DiskState) (r : Result Journal OpenFault) (disk : DiskState) → mid ≡ old → OpenAnswer P mid.bytes r disk → OpenAnswer P old.bytes r disk
+answer_same P old mid r disk same answer = subst (λ (d : DiskState). OpenAnswer P d.bytes r disk) same answer

@@ -1,5 +1,10 @@
+pub mod Bodies
+pub mod Causes
 pub mod Kept
+pub mod Layouts
 pub mod Look
+pub mod Noted
 pub mod Opened
+pub mod Parts
 pub mod Seen
 pub mod Ways

@@ -8,8 +8,6 @@ use Rattle.journal_steps.specs.Read.{is_among, AreOnce}
 use Rattle.journal_steps.specs.Tested.{tested, NotMade, NoJournal, OfOtherPlan, OfThisPlan}
 use Rattle.flash_journal.specs.declared.looking.OpenFault.{OpenFault}
 use Rattle.flash_journal.specs.declared.looking.OpenFault.TheVariants.{NotJournal, OtherPlan, DiskFault, NoMemory}
-use Rattle.flash_journal.specs.declared.reading.ReadFault.{ReadFault}
-use Rattle.flash_journal.specs.declared.reading.ReadFault.TheVariants.{Disk, Memory}
 
 -- the tests find a file that is not made yet, or a journal of this plan
 abbrev pub Opens : Label → List ℕ → Type 0
@@ -45,10 +43,6 @@ HasCause old new NotJournal = Unit {0}
 HasCause old new (OtherPlan said) = Unit {0}
 HasCause old new DiskFault = Rises old.disk_faults new.disk_faults
 HasCause old new NoMemory = Unit {0}
-
-abbrev pub ReadCause : History → History → ReadFault → Type 0
-ReadCause old new Disk = Rises old.disk_faults new.disk_faults
-ReadCause old new Memory = Unit {0}
 
 -- only the disk or memory was wanting
 abbrev pub IsWant : OpenFault → Type 0

@@ -2,7 +2,7 @@
 use Rattle.std.specs.Prelude.{◌≡◌, ℕ, true, false, List, Result, Ok, Err}
 use Rattle.disk_model.specs.Disk.{DiskState}
 use Rattle.flash_plan.specs.declared.outcome.Entry.{Entry}
-use Rattle.flash_plan.specs.declared.outcome.Entry.TheVariants.{Begun, Complete}
+use Rattle.flash_plan.specs.declared.outcome.Entry.TheVariants.{Begun, Marked, Complete}
 use Rattle.journal_model.specs.Records.{Label, records}
 use Rattle.flash_journal.specs.declared.journal.Journal.{Journal}
 use Rattle.flash_journal.specs.declared.looking.OpenFault.{OpenFault}
@@ -42,6 +42,7 @@ HasBytes bytes d = d.bytes ≡ bytes
 pub record IsEmpty (j : Journal) : Type 0 where
   pub none : (e : Entry) → has_entry j e ≡ false
 
--- none is complete that is not begun, over any disk
+-- none is complete or marked that is not begun, over any disk
 pub record IsOrdered (j : Journal) : Type 0 where
   pub begun : (u : ℕ) → has_entry j (Complete u) ≡ true → has_entry j (Begun u) ≡ true
+  pub marked : (u s : ℕ) → has_entry j (Marked u s) ≡ true → has_entry j (Begun u) ≡ true

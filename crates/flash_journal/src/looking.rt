@@ -1,13 +1,14 @@
-ghost use Rattle.std.specs.Prelude.{◌≡◌, ◌≤◌, ◌*◌, [], IsTrue, IfOk, IfErr};
+ghost use Rattle.std.specs.Prelude.{◌≡◌, [], IsTrue, IfOk, IfErr};
 ghost use Rattle.shop_model.specs.History.{disk_now};
+ghost use Rattle.journal_model.specs.Records.{label_of};
 ghost use Rattle.journal_steps.specs.Later.{IsDiskLater, SameDisk};
-ghost use Rattle.flash_journal.specs.Seen.{label};
-ghost use Rattle.flash_journal.specs.Look.{IsLookAnswer, HasCause, SaysOther, IsWant};
+ghost use Rattle.flash_journal.specs.Look.{IsLookAnswer, HasCause, SaysOther};
 
+use crate::layout::limit;
 use crate::reading::{ReadFault, read_front};
 use crate::tables::Tables;
-use crate::verdict::{Verdict, look_at};
-use flash_plan::Entries;
+use crate::verdict::{Reading, Verdict, look_at};
+use flash_plan::{Entries, Plan};
 use shop_model::Shop;
 use std::alloc::Global;
 
@@ -24,19 +25,15 @@ pub enum OpenFault {
     NoMemory,
 }
 
-/// The entries that the journal records, in the order of their slots; none where the file is not made yet.
+/// The entries that the journal of a plan records, in the order of their slots; none where the file is not made
+/// yet.
 ///
-/// `digest` is the plan's SHA-256 and `units` its number of units. Only reads: the length once, and then at
-/// most what the plan's slots need, in one read.
-pub fn look<S: Shop>(
-    alloc: Global,
-    shop: &mut S,
-    digest: &[u8; 32],
-    units: u16,
-) -> Result<Entries, OpenFault>
+/// Only reads: the length once, and then at most what the plan's slots need, in one read. A version 1 file is
+/// read and not migrated.
+pub fn look<S: Shop>(alloc: Global, shop: &mut S, plan: &Plan) -> Result<Entries, OpenFault>
     // The entries are the records of what a read gives; a refusal is answered exactly where the tests find it.
-    ensures answer { IsTrue S.tells_disk → IsLookAnswer (label digest.now units) (disk_now (S.history shop.old)).bytes result }
-    ensures other { IfErr result (SaysOther digest.now) }
+    ensures answer { IsTrue S.tells_disk → IsLookAnswer (label_of plan.now) (disk_now (S.history shop.old)).bytes result }
+    ensures other { IfErr result (SaysOther (label_of plan.now).digest) }
     ensures cause { IfErr result (HasCause (S.history shop.old) (S.history shop.new)) }
 
     // At each moment disk and vehicle are as at the start.
@@ -44,38 +41,43 @@ pub fn look<S: Shop>(
     ensures disk { disk_now (S.history shop.new) ≡ disk_now (S.history shop.old) }
     ensures later { IsDiskLater (S.history shop.old) (S.history shop.new) }
 {
-    let limit = 64 + 34 * units as u64;
-    let front = match read_front(alloc, shop, limit) {
+    let front = match read_front(alloc, shop, limit(plan) as u64) {
         Ok(front) => front,
         Err(ReadFault::Disk) => return Err(OpenFault::DiskFault),
         Err(ReadFault::Memory) => return Err(OpenFault::NoMemory),
     };
-    entries_of(alloc, &front, digest, units)
+    look_bytes(alloc, &front, plan)
 }
 
-// The entries of the beginning of a file.
-fn entries_of(
-    alloc: Global,
-    front: &[u8],
-    digest: &[u8; 32],
-    units: u16,
-) -> Result<Entries, OpenFault>
-    ensures answer { IsLookAnswer (label digest.now units) front.now result }
-    ensures other { IfErr result (SaysOther digest.now) }
+/// The entries that these bytes record, by the tests of [`look`]. It makes no call of a disk, and never answers
+/// a disk fault.
+pub fn look_bytes(alloc: Global, image: &[u8], plan: &Plan) -> Result<Entries, OpenFault>
+    ensures answer { IsLookAnswer (label_of plan.now) image.now result }
+    ensures other { IfErr result (SaysOther (label_of plan.now).digest) }
     ensures no_fault { result ≡ Err OpenFault.DiskFault → ⊥ }
 {
-    match look_at(alloc, front, digest, units) {
+    match look_at(alloc, image, plan) {
         Ok(Verdict::Fresh) => Ok(Entries::new(alloc)),
         Ok(Verdict::NotJournal) => Err(OpenFault::NotJournal),
         Ok(Verdict::OtherPlan(said)) => Err(OpenFault::OtherPlan { said }),
-        Ok(Verdict::Journal(tables)) => {
-            let Tables {
-                gates: _gates,
-                found: _found,
-                entries,
-            } = tables;
-            Ok(Entries::from_vec(entries))
-        }
+        Ok(Verdict::Journal(reading)) => Ok(entries_of(reading)),
         Err(_) => Err(OpenFault::NoMemory),
     }
+}
+
+// The entries that were read.
+fn entries_of(reading: Reading) -> Entries
+    ensures { result ≡ reading.tables.entries.items }
+{
+    let Reading {
+        version: _version,
+        layout: _layout,
+        tables,
+    } = reading;
+    let Tables {
+        gates: _gates,
+        found: _found,
+        entries,
+    } = tables;
+    Entries::from_vec(entries)
 }

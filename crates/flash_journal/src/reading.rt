@@ -2,7 +2,7 @@ ghost use Rattle.std.specs.Prelude.{◌≡◌, ◌≤◌, IsTrue, IfOk, IfErr, l
 ghost use Rattle.shop_model.specs.History.{disk_now};
 ghost use Rattle.journal_steps.specs.Later.{IsDiskLater, SameDisk};
 ghost use Rattle.journal_steps.specs.Read.{IsFront};
-ghost use Rattle.flash_journal.specs.Look.{ReadCause};
+ghost use Rattle.flash_journal.specs.Causes.{ReadCause};
 
 use flash_base::NoMemory;
 use shop_model::Shop;

@@ -1,15 +1,25 @@
-ghost use Rattle.std.specs.Prelude.{◌≡◌, ◌<◌, ℕ, true, false, length, get_or};
-ghost use Rattle.journal_steps.specs.Tables.{count_true};
+ghost use Rattle.std.specs.Prelude.{◌≡◌, ◌≤◌, length};
+ghost use Rattle.journal_steps.specs.Tables.{open_run as first_open, closed_run as first_closed};
 
-/// The lowest slot whose gate is closed.
-pub fn lowest_closed(gates: &[bool]) -> usize
-    requires { count_true gates.now < length gates.now }
-    ensures below { result < length gates.now }
-    ensures closed { get_or gates.now result false ≡ false }
-    ensures lowest { (k : ℕ) → k < result → get_or gates.now k false ≡ true }
+/// How many gates are open before the first that is closed.
+pub fn open_run(gates: &[bool]) -> usize
+    ensures run { result ≡ first_open gates.now }
+    ensures within { result ≤ length gates.now }
 {
     let mut slot = 0;
-    while gates[slot] {
+    while slot < gates.len() && gates[slot] {
+        slot += 1;
+    }
+    slot
+}
+
+/// How many gates are closed before the first that is open.
+pub fn closed_run(gates: &[bool]) -> usize
+    ensures run { result ≡ first_closed gates.now }
+    ensures within { result ≤ length gates.now }
+{
+    let mut slot = 0;
+    while slot < gates.len() && !gates[slot] {
         slot += 1;
     }
     slot

@@ -1,7 +1,7 @@
 ghost use Rattle.std.specs.Prelude.{◌≡◌, ◌+◌, ◌∷◌, ◌/◌, ◌%◌, ◌≤◌, true, false, length, replicate, IsNone, IfSome};
 ghost use Rattle.flash_plan.specs.declared.outcome.Entry.{Entry as AnEntry};
 ghost use Rattle.journal_model.specs.Records.{body_of, stands_at};
-ghost use Rattle.journal_steps.specs.Tables.{is_plain, place_of};
+ghost use Rattle.flash_journal.specs.Seen.{entry_like as an_entry_like};
 
 use flash_plan::Entry;
 
@@ -40,17 +40,6 @@ pub fn spelling(entry: Entry) -> [u8; 16]
     }
 }
 
-/// Where an entry stands in the table of all entries of a plan; a mark has no place of its own.
-pub fn place_in_table(entry: Entry) -> usize
-    ensures { result ≡ place_of entry }
-{
-    match entry {
-        Entry::Begun(unit) => 2 * unit as usize,
-        Entry::Marked { unit, .. } => 2 * unit as usize,
-        Entry::Complete(unit) => 2 * unit as usize + 1,
-    }
-}
-
 /// Whether this text stands at the place.
 pub fn stands(bytes: &[u8], at: usize, text: &[u8]) -> bool
     requires { at + length text.now ≤ length bytes.now }
@@ -64,19 +53,26 @@ pub fn stands(bytes: &[u8], at: usize, text: &[u8]) -> bool
     true
 }
 
-/// The entry without marks whose 16 bytes stand at the place.
+// The entry that these bytes can only be, by its kind.
+fn entry_like(kind: u8, unit: u16, segment: u16) -> Entry
+    ensures { result ≡ an_entry_like kind unit segment }
+{
+    match kind {
+        1 => Entry::Begun(unit),
+        3 => Entry::Marked { unit, segment },
+        _ => Entry::Complete(unit),
+    }
+}
+
+/// The entry whose 16 bytes stand at the place.
 pub fn entry_at(bytes: &[u8], at: usize) -> Option<Entry>
     requires { at + 16 ≤ length bytes.now }
     ensures some { IfSome result (λ e. stands_at bytes.now at 16 (body_of e) ≡ true) }
-    ensures plain { IfSome result (λ e. is_plain e ≡ true) }
-    ensures none { IsNone result → (e : AnEntry) → is_plain e ≡ true → stands_at bytes.now at 16 (body_of e) ≡ false }
+    ensures none { IsNone result → (e : AnEntry) → stands_at bytes.now at 16 (body_of e) ≡ false }
 {
     let unit = 256 * bytes[at + 2] as u16 + bytes[at + 3] as u16;
-    let entry = if bytes[at] == 1 {
-        Entry::Begun(unit)
-    } else {
-        Entry::Complete(unit)
-    };
+    let segment = 256 * bytes[at + 4] as u16 + bytes[at + 5] as u16;
+    let entry = entry_like(bytes[at], unit, segment);
     if stands(bytes, at, &spelling(entry)) {
         Some(entry)
     } else {

@@ -1,8 +1,12 @@
-ghost use Rattle.std.specs.Prelude.{◌≡◌, ◌+◌, ◌*◌, ◌<◌, ◌≤◌, [], false, length, replicate, IfOk};
-ghost use Rattle.journal_steps.specs.Read.{table_ordered};
+ghost use Rattle.std.specs.Prelude.{◌≡◌, ◌<◌, ◌≤◌, [], false, length, replicate, get_or, IfOk};
+ghost use Rattle.std.specs.List.{list_all};
+ghost use Rattle.journal_model.specs.Records.{slots_of, end_of};
+ghost use Rattle.journal_steps.specs.Read.{needs_none};
+ghost use Rattle.flash_journal.specs.Layouts.{layout_form};
 ghost use Rattle.flash_journal.specs.Seen.{HasSlotsUpTo, IsReadSlot, AreSlots};
 
-use crate::spelling::{entry_at, place_in_table};
+use crate::layout::Layout;
+use crate::spelling::entry_at;
 use flash_base::NoMemory;
 use flash_plan::Entry;
 use std::alloc::Global;
@@ -18,13 +22,12 @@ pub struct Tables {
     pub entries: Vec<Entry>,
 }
 
-/// The tables of a journal with no entry.
-pub fn no_tables(alloc: Global, units: u16) -> Result<Tables, NoMemory>
-    ensures gates { IfOk result (λ t. t.gates.items ≡ replicate (2 * units) false) }
-    ensures found { IfOk result (λ t. t.found.items ≡ replicate (2 * units) false) }
+/// The tables of a journal with so many slots and no entry.
+pub fn no_tables(alloc: Global, slots: usize) -> Result<Tables, NoMemory>
+    ensures gates { IfOk result (λ t. t.gates.items ≡ replicate slots false) }
+    ensures found { IfOk result (λ t. t.found.items ≡ replicate slots false) }
     ensures entries { IfOk result (λ t. t.entries.items ≡ []) }
 {
-    let slots = 2 * units as usize;
     Ok(Tables {
         gates: vec![in alloc; false; slots]?,
         found: vec![in alloc; false; slots]?,
@@ -32,23 +35,29 @@ pub fn no_tables(alloc: Global, units: u16) -> Result<Tables, NoMemory>
     })
 }
 
-// Reads one slot into the tables. False: it is open, and its body is not in the form, names no unit of the
-// plan or stands in a lower slot too.
-fn read_slot(bytes: &[u8], units: u16, slot: usize, tables: &mut Tables) -> Result<bool, NoMemory>
-    requires long { 64 + 17 * (2 * units) ≤ length bytes.now }
-    requires slot { slot < 2 * units }
-    requires so_far { HasSlotsUpTo bytes.now (2 * units) units slot tables.old }
-    ensures { IfOk result (IsReadSlot bytes.now (2 * units) units slot tables.new) }
+// Reads one slot into the tables. False: it is open, and its body is not in the form, names no unit or segment
+// of the plan, or stands in a lower slot too.
+fn read_slot(
+    bytes: &[u8],
+    layout: &Layout,
+    slot: usize,
+    tables: &mut Tables,
+) -> Result<bool, NoMemory>
+    requires long { end_of (layout_form layout.now) ≤ length bytes.now }
+    requires slot { slot < slots_of (layout_form layout.now) }
+    requires so_far { HasSlotsUpTo (layout_form layout.now) bytes.now slot tables.old }
+    ensures { IfOk result (IsReadSlot (layout_form layout.now) bytes.now slot tables.new) }
 {
-    let slots = 2 * units as usize;
-    if bytes[64 + slot] != 0xA5 {
+    if bytes[layout.gate_at(slot)] != 0xA5 {
         return Ok(true);
     }
-    let Some(entry) = entry_at(bytes, 64 + slots + 16 * slot) else {
+    let Some(entry) = entry_at(bytes, layout.body_at(slot)) else {
         return Ok(false);
     };
-    let place = place_in_table(entry);
-    if place >= slots || tables.found[place] {
+    let Some(place) = layout.place(entry) else {
+        return Ok(false);
+    };
+    if tables.found[place] {
         return Ok(false);
     }
     tables.entries.push(entry)?;
@@ -58,28 +67,43 @@ fn read_slot(bytes: &[u8], units: u16, slot: usize, tables: &mut Tables) -> Resu
 }
 
 /// The tables of the slots, if each open body is in the form and none stands twice.
-pub fn read_slots(alloc: Global, bytes: &[u8], units: u16) -> Result<Option<Tables>, NoMemory>
-    requires { 64 + 17 * (2 * units) ≤ length bytes.now }
-    ensures { IfOk result (AreSlots bytes.now (2 * units) units) }
+pub fn read_slots(alloc: Global, bytes: &[u8], layout: &Layout) -> Result<Option<Tables>, NoMemory>
+    requires { end_of (layout_form layout.now) ≤ length bytes.now }
+    ensures { IfOk result (AreSlots (layout_form layout.now) bytes.now) }
 {
-    let mut tables = no_tables(alloc, units)?;
-    for slot in 0..2 * units as usize {
-        if !read_slot(bytes, units, slot, &mut tables)? {
+    let mut tables = no_tables(alloc, layout.slots())?;
+    for slot in 0..layout.slots() {
+        if !read_slot(bytes, layout, slot, &mut tables)? {
             return Ok(None);
         }
     }
     Ok(Some(tables))
 }
 
-/// Whether no entry is complete that is not begun.
-pub fn ordered(found: &[bool], units: u16) -> bool
-    requires { length found.now ≡ 2 * units }
-    ensures { result ≡ table_ordered found.now units }
+// Whether the table has an entry at the place.
+fn is_set(found: &[bool], place: usize) -> bool
+    ensures { result ≡ get_or found.now place false }
 {
-    for unit in 0..units as usize {
-        if found[2 * unit + 1] && !found[2 * unit] {
-            return false;
-        }
+    match found.get(place) {
+        Some(set) => *set,
+        None => false,
     }
-    true
+}
+
+/// Whether an entry is of a unit that is begun, or says itself that it is.
+pub fn is_behind(found: &[bool], entry: Entry) -> bool
+    ensures { result ≡ needs_none found.now entry }
+{
+    match entry {
+        Entry::Begun(_unit) => true,
+        Entry::Marked { unit, .. } => is_set(found, 2 * unit as usize),
+        Entry::Complete(unit) => is_set(found, 2 * unit as usize),
+    }
+}
+
+/// Whether no entry is complete or marked that is not begun.
+pub fn ordered(found: &[bool], entries: &[Entry]) -> bool
+    ensures { result ≡ list_all (needs_none found.now) entries.now }
+{
+    entries.iter().all(|entry| is_behind(found, *entry))
 }

@@ -7,6 +7,7 @@ use Rattle.flash_base.specs.declared.unit.Width.{Width}
 use Rattle.flash_order.specs.declared.fault.FieldFault.{FieldFault}
 use Rattle.flash_order.specs.declared.fault.FieldFault.TheVariants.{Bad}
 use Rattle.flash_plan.specs.Plan.{is_name_byte}
+use Rattle.span_store.specs.ByteMap.{top}
 use Rattle.text_forms.specs.Bytes.{byte_text}
 use Rattle.text_forms.specs.FileNames.{file_name}
 use Rattle.text_forms.specs.Numbers.{hex_text}
@@ -87,19 +88,19 @@ task_name d = as_str d >=> λ t. only_if (is_task_name t) t
 abbrev pub session_id : Data → Option (List ℕ)
 session_id d = as_str d >=> λ t. only_if (nat_le 1 (length t) && nat_le (length t) 128) t
 
--- 1 to 16 hexadecimal digits that say a number below 2^32
+-- 1 to 16 hexadecimal digits that say an address
 abbrev pub place : Data → Option ℕ
-place d = as_str d >=> λ t. hex_text t >=> λ n. only_if (nat_lt n 4294967296) n
+place d = as_str d >=> λ t. hex_text t >=> λ n. only_if (nat_lt n top) n
 
--- a digit from 1 to 4
-abbrev pub width_digit : ℕ → Option ℕ
-width_digit c = only_if (nat_le 49 c && nat_le c 52) (c - 48)
+-- the value of a digit from '1' to a last one
+abbrev pub width_digit : ℕ → ℕ → Option ℕ
+width_digit last c = only_if (nat_le 49 c && nat_le c last) (c - 48)
 
 abbrev pub width_text : List ℕ → Option Width
-width_text (s ∷ a ∷ []) = width_digit s >=> λ size. width_digit a >=> λ at. Some (record { size = size; at = at })
+width_text (s ∷ a ∷ []) = width_digit 52 s >=> λ size. width_digit 53 a >=> λ at. Some (record { size = size; at = at })
 width_text _ = None
 
--- two digits, for the size and for the address
+-- two digits: the bytes of a size, 1 to 4, and of an address, 1 to 5
 abbrev pub width : Data → Option Width
 width d = as_str d >=> width_text
 

@@ -8,6 +8,7 @@ use Rattle.flash_order.specs.declared.order.Task.{Task}
 use Rattle.flash_order.specs.declared.reading.Head.{Head}
 use Rattle.flash_plan.specs.declared.unit.Wanted.{Wanted}
 use Rattle.flash_plan.specs.Plan.{IsTaskName, IsKeyRule, IsWidth}
+use Rattle.span_store.specs.ByteMap.{top}
 use Rattle.text_forms.specs.FileNames.{file_name}
 
 -- a check routine of the order's own
@@ -23,7 +24,7 @@ pub record IsAsked (w : Wanted) : Type 0 where
   pub filled : Each (λ v. 1 ≤ length v) w.values
 
 abbrev pub IsSource : Source → Type 0
-IsSource (Raw file at idents) = IsTrue (file_name file) × (at < 4294967296) × Each IsAsked idents
+IsSource (Raw file at idents) = IsTrue (file_name file) × (at < top) × Each IsAsked idents
 IsSource (Session id dids fill) = (1 ≤ length id) × (length id ≤ 128) × Each (λ d. d.1 < 65536) dids × MatchOption fill (Unit {0}) (λ b. b < 256)
 
 pub record IsTask (t : Task) : Type 0 where

@@ -1,15 +1,17 @@
-ghost use Rattle.std.specs.Prelude.{◌≡◌, ◌⊎◌, ◌<◌, ◌≤◌, Err, IfOk, IfSome, IsTrue, codes, length, option_map};
+ghost use Rattle.std.specs.Prelude.{◌≡◌, ◌⊎◌, ◌<◌, ◌≤◌, ◌-◌, Err, IfOk, IfSome, IsTrue, codes, length, option_map};
 ghost use Rattle.std.specs.List.{list_all};
 ghost use Rattle.serde_json.specs.Find.{get};
 ghost use Rattle.serde_json.specs.View.{view};
 ghost use Rattle.flash_order.specs.Fields.{address, check, chosen, file, four_digits, is_task_name, needed, one_byte, place, relinks, session_id, task_name, whole, width, width_digit, width_text};
 ghost use Rattle.flash_order.specs.Promises.{IsCheck};
 ghost use Rattle.flash_plan.specs.Plan.{is_name_byte, IsTaskName, IsWidth};
+ghost use Rattle.span_store.specs.ByteMap.{top};
 ghost use Rattle.text_forms.specs.FileNames.{file_name};
 
 use crate::fault::FieldFault;
 use flash_base::{Text, Width};
 use serde_json::Value;
+use span_store::TOP;
 use std::alloc::Global;
 use text_forms::{hex_byte, hex_number, is_file_name};
 
@@ -175,16 +177,16 @@ pub(crate) fn session_id_of(value: &Value) -> Option<&str>
 
 fn place_of(value: &Value) -> Option<u64>
     ensures is { result ≡ place (view value.now) }
-    ensures small { IfSome result (λ n. n < 4294967296) }
+    ensures small { IfSome result (λ n. n < top) }
 {
     let at = hex_number(value.as_str()?)?;
-    if at < 4_294_967_296 { Some(at) } else { None }
+    if at < TOP { Some(at) } else { None }
 }
 
 /// The address from which the bytes of a file go.
 pub(crate) fn place_at(alloc: Global, value: &Value) -> Result<u64, FieldFault>
     ensures is { (result ≡ Err FieldFault.NoMemory) ⊎ (result ≡ needed (codes "at") place (view value.now)) }
-    ensures small { IfOk result (λ n. n < 4294967296) }
+    ensures small { IfOk result (λ n. n < top) }
 {
     let Some(found) = value.get("at") else {
         return Err(bad(alloc, "at"));
@@ -195,14 +197,16 @@ pub(crate) fn place_at(alloc: Global, value: &Value) -> Result<u64, FieldFault>
     }
 }
 
-fn width_digit(c: u8) -> Option<u8>
-    ensures is { result ≡ width_digit c }
+/// The value of a digit from `1` to a last one.
+fn width_digit(last: u8, c: u8) -> Option<u8>
+    ensures is { result ≡ width_digit last c }
     ensures some { IfSome result (λ n. 1 ≤ n) }
-    ensures few { IfSome result (λ n. n ≤ 4) }
+    ensures few { IfSome result (λ n. n ≤ last - 48) }
 {
-    match c {
-        b'1'..=b'4' => Some(c - b'0'),
-        _ => None,
+    if b'1' <= c && c <= last {
+        Some(c - b'0')
+    } else {
+        None
     }
 }
 
@@ -212,8 +216,8 @@ fn width_in(text: &[u8]) -> Option<Width>
 {
     match text {
         [size, at] => {
-            let size = width_digit(*size)?;
-            let at = width_digit(*at)?;
+            let size = width_digit(b'4', *size)?;
+            let at = width_digit(b'5', *at)?;
             Some(Width { size, at })
         }
         _ => None,

@@ -57,7 +57,7 @@ ok\t{\"tester\":\"0E80\",\"tasks\":1,\"tasks\":[]}";
 /// Tasks behind a good one, each behind what is said of the order.
 const TASKS: &str =
     "ok\t{\"name\":\"B\",\"unit\":\"1002\",\"check\":\"0202\",\"raw\":\"b.bin\",\"at\":\"0\"}\n\
-ok\t{\"name\":\"B_2\",\"unit\":\"FFFF\",\"width\":\"14\",\"check\":\"0000\",\"key\":{\"rule\":\"none\"},\"raw\":\"b\",\"at\":\"00000000FFFFFFFF\",\"idents\":[],\"after\":[\"A\",\"A\"]}\n\
+ok\t{\"name\":\"B_2\",\"unit\":\"FFFF\",\"width\":\"15\",\"check\":\"0000\",\"key\":{\"rule\":\"none\"},\"raw\":\"b\",\"at\":\"000000FFFFFFFFFF\",\"idents\":[],\"after\":[\"A\",\"A\"]}\n\
 ok\t{\"name\":\"B\",\"unit\":\"1002\",\"check\":\"0202\",\"session\":\"S 1\",\"dids\":{\"VIN\":\"F190\"},\"fill\":\"fF\"}\n\
 ok\t{\"name\":\"B\",\"unit\":\"1002\",\"check\":\"0202\",\"key\":{\"rule\":\"xor\",\"level\":\"7D\",\"mask\":\"a5\"},\"raw\":\"b\",\"at\":\"0\"}\n\
 ok\t{\"name\":\"B\",\"unit\":\"1002\",\"check\":\"0202\",\"key\":{\"rule\":\"digest\",\"level\":\"01\",\"length\":32,\"secret\":\"00\"},\"raw\":\"b\",\"at\":\"0\"}\n\
@@ -66,7 +66,8 @@ ok\t{\"name\":\"B\",\"unit\":\"1002\",\"check\":\"0202\",\"key\":{\"rule\":\"dig
 1 name\t{\"name\":\"ABCDEFGHIJKLMNOPQRSTUVWXYZ0123456\"}\n\
 1 unit\t{\"name\":\"B\"}\n\
 1 unit\t{\"name\":\"B\",\"unit\":\"10021\"}\n\
-1 width\t{\"name\":\"B\",\"unit\":\"1002\",\"width\":\"45\"}\n\
+1 width\t{\"name\":\"B\",\"unit\":\"1002\",\"width\":\"54\"}\n\
+1 width\t{\"name\":\"B\",\"unit\":\"1002\",\"width\":\"46\"}\n\
 1 width\t{\"name\":\"B\",\"unit\":\"1002\",\"width\":\"04\"}\n\
 1 width\t{\"name\":\"B\",\"unit\":\"1002\",\"width\":44}\n\
 1 check\t{\"name\":\"B\",\"unit\":\"1002\"}\n\
@@ -86,7 +87,7 @@ ok\t{\"name\":\"B\",\"unit\":\"1002\",\"check\":\"0202\",\"key\":{\"rule\":\"dig
 1 raw\t{\"name\":\"B\",\"unit\":\"1002\",\"check\":\"0202\",\"raw\":\".b\",\"at\":\"0\"}\n\
 1 session\t{\"name\":\"B\",\"unit\":\"1002\",\"check\":\"0202\",\"session\":\"\"}\n\
 1 at\t{\"name\":\"B\",\"unit\":\"1002\",\"check\":\"0202\",\"raw\":\"b\"}\n\
-1 at\t{\"name\":\"B\",\"unit\":\"1002\",\"check\":\"0202\",\"raw\":\"b\",\"at\":\"100000000\"}\n\
+1 at\t{\"name\":\"B\",\"unit\":\"1002\",\"check\":\"0202\",\"raw\":\"b\",\"at\":\"10000000000\"}\n\
 1 at\t{\"name\":\"B\",\"unit\":\"1002\",\"check\":\"0202\",\"raw\":\"b\",\"at\":\"00000000000000001\"}\n\
 1 at\t{\"name\":\"B\",\"unit\":\"1002\",\"check\":\"0202\",\"session\":\"S\",\"at\":\"0\"}\n\
 1 idents\t{\"name\":\"B\",\"unit\":\"1002\",\"check\":\"0202\",\"raw\":\"b\",\"at\":\"0\",\"idents\":[{\"did\":\"F195\"}]}\n\

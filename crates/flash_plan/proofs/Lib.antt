@@ -1,5 +1,4 @@
 pub mod Accepted
-pub mod Fixtures
 pub mod Marks
 pub mod Numbers
 pub mod Tasks

@@ -18,6 +18,3 @@ pub use fault::{PlanFault, What};
 pub use outcome::{Entries, Entry, Outcome};
 pub use plan::Plan;
 pub use unit::{Draft, LinkRules, Segment, UnitPlan, Wanted};
-
-#[cfg(test)]
-mod tests;

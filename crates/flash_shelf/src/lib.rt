@@ -13,6 +13,3 @@ pub use memory::{MemoryShelf, MemorySink};
 pub use shelf::{LIMIT, Shelf, ShelfFault};
 pub use sink::{Sink, SinkFault};
 pub use stream::StreamSink;
-
-#[cfg(test)]
-mod tests;

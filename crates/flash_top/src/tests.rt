@@ -74,13 +74,14 @@ const REPORT: &str = "plan a41528293bb2c3c3d84ba53557cfbe530f6031fc9bae916ec7108
 unit A 1001 complete\n\
 complete 1 of 1\n";
 
-/// Its journal: the header with two slots and the same digest, both gates open, and the entries begun and complete of unit 0.
-const JOURNAL: &str = "a54f4458464a4e4c0100000000000002\
+/// Its journal: the header with three slots and the same digest, two gates open, and the entries begun and complete of unit 0.
+const JOURNAL: &str = "a54f4458464a4e4c0200000000000003\
 a41528293bb2c3c3d84ba53557cfbe530f6031fc9bae916ec7108fcf4f683f7e\
 00000000000000000000000000000000\
-a5a5\
+a5a500\
 01000000000000000000000000000000\
-02000000000000000000000000000000";
+02000000000000000000000000000000\
+00000000000000000000000000000000";
 
 /// The words of a command, each behind a blank.
 fn words_of(alloc: Global, command: &str) -> Result<Vec<String>, NoMemory> {
@@ -226,7 +227,7 @@ input one.json not yet\t{\"tester\":\"0E80\",\"relinks\":0,\"tasks\":[{\"name\":
 input one.json not yet\t{\"tester\":\"0E80\",\"relinks\":0,\"tasks\":[{\"name\":\"A\",\"unit\":\"1001\",\"check\":\"0202\",\"raw\":\"a.bin\",\"at\":\"1000\",\"idents\":[{\"did\":\"F195\",\"values\":[\"31\"]}]}]}\n\
 input one.json cycle A\t{\"tester\":\"0E80\",\"relinks\":1,\"tasks\":[{\"name\":\"A\",\"unit\":\"1001\",\"check\":\"0202\",\"raw\":\"a.bin\",\"at\":\"1000\",\"after\":[\"A\"]}]}\n\
 input one.json unknown after A\t{\"tester\":\"0E80\",\"relinks\":0,\"tasks\":[{\"name\":\"A\",\"unit\":\"1001\",\"check\":\"0202\",\"raw\":\"a.bin\",\"at\":\"1000\",\"after\":[\"B\"],\"width\":\"43\"}]}\n\
-input one.json out of range 0\t{\"tester\":\"0E80\",\"relinks\":1,\"tasks\":[{\"name\":\"A\",\"unit\":\"1001\",\"check\":\"0202\",\"raw\":\"a.bin\",\"at\":\"FFFFFFFE\"}]}\n\
+input one.json out of range 0\t{\"tester\":\"0E80\",\"relinks\":1,\"tasks\":[{\"name\":\"A\",\"unit\":\"1001\",\"check\":\"0202\",\"raw\":\"a.bin\",\"at\":\"FFFFFFFFFE\"}]}\n\
 input one.json empty raw A\t{\"tester\":\"0E80\",\"relinks\":1,\"tasks\":[{\"name\":\"A\",\"unit\":\"1001\",\"check\":\"0202\",\"raw\":\"empty\",\"at\":\"1000\"}]}\n\
 input one.json too wide A\t{\"tester\":\"0E80\",\"relinks\":0,\"tasks\":[{\"name\":\"A\",\"unit\":\"1001\",\"check\":\"0202\",\"raw\":\"longer\",\"at\":\"1000\",\"width\":\"14\"}]}\n\
 input one.json bad field 0 check\t{\"tester\":\"0E80\",\"relinks\":1,\"tasks\":[{\"name\":\"A\",\"unit\":\"1001\",\"check\":\"FF00\",\"raw\":\"a.bin\",\"at\":\"1000\"}]}\n\

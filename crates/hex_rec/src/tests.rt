@@ -109,6 +109,9 @@ fn texts_that_are_written(rt: HostRuntime) {
         if at <= 0x1_0000 && bytes.len() < 4 {
             assert!(rt; spans.put(at, bytes).is_ok());
         }
+        let None = spans.piece(0x1_0000_0000) else {
+            panic!(rt; "above");
+        };
         match write(rt.alloc(), &spans) {
             Ok(text) => assert!(rt; text.as_slice() == want.as_bytes(), "{want}"),
             Err(_) => panic!(rt; "no memory"),

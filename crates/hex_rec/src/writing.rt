@@ -1,12 +1,13 @@
 ghost use Rattle.std.specs.Prelude.{◌≡◌, ℕ, List, Some, Ok, ◌+◌, ◌/◌, ◌%◌, ◌^◌, ◌≤◌, ◌<◌, ◌++◌, ◌∷◌, [], length, nat_eq, if◌then◌else◌, All, OnOk, IfOk};
 ghost use Rattle.std.specs.FinMap as map;
 ghost use Rattle.span_store.specs.ByteMap.{ByteMap};
+ghost use Rattle.rec_text.specs.Cutting.{IsLow};
 ghost use Rattle.hex_rec.specs.HexText.{IsHexText};
 ghost use Rattle.hex_rec.specs.Reading.{reading_of};
 ghost use Rattle.hex_rec.specs.Writing.{line_of, checksum, IsWritten};
 
 use flash_base::{Bytes, NoMemory};
-use rec_text::{DATA, cut_front, push_both, push_digits, sum_both};
+use rec_text::{DATA, cut_front, next_in, push_both, push_digits, sum_both};
 use span_store::Spans;
 use std::alloc::Global;
 
@@ -66,7 +67,9 @@ fn push_data(text: &mut Bytes, at: u64, bytes: &[u8]) -> Result<(), NoMemory>
 ///
 /// Maximal runs ascending, in lines of at most 16 bytes that do not cross a multiple of 65536; a kind 04
 /// line before a data line whose upper 16 bits are others than the last ones, 0 at first; upper case, LF.
+/// The format has no address from 2^32 on: `spans.piece(1 << 32)` says whether a map has one.
 pub fn write(alloc: Global, spans: &Spans) -> Result<Bytes, NoMemory>
+    requires { IsLow spans.now }
     ensures written { IfOk result (λ text. IsWritten spans.now text) }
     ensures read_back { IfOk result (λ text. reading_of text ≡ Ok spans.now) }
     ensures whole { IfOk result (λ text. IsHexText text spans.now) }
@@ -75,7 +78,7 @@ pub fn write(alloc: Global, spans: &Spans) -> Result<Bytes, NoMemory>
     let mut line = [0u8; DATA];
     let mut here = 0;
     let mut upper = 0;
-    while let Some((at, _)) = spans.piece(here) {
+    while let Some(at) = next_in(spans, here) {
         let n = cut_front(spans, at, 0x1_0000 - at % 0x1_0000, &mut line);
         push_base(&mut text, at, upper)?;
         push_data(&mut text, at, &line[..n])?;

@@ -1,5 +1,5 @@
 -- What a call has done to the disk, whatever it answered.
-use Rattle.std.proofs.Common.{◌≡◌, ◌⊎◌, inl, inr, ℕ, List, length, Result, Ok, Err}
+use Rattle.std.proofs.Common.{◌≡◌, ◌⊎◌, inl, inr, ℕ, List, length, subst, Result, Ok, Err}
 use Rattle.disk_model.specs.Disk.{DiskState, MissedWrite, Synced}
 use Rattle.disk_model.specs.declared.device.DeviceFault.{DeviceFault}
 use Rattle.journal_steps.proofs.Images.{wrote_missed}
@@ -12,3 +12,7 @@ missed_or_nothing at bytes old new (Err x) did = did.err
 pub synced_or_not : (old new : DiskState) (result : Result Unit DeviceFault) → SyncedOrNot old new result → Synced old new ⊎ (new ≡ old)
 synced_or_not old new (Ok x) did = inl did.ok
 synced_or_not old new (Err x) did = inr did.err
+
+-- a write at a place that is told otherwise
+pub wrote_there : (a b : ℕ) (bytes : List ℕ) (old new : DiskState) (result : Result Unit DeviceFault) → a ≡ b → WroteOrMissed a bytes old new result → WroteOrMissed b bytes old new result
+wrote_there a b bytes old new result is = subst (λ (k : ℕ). WroteOrMissed k bytes old new result) is

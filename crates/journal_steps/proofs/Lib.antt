@@ -8,6 +8,7 @@ pub mod Laters
 pub mod Listing
 pub mod Made
 pub mod Making
+pub mod Migrating
 pub mod Moments
 pub mod More
 pub mod One
@@ -15,8 +16,10 @@ pub mod Opening
 pub mod Orders
 pub mod Reading
 pub mod Same
-pub mod Slots
 pub mod Settled
+pub mod Several
+pub mod Slots
 pub mod Tables
 pub mod Tests
 pub mod Ways
+pub mod Wider

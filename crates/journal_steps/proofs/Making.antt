@@ -4,13 +4,13 @@ use Rattle.std.specs.Prelude.{◌==◌, slice_index}
 use Rattle.std.proofs.lemmas.Bool.{cases_lt, eqb-true}
 use Rattle.disk_model.specs.Disk.{DiskState, IsCrashImage, IsSettled, Wrote, MissedWrite, Synced}
 use Rattle.journal_steps.proofs.Images.{settled_image, settled_length, synced_settled, missed_image, missed_below}
-use Rattle.journal_model.specs.Records.{Label, slots_of, magic, magic_and_version, stands_at, is_fresh}
+use Rattle.journal_model.specs.Records.{Label, slots_of, new_form, magic, magic_and_version, stands_at, is_fresh}
 use Rattle.journal_steps.specs.Append.{Records}
 use Rattle.journal_steps.specs.Make.{IsMade, no_entry, Starts, CanFill, CanMake, IsNew}
 use Rattle.journal_steps.proofs.Slots.{below_at}
 use Rattle.journal_steps.proofs.Same.{stands_same}
 use Rattle.journal_steps.proofs.Settled.{all_settled}
-use Rattle.journal_steps.proofs.Made.{fresh_zero, fresh_short, fresh_magic, made_start, made_journal, made_copied}
+use Rattle.journal_steps.proofs.Made.{fresh_zero, fresh_short, fresh_magic, made_start, made_journal, made_form, made_copied}
 
 pub starts_again : (P : Label) (before now : DiskState) → now ≡ before → Starts P before → Starts P now
 starts_again P before now is each image left = each image (subst (λ d. IsCrashImage d image) is left)
@@ -38,14 +38,14 @@ module _ (P : Label) (d0 : DiskState) (start : ℕ) (written : List ℕ) (can : 
     settled2 : IsSettled d2
     settled2 = synced_settled d1 d2 synced
 
-    size2 : 64 + 17 * slots_of P ≤ length d2.bytes
+    size2 : 64 + 17 * slots_of (new_form P 0) ≤ length d2.bytes
     size2 = let size : length d2.bytes ≡ length d1.bytes = ap length synced.bytes in omega (arith, size, wrote.size, can.ends)
 
     magic_is : stands_at d0.bytes 1 7 magic ≡ true → (t : ℕ) → t < 7 → slice_index d0.bytes (1 + t) ≡ slice_index can.file (1 + t)
     magic_is stands t lt =
         eqb-true _ _ (below_at 7 (λ i. slice_index d0.bytes (1 + i) == slice_index magic i) stands t lt)
-        ∙ eqb-true _ _ (below_at 7 (λ j. slice_index magic j == slice_index magic_and_version j) refl t lt)
-        ∙ sym (eqb-true _ _ (below_at 11 (λ i. slice_index can.file (1 + i) == slice_index magic_and_version i) can.made.version t (omega (arith, lt))))
+        ∙ eqb-true _ _ (below_at 7 (λ j. slice_index magic j == slice_index (magic_and_version 2) j) refl t lt)
+        ∙ sym (eqb-true _ _ (below_at 11 (λ i. slice_index can.file (1 + i) == slice_index (magic_and_version 2) i) can.made.version t (omega (arith, lt))))
 
     old_byte : (i : ℕ) → 1 ≤ i → i < start → slice_index d0.bytes i ≡ slice_index can.file i
     old_byte i ge lt = elim can.fill.head [
@@ -53,7 +53,7 @@ module _ (P : Label) (d0 : DiskState) (start : ℕ) (written : List ℕ) (can : 
       | inr magical ↦ ap (λ (j : ℕ). slice_index d0.bytes j) (omega (arith, ge)) ∙ magic_is magical.1 (i - 1) (omega (arith, ge, lt, magical.0)) ∙ ap (λ (j : ℕ). slice_index can.file j) (omega (arith, ge))
     ]
 
-    same2 : (i : ℕ) → 1 ≤ i → i < 64 + 17 * slots_of P → slice_index d2.bytes i ≡ slice_index can.file i
+    same2 : (i : ℕ) → 1 ≤ i → i < 64 + 17 * slots_of (new_form P 0) → slice_index d2.bytes i ≡ slice_index can.file i
     same2 i ge lt = ap (λ (xs : List ℕ). slice_index xs i) synced.bytes ∙ elim (cases_lt i start) [
       | inl less ↦ wrote.outside i (inl less) ∙ old_byte i ge less
       | inr more ↦ ap (λ (j : ℕ). slice_index d1.bytes j) (omega (arith, more)) ∙ wrote.inside (i - start) (omega (arith, more, lt, can.ends)) ∙ can.written_is (i - start) (omega (arith, more, lt, can.ends)) ∙ ap (λ (j : ℕ). slice_index can.file j) (omega (arith, more))
@@ -86,7 +86,7 @@ module _ (P : Label) (d0 : DiskState) (start : ℕ) (written : List ℕ) (can : 
           (ap (λ (xs : List ℕ). slice_index xs 0) synced4.bytes ∙ opened.inside 0 (omega arith))
 
       pub made_new : IsNew P d4
-      made_new = record { settled = settled4; records = made_last; gates = made4.gates }
+      made_new = record { settled = settled4; records = made_last; form = made_form P d4.bytes made4; gates = made4.gates }
 
       pub made_starts : Starts P d4
       made_starts image left = inr (all_settled P no_entry d4 image settled4 made_last left)

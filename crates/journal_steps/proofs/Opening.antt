@@ -1,33 +1,34 @@
 -- What the images are while a journal is opened.
-use Rattle.std.proofs.Common.{◌≡◌, ◌⊎◌, inl, inr, ℕ, ◌+◌, ◌*◌, ◌<◌, ◌≤◌, true, false, List, length, refl, sym, ◌∙◌, ap, subst, arith}
+use Rattle.std.proofs.Common.{◌≡◌, ◌⊎◌, inl, inr, ℕ, ◌+◌, ◌<◌, ◌≤◌, true, false, List, length, refl, sym, ◌∙◌, ap, subst, arith}
 use Rattle.std.specs.Prelude.{◌==◌, ◌&&◌, ◌||◌, Bool, nat_le, slice_index}
 use Rattle.std.proofs.lemmas.Bool.{and_left}
 use Rattle.std.proofs.lemmas.List.{get_or_past}
 use Rattle.disk_model.specs.Disk.{DiskState, IsCrashImage, IsSettled, Synced}
 use Rattle.journal_steps.proofs.Images.{settled_image, settled_length, synced_settled}
 use Rattle.flash_plan.specs.declared.outcome.Entry.{Entry}
-use Rattle.journal_model.specs.Records.{Label, slots_of, is_fresh, is_journal, records}
+use Rattle.journal_model.specs.Records.{Label, form_of, gate_at, body_at, is_fresh, is_journal, records}
 use Rattle.journal_steps.specs.Append.{Records}
 use Rattle.journal_steps.specs.Make.{Starts, can_open, AllFollow}
-use Rattle.journal_steps.proofs.Same.{Agrees, fresh_same, journal_same, has_same}
+use Rattle.journal_steps.specs.Move.{AllRecord}
+use Rattle.journal_steps.proofs.Same.{Copies, heads_before, fresh_same, journal_same, records_same}
 use Rattle.journal_steps.proofs.Made.{fresh_no_journal}
 
 -- an image of the same bytes
 module _ (P : Label) (base image : List ℕ) (size : length image ≡ length base) (same : (i : ℕ) → slice_index image i ≡ slice_index base i) where
-  all : (k : ℕ) → k < slots_of P → Agrees (slots_of P) base image k
-  all k lt = record { gate = ap (λ (x : ℕ). x == 165) (same (64 + k)); body = λ is t tlt. same (64 + slots_of P + 16 * k + t) }
+  copies : Copies P base image
+  copies = record {
+    heads = heads_before P base image (form_of P base) refl size (λ i lt. same i);
+    all = λ k lt. record { gate = ap (λ (x : ℕ). x == 165) (same (gate_at (form_of P base) k)); body = λ is t tlt. same (body_at (form_of P base) k + t) };
+  }
 
   pub copy_fresh : is_fresh image ≡ is_fresh base
   copy_fresh = fresh_same P base image (λ i lt. same i) (λ i. nat_le (size i) 1) (λ i. nat_le 8 (size i))
 
-  copy_journal : is_journal P image ≡ is_journal P base
-  copy_journal = journal_same P base image (λ i. nat_le (64 + 17 * slots_of P) (size i)) (λ i. nat_le 64 (size i)) (λ i lt. same i) all
-
   pub copy_records : (e : Entry) → records P image e ≡ records P base e
-  copy_records e = λ i. copy_journal i && has_same (slots_of P) base image all e i
+  copy_records = records_same P base image copies
 
   pub copy_opens : can_open P image ≡ can_open P base
-  copy_opens = λ i. copy_fresh i || copy_journal i
+  copy_opens = λ i. copy_fresh i || journal_same P base image copies i
 
 -- before anything is done
 pub follows_itself : (P : Label) (disk : DiskState) → AllFollow P disk disk
@@ -97,3 +98,16 @@ follows_start P old disk readable fresh starts image left = record {
 -- what a journal with these entries records
 pub records_of : (P : Label) (R : Entry → Bool) (image : List ℕ) → Records P R image → (e : Entry) → R e ≡ records P image e
 records_of P R image holds e = sym ((λ i. holds.journal i && holds.entries e i))
+
+or_second : (b c : Bool) → c ≡ true → (b || c) ≡ true
+or_second true c is = refl
+or_second false c is = is
+
+-- each image of a file records what a read gave before
+pub follows_records : (P : Label) (R : Entry → Bool) (old disk : DiskState) → IsCrashImage old old.bytes → Records P R old.bytes → AllRecord P R disk → AllFollow P old disk
+follows_records P R old disk readable holds each image left = record {
+  before = old.bytes;
+  left = readable;
+  entries = λ e. sym (records_of P R image (each image left) e) ∙ records_of P R old.bytes holds e;
+  opens = λ is. or_second (is_fresh image) _ (each image left).journal;
+}

@@ -1,14 +1,14 @@
 -- Counting in a table, and the place of an entry in it.
-use Rattle.std.proofs.Common.{◌≡◌, inl, inr, ℕ, zero, suc, ◌+◌, ◌*◌, ◌<◌, ◌≤◌, Bool, true, false, List, [], ◌∷◌, length, get_or, set, refl, sym, ◌∙◌, ap, subst, arith, lit<}
-use Rattle.std.specs.Prelude.{◌==◌, ◌||◌, slice_index}
-use Rattle.std.proofs.lemmas.Bool.{cases_Bool, cases_eq, both_ways, eqb-true, eq-eqb}
+use Rattle.std.proofs.Common.{◌≡◌, inl, inr, ℕ, zero, suc, ◌+◌, ◌<◌, ◌≤◌, Bool, true, false, List, [], ◌∷◌, length, get_or, set, refl, sym, ◌∙◌, ap, subst, arith, lit<}
+use Rattle.std.specs.Prelude.{◌==◌, ◌&&◌, ◌||◌, slice_index, ◌/◌, ◌%◌}
+use Rattle.std.proofs.lemmas.Bool.{cases_Bool, cases_eq, cases_lt, and_parts, and_left, both_ways, eqb-true, eq-eqb, ltb-true}
 use Rattle.std.proofs.lemmas.List.{get_or-set_same, get_or-set_other}
 use Rattle.flash_plan.specs.declared.outcome.Entry.{Entry}
 use Rattle.flash_plan.specs.declared.outcome.Entry.TheVariants.{Begun, Marked, Complete}
-use Rattle.journal_model.specs.Records.{body_of, unit_of}
-use Rattle.journal_steps.specs.Append.{is_entry, IsPrepared}
+use Rattle.journal_model.specs.Records.{Form, slots_of, segments_of, total, names, body_of, unit_of}
+use Rattle.journal_steps.specs.Append.{is_entry}
 use Rattle.journal_steps.proofs.Slots.{below_at, below_from}
-use Rattle.journal_steps.specs.Tables.{one_if, count_true, is_plain, place_of, is_found}
+use Rattle.journal_steps.specs.Tables.{one_if, count_true, before, place_of, is_found, starts_of}
 
 -- a full count: all are true
 pub count_full : (xs : List Bool) → ((k : ℕ) → k < length xs → get_or xs k false ≡ true) → count_true xs ≡ length xs
@@ -40,58 +40,88 @@ count_set (b ∷ bs) (suc i) lt is = omega (arith, count_set bs i (omega (arith,
 pub is_itself : (e : Entry) → is_entry e e ≡ true
 is_itself e = below_from 16 (λ j. slice_index (body_of e) j == slice_index (body_of e) j) (λ t tlt. eq-eqb _ _ refl)
 
--- entries of one spelling have one place
-pub one_place : (e x : Entry) → is_entry e x ≡ true → place_of e ≡ place_of x
-one_place e x same = at_bytes e x
-    (eqb-true _ _ (below_at 16 (λ j. slice_index (body_of e) j == slice_index (body_of x) j) same 0 (lit< tt)))
-    (eqb-true _ _ (below_at 16 (λ j. slice_index (body_of e) j == slice_index (body_of x) j) same 2 (lit< tt)))
-    (eqb-true _ _ (below_at 16 (λ j. slice_index (body_of e) j == slice_index (body_of x) j) same 3 (lit< tt)))
+-- two entries of one spelling are one
+pub entry_of : (e x : Entry) → is_entry e x ≡ true → e ≡ x
+entry_of e x same = at_bytes e x (byte 0 (lit< tt)) (byte 2 (lit< tt)) (byte 3 (lit< tt)) (byte 4 (lit< tt)) (byte 5 (lit< tt))
   where
-    at_bytes : (e x : Entry) → slice_index (body_of e) 0 ≡ slice_index (body_of x) 0 → slice_index (body_of e) 2 ≡ slice_index (body_of x) 2 → slice_index (body_of e) 3 ≡ slice_index (body_of x) 3 → place_of e ≡ place_of x
-    at_bytes (Begun u) (Begun v) kind high low = omega (arith, high, low)
-    at_bytes (Begun u) (Marked v s) kind high low = absurd (omega (arith, kind))
-    at_bytes (Begun u) (Complete v) kind high low = absurd (omega (arith, kind))
-    at_bytes (Marked u s) (Begun v) kind high low = absurd (omega (arith, kind))
-    at_bytes (Marked u s) (Marked v t) kind high low = omega (arith, high, low)
-    at_bytes (Marked u s) (Complete v) kind high low = absurd (omega (arith, kind))
-    at_bytes (Complete u) (Begun v) kind high low = absurd (omega (arith, kind))
-    at_bytes (Complete u) (Marked v s) kind high low = absurd (omega (arith, kind))
-    at_bytes (Complete u) (Complete v) kind high low = omega (arith, high, low)
+    byte : (t : ℕ) → t < 16 → slice_index (body_of e) t ≡ slice_index (body_of x) t
+    byte t lt = eqb-true _ _ (below_at 16 (λ j. slice_index (body_of e) j == slice_index (body_of x) j) same t lt)
 
--- ------ version 1 has no marks
-pub plain_of : (R : Entry → Bool) (e : Entry) → IsPrepared R e → is_plain e ≡ true
-plain_of R (Begun u) is = refl
-plain_of R (Marked u s) is = absurd is
-plain_of R (Complete u) is = refl
+    halves : (a b : ℕ) → a / 256 ≡ b / 256 → a % 256 ≡ b % 256 → a ≡ b
+    halves a b high low = omega (arith, high, low)
 
-pub found_at : (found : List Bool) (e : Entry) → is_plain e ≡ true → is_found found e ≡ get_or found (place_of e) false
-found_at found (Begun u) plain = refl
-found_at found (Marked u s) plain = absurd (both_ways false refl plain)
-found_at found (Complete u) plain = refl
+    at_bytes : (e x : Entry) → slice_index (body_of e) 0 ≡ slice_index (body_of x) 0 → slice_index (body_of e) 2 ≡ slice_index (body_of x) 2 → slice_index (body_of e) 3 ≡ slice_index (body_of x) 3
+        → slice_index (body_of e) 4 ≡ slice_index (body_of x) 4 → slice_index (body_of e) 5 ≡ slice_index (body_of x) 5 → e ≡ x
+    at_bytes (Begun u) (Begun v) kind high low h l = ap (λ (w : ℕ). Begun w) (halves u v high low)
+    at_bytes (Begun u) (Marked v t) kind high low h l = absurd (omega (arith, kind))
+    at_bytes (Begun u) (Complete v) kind high low h l = absurd (omega (arith, kind))
+    at_bytes (Marked u s) (Begun v) kind high low h l = absurd (omega (arith, kind))
+    at_bytes (Marked u s) (Marked v t) kind high low h l = λ i. Marked (halves u v high low i) (halves s t h l i)
+    at_bytes (Marked u s) (Complete v) kind high low h l = absurd (omega (arith, kind))
+    at_bytes (Complete u) (Begun v) kind high low h l = absurd (omega (arith, kind))
+    at_bytes (Complete u) (Marked v t) kind high low h l = absurd (omega (arith, kind))
+    at_bytes (Complete u) (Complete v) kind high low h l = ap (λ (w : ℕ). Complete w) (halves u v high low)
 
--- no plain entry is spelt as a mark
-pub not_mark : (e : Entry) (v s : ℕ) → is_plain e ≡ true → is_entry e (Marked v s) ≡ false
-not_mark e v s plain = elim (cases_Bool (is_entry e (Marked v s))) [
-  | inr isnt ↦ isnt
-  | inl is ↦ absurd (other e plain (eqb-true _ _ (below_at 16 (λ j. slice_index (body_of e) j == slice_index (body_of (Marked v s)) j) is 0 (lit< tt))))
+-- ------ the places of the marks
+pub before_below : (xs : List ℕ) (u s : ℕ) → s < get_or xs u 0 → before u xs + s < total xs
+before_below [] u s lt = absurd (omega (arith, lt))
+before_below (x ∷ xs) zero s lt = omega (arith, lt)
+before_below (x ∷ xs) (suc u) s lt = omega (arith, before_below xs u s lt)
+
+before_more : (xs : List ℕ) (u v : ℕ) → u < v → before u xs + get_or xs u 0 ≤ before v xs
+before_more xs u zero lt = absurd (omega (arith, lt))
+before_more [] zero (suc v) lt = omega arith
+before_more [] (suc u) (suc v) lt = omega arith
+before_more (x ∷ xs) zero (suc v) lt = omega arith
+before_more (x ∷ xs) (suc u) (suc v) lt = omega (arith, before_more xs u v (omega (arith, lt)))
+
+-- two marks of one place are of one unit
+one_unit : (xs : List ℕ) (u v s t : ℕ) → s < get_or xs u 0 → t < get_or xs v 0 → before u xs + s ≡ before v xs + t → u ≡ v
+one_unit xs u v s t slt tlt same = elim (cases_eq u v) [
+  | inl is ↦ is
+  | inr other ↦ elim (cases_lt u v) [
+    | inl less ↦ absurd (omega (arith, before_more xs u v less, slt, same))
+    | inr more ↦ absurd (omega (arith, before_more xs v u (omega (arith, more, other)), tlt, same))
+  ]
 ]
-  where
-    other : (e : Entry) → is_plain e ≡ true → slice_index (body_of e) 0 ≡ 3 → ⊥
-    other (Begun u) plain kind = omega (arith, kind)
-    other (Marked u t) plain kind = both_ways false refl plain
-    other (Complete u) plain kind = omega (arith, kind)
 
-pub from_place : (e x : Entry) → is_plain e ≡ true → is_plain x ≡ true → place_of e ≡ place_of x → e ≡ x
-from_place (Begun u) (Begun v) pe px is = ap (λ (w : ℕ). Begun w) (omega (arith, is))
-from_place (Begun u) (Complete v) pe px is = absurd (omega (arith, is))
-from_place (Complete u) (Begun v) pe px is = absurd (omega (arith, is))
-from_place (Complete u) (Complete v) pe px is = ap (λ (w : ℕ). Complete w) (omega (arith, is))
-from_place (Marked u s) x pe px is = absurd (both_ways false refl pe)
-from_place (Begun u) (Marked v s) pe px is = absurd (both_ways false refl px)
-from_place (Complete u) (Marked v s) pe px is = absurd (both_ways false refl px)
+pub starts_at : (n : ℕ) (xs : List ℕ) (u d : ℕ) → u < length xs → get_or (starts_of n xs) u d ≡ n + before u xs
+starts_at n [] u d lt = absurd (omega (arith, lt))
+starts_at n (x ∷ xs) zero d lt = omega arith
+starts_at n (x ∷ xs) (suc u) d lt = starts_at (n + x) xs u d (omega (arith, lt)) ∙ omega arith
 
-pub same_place : (e x : Entry) → is_plain e ≡ true → is_plain x ≡ true → place_of e ≡ place_of x → is_entry e x ≡ true
-same_place e x pe px is = subst (λ (y : Entry). is_entry e y ≡ true) (from_place e x pe px is) (is_itself e)
+-- ------ the places of the entries that a form names
+pub record IsMark (F : Form) (u s : ℕ) : Type 0 where
+  pub unit : u < F.units
+  pub segment : s < segments_of F u
+
+pub mark_of : (F : Form) (u s : ℕ) → names F (Marked u s) ≡ true → IsMark F u s
+mark_of F u s is = let parts = and_parts _ _ is in record { unit = ltb-true u F.units parts.0; segment = ltb-true s (segments_of F u) parts.1 }
+
+pub unit_named : (F : Form) (e : Entry) → names F e ≡ true → unit_of e < F.units
+unit_named F (Begun u) is = ltb-true u F.units is
+unit_named F (Marked u s) is = (mark_of F u s is).unit
+unit_named F (Complete u) is = ltb-true u F.units is
+
+pub place_below : (F : Form) (e : Entry) → names F e ≡ true → place_of F e < slots_of F
+place_below F (Begun u) is = omega (arith, ltb-true u F.units is)
+place_below F (Marked u s) is = omega (arith, before_below F.segments u s (mark_of F u s is).segment)
+place_below F (Complete u) is = omega (arith, ltb-true u F.units is)
+
+pub from_place : (F : Form) (e x : Entry) → names F e ≡ true → names F x ≡ true → place_of F e ≡ place_of F x → e ≡ x
+from_place F (Begun u) (Begun v) ne nx is = ap (λ (w : ℕ). Begun w) (omega (arith, is))
+from_place F (Begun u) (Marked v t) ne nx is = absurd (omega (arith, ltb-true u F.units ne, is))
+from_place F (Begun u) (Complete v) ne nx is = absurd (omega (arith, is))
+from_place F (Marked u s) (Begun v) ne nx is = absurd (omega (arith, ltb-true v F.units nx, is))
+from_place F (Marked u s) (Marked v t) ne nx is =
+    let unit : u ≡ v = one_unit F.segments u v s t (mark_of F u s ne).segment (mark_of F v t nx).segment (omega (arith, is)) in
+    let start : before u F.segments ≡ before v F.segments = ap (λ (w : ℕ). before w F.segments) unit in
+    let segment : s ≡ t = omega (arith, is, start) in
+    λ i. Marked (unit i) (segment i)
+from_place F (Marked u s) (Complete v) ne nx is = absurd (omega (arith, ltb-true v F.units nx, is))
+from_place F (Complete u) (Begun v) ne nx is = absurd (omega (arith, is))
+from_place F (Complete u) (Marked v t) ne nx is = absurd (omega (arith, ltb-true u F.units ne, is))
+from_place F (Complete u) (Complete v) ne nx is = ap (λ (w : ℕ). Complete w) (omega (arith, is))
 
 or_false : (b : Bool) → b ≡ (b || false)
 or_false true = refl
@@ -101,37 +131,32 @@ or_true : (b : Bool) → true ≡ (b || true)
 or_true true = refl
 or_true false = refl
 
+not_entry : (e x : Entry) → (e ≡ x → ⊥) → is_entry e x ≡ false
+not_entry e x other = elim (cases_Bool (is_entry e x)) [ inl is ↦ absurd (other (entry_of e x is)) | inr is ↦ is ]
+
 -- the table with an entry more
-placed_more : (xs : List Bool) (e x : Entry) → is_plain e ≡ true → is_plain x ≡ true → place_of e < length xs → get_or (set xs (place_of e) true) (place_of x) false ≡ (get_or xs (place_of x) false || is_entry e x)
-placed_more xs e x pe px lt = elim (cases_eq (place_of x) (place_of e)) [
-  | inl same ↦ ap (λ (k : ℕ). get_or (set xs (place_of e) true) k false) same ∙ get_or-set_same xs (place_of e) true false lt
-      ∙ or_true (get_or xs (place_of x) false) ∙ (λ i. get_or xs (place_of x) false || sym (same_place e x pe px (sym same)) i)
-  | inr other ↦ get_or-set_other xs (place_of e) (place_of x) true false other
-      ∙ or_false (get_or xs (place_of x) false) ∙ (λ i. get_or xs (place_of x) false || sym (not_entry other) i)
+pub table_more : (F : Form) (xs : List Bool) (e x : Entry) → names F e ≡ true → place_of F e < length xs → is_found F (set xs (place_of F e) true) x ≡ (is_found F xs x || is_entry e x)
+table_more F xs e x named lt = elim (cases_Bool (names F x)) [
+  | inr isnt ↦ and_left _ _ isnt ∙ sym (both_none (is_found F xs x) (is_entry e x) (and_left _ _ isnt) (not_entry e x (λ same. both_ways _ isnt (subst (λ (y : Entry). names F y ≡ true) same named))))
+  | inl is ↦ (λ i. is i && get_or (set xs (place_of F e) true) (place_of F x) false) ∙ placed is ∙ sym (λ i. (is i && get_or xs (place_of F x) false) || is_entry e x)
 ]
   where
-    not_entry : (place_of x ≡ place_of e → ⊥) → is_entry e x ≡ false
-    not_entry other = elim (cases_Bool (is_entry e x)) [ inl is ↦ absurd (other (sym (one_place e x is))) | inr is ↦ is ]
+    both_none : (a b : Bool) → a ≡ false → b ≡ false → (a || b) ≡ false
+    both_none a b e1 e2 = rw (e1, e2) refl
 
-pub table_more : (xs : List Bool) (e x : Entry) → is_plain e ≡ true → place_of e < length xs → is_found (set xs (place_of e) true) x ≡ (is_found xs x || is_entry e x)
-table_more xs e (Begun v) plain lt = placed_more xs e (Begun v) plain refl lt
-table_more xs e (Marked v s) plain lt = sym (not_mark e v s plain)
-table_more xs e (Complete v) plain lt = placed_more xs e (Complete v) plain refl lt
+    placed : names F x ≡ true → get_or (set xs (place_of F e) true) (place_of F x) false ≡ (get_or xs (place_of F x) false || is_entry e x)
+    placed is = elim (cases_eq (place_of F x) (place_of F e)) [
+      | inl same ↦ ap (λ (k : ℕ). get_or (set xs (place_of F e) true) k false) same ∙ get_or-set_same xs (place_of F e) true false lt
+          ∙ or_true (get_or xs (place_of F x) false)
+          ∙ (λ i. get_or xs (place_of F x) false || sym (subst (λ (y : Entry). is_entry e y ≡ true) (from_place F e x named is (sym same)) (is_itself e)) i)
+      | inr other ↦ get_or-set_other xs (place_of F e) (place_of F x) true false other
+          ∙ or_false (get_or xs (place_of F x) false)
+          ∙ (λ i. get_or xs (place_of F x) false || sym (not_entry e x (λ same. other (ap (λ (y : Entry). place_of F y) (sym same)))) i)
+    ]
 
-pub place_below : (e : Entry) (units : ℕ) → unit_of e < units → place_of e < 2 * units
-place_below (Begun u) units lt = omega (arith, lt)
-place_below (Marked u s) units lt = omega (arith, lt)
-place_below (Complete u) units lt = omega (arith, lt)
-
-pub unit_below : (e : Entry) (units : ℕ) → place_of e < 2 * units → unit_of e < units
-unit_below (Begun u) units lt = omega (arith, lt)
-unit_below (Marked u s) units lt = omega (arith, lt)
-unit_below (Complete u) units lt = omega (arith, lt)
-
-pub unit_past : (e : Entry) (units : ℕ) → 2 * units ≤ place_of e → units ≤ unit_of e
-unit_past (Begun u) units le = omega (arith, le)
-unit_past (Marked u s) units le = omega (arith, le)
-unit_past (Complete u) units le = omega (arith, le)
+-- an entry that the form names is in the table where its place is true
+pub found_at : (F : Form) (found : List Bool) (e : Entry) → names F e ≡ true → is_found F found e ≡ get_or found (place_of F e) false
+found_at F found e named = λ i. named i && get_or found (place_of F e) false
 
 pub other_default : (xs : List Bool) (i : ℕ) (d e : Bool) → i < length xs → get_or xs i d ≡ get_or xs i e
 other_default [] i d e lt = absurd (omega (arith, lt))

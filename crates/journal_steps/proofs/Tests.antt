@@ -12,10 +12,10 @@ module _ (P : Label) (image : List ℕ) where
   pub tested_headless : is_fresh image ≡ false → is_headed image ≡ false → tested P image ≡ NoJournal
   tested_headless fresh headed = rw (fresh, headed) refl
 
-  pub tested_other : is_fresh image ≡ false → is_headed image ≡ true → says_digest P image ≡ false → tested P image ≡ OfOtherPlan
+  pub tested_other : is_fresh image ≡ false → is_headed image ≡ true → says_digest P image 0 ≡ false → tested P image ≡ OfOtherPlan
   tested_other fresh headed digest = rw (fresh, headed, digest) refl
 
-  pub tested_fallen : is_fresh image ≡ false → says_digest P image ≡ true → is_standing P image ≡ false → tested P image ≡ NoJournal
+  pub tested_fallen : is_fresh image ≡ false → says_digest P image 0 ≡ true → is_standing P image ≡ false → tested P image ≡ NoJournal
   tested_fallen fresh digest standing = elim (cases_Bool (is_headed image)) [
     | inl headed ↦ rw (fresh, headed, digest, standing) refl
     | inr headless ↦ tested_headless fresh headless
@@ -26,7 +26,7 @@ module _ (P : Label) (image : List ℕ) where
       let parts = and_parts _ _ journal in
       let front = and_parts _ _ parts.0 in
       let headed : is_headed image ≡ true = front.0 in
-      let digest : says_digest P image ≡ true = front.1 in
+      let digest : says_digest P image 0 ≡ true = front.1 in
       let standing : is_standing P image ≡ true = parts.1 in
       elim (cases_Bool (is_fresh image)) [
         | inl fresh ↦ absurd (both_ways _ (fresh_no_journal P image fresh) journal)

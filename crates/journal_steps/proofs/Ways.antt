@@ -4,7 +4,7 @@ use Rattle.std.specs.Prelude.{◌==◌, ◌||◌, not, nat_le, slice_index, slic
 use Rattle.std.proofs.lemmas.Bool.{or_cases, and_parts, leb-true, eqb-true, eq-eqb, both_ways}
 use Rattle.std.proofs.lemmas.List.{get_or-take, get_or-drop}
 use Rattle.disk_model.specs.Disk.{DiskState, IsSettled}
-use Rattle.journal_model.specs.Records.{Label, slots_of, magic, is_fresh}
+use Rattle.journal_model.specs.Records.{Label, slots_of, new_form, magic, is_fresh}
 use Rattle.journal_steps.specs.Make.{IsMade, CanFill, CanMake}
 use Rattle.journal_steps.proofs.Same.{stands_same}
 use Rattle.journal_steps.specs.Read.{IsFront}
@@ -44,7 +44,7 @@ pub short_front : (m : ℕ) (image front : List ℕ) → 8 ≤ m → IsFront m i
 short_front m image front big is short = omega (arith, is.size, short, big)
 
 -- the rest of the bytes of a new journal
-pub can_make : (P : Label) (disk : DiskState) (start : ℕ) (file rest : List ℕ) → IsSettled disk → IsMade P file → length file ≡ 64 + 17 * slots_of P → CanFill disk.bytes start → start ≤ 8 → rest ≡ slice_range file start (length file) → CanMake P disk start rest
+pub can_make : (P : Label) (disk : DiskState) (start : ℕ) (file rest : List ℕ) → IsSettled disk → IsMade P file → length file ≡ 64 + 17 * slots_of (new_form P 0) → CanFill disk.bytes start → start ≤ 8 → rest ≡ slice_range file start (length file) → CanMake P disk start rest
 can_make P disk start file rest settled made size fill small is = record {
   settled = settled;
   fill = fill;

@@ -1,7 +1,8 @@
 -- Disk calls that went by.
-use Rattle.std.specs.Prelude.{◌≡◌, ℕ, ◌+◌, ◌*◌, List, [], ◌∷◌, length}
+use Rattle.std.specs.Prelude.{◌≡◌, ℕ, ◌+◌, List, [], ◌∷◌, length}
 use Rattle.disk_model.specs.Disk.{DiskState}
 use Rattle.unit_model.specs.Vehicle.{Vehicle}
+use Rattle.journal_model.specs.Records.{Form, gate_at, body_at}
 use Rattle.shop_model.specs.History.{History, Call, WriteAt, Sync, disk_now, vehicle_now}
 use Rattle.shop_model.specs.Through.{IsLater, HoldsThrough}
 
@@ -41,5 +42,5 @@ pub record MadeCalls (old new : History) (calls : List Call) : Type 0 where
   pub in_order : AreCalls new old.moment calls
 
 -- the calls that record entries in a run of slots of a journal: bodies, sync, gates, sync
-abbrev pub append_calls : ℕ → ℕ → List ℕ → List ℕ → List Call
-append_calls slots slot bodies gates = WriteAt (64 + slots + 16 * slot) bodies ∷ Sync ∷ WriteAt (64 + slot) gates ∷ Sync ∷ []
+abbrev pub append_calls : Form → ℕ → List ℕ → List ℕ → List Call
+append_calls F slot bodies gates = WriteAt (body_at F slot) bodies ∷ Sync ∷ WriteAt (gate_at F slot) gates ∷ Sync ∷ []

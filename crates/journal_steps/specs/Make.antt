@@ -2,7 +2,7 @@
 use Rattle.std.specs.Prelude.{◌≡◌, ◌⊎◌, ℕ, ◌+◌, ◌*◌, ◌<◌, ◌≤◌, Bool, true, false, ◌||◌, List, length, slice_index, replicate}
 use Rattle.disk_model.specs.Disk.{DiskState, IsCrashImage, IsSettled}
 use Rattle.flash_plan.specs.declared.outcome.Entry.{Entry}
-use Rattle.journal_model.specs.Records.{Label, slots_of, magic, magic_and_version, bytes4, stands_at, says_digest, is_fresh, is_journal, records}
+use Rattle.journal_model.specs.Records.{Label, slots_of, new_form, magic, magic_and_version, stands_at, says_digest, says_slots, is_fresh, is_journal, form_of, records}
 use Rattle.journal_steps.specs.Append.{Records}
 
 abbrev pub no_entry : Entry → Bool
@@ -17,12 +17,13 @@ Starts P disk = (image : List ℕ) → IsCrashImage disk image → IsStart P ima
 
 -- all but byte 0 is as in a new journal
 pub record IsMade (P : Label) (image : List ℕ) : Type 0 where
-  pub size : 64 + 17 * slots_of P ≤ length image
-  pub version : stands_at image 1 11 magic_and_version ≡ true
-  pub count : stands_at image 12 4 (bytes4 (slots_of P)) ≡ true
-  pub digest : says_digest P image ≡ true
-  pub zeros : stands_at image 48 16 (replicate 16 0) ≡ true
-  pub gates : (k : ℕ) → k < slots_of P → slice_index image (64 + k) ≡ 0
+  pub size : 64 + 17 * slots_of (new_form P 0) ≤ length image
+  pub version : stands_at image 1 11 (magic_and_version 2) ≡ true
+  pub count : says_slots image 0 (slots_of (new_form P 0)) ≡ true
+  pub digest : says_digest P image 0 ≡ true
+  pub zeros : stands_at image 48 15 (replicate 15 0) ≡ true
+  pub last : slice_index image 63 ≡ 0
+  pub gates : (k : ℕ) → k < slots_of (new_form P 0) → slice_index image (64 + k) ≡ 0
 
 -- the next opening takes the image
 abbrev pub can_open : Label → List ℕ → Bool
@@ -50,7 +51,7 @@ pub record CanMake (P : Label) (disk : DiskState) (start : ℕ) (written : List 
   pub fill : CanFill disk.bytes start
   pub file : List ℕ
   pub made : IsMade P file
-  pub ends : start + length written ≡ 64 + 17 * slots_of P
+  pub ends : start + length written ≡ 64 + 17 * slots_of (new_form P 0)
   pub written_is : (k : ℕ) → k < length written → slice_index written k ≡ slice_index file (start + k)
 
 -- a settled file that is fresh, and the bytes of a new journal
@@ -58,10 +59,11 @@ pub record CanStart (P : Label) (disk : DiskState) (file : List ℕ) : Type 0 wh
   pub settled : IsSettled disk
   pub fresh : is_fresh disk.bytes ≡ true
   pub made : IsMade P file
-  pub size : length file ≡ 64 + 17 * slots_of P
+  pub size : length file ≡ 64 + 17 * slots_of (new_form P 0)
 
 -- the file is made
 pub record IsNew (P : Label) (disk : DiskState) : Type 0 where
   pub settled : IsSettled disk
   pub records : Records P no_entry disk.bytes
-  pub gates : (k : ℕ) → k < slots_of P → slice_index disk.bytes (64 + k) ≡ 0
+  pub form : form_of P disk.bytes ≡ new_form P 0
+  pub gates : (k : ℕ) → k < slots_of (new_form P 0) → slice_index disk.bytes (64 + k) ≡ 0

@@ -1,114 +1,205 @@
-use crate::support::{DIGEST, Found, NOTHING, both, crashed, looked, opened};
-use flash_journal::{Entry, Journal, OpenFault, look};
+use crate::files::{Base, DIGEST, file_of};
+use crate::support::{BEGUN, Found, NOTHING, Unit, crashed, looked, one, opened, plan_of, seen};
+use flash_journal::{Entry, Journal, OpenFault, look_bytes};
 use mem_disk::{MemDisk, Pick};
 use std::test::Fail;
 
-const WHOLE: Found = Found::Entries(true, true, false, false);
+const DONE: Found = Found::Entries(Unit::Done, Unit::Nothing);
 
-const BEGUN: Found = Found::Entries(true, false, false, false);
+const UNMARKED: Found = Found::Entries(Unit::Unmarked, Unit::Nothing);
 
-// The file of `both` with some bytes changed.
+const MARKED: Found = Found::Entries(Unit::Marked, Unit::Nothing);
+
+const NONE: Found = Found::NotJournal;
+
+// The files of the smallest plan with some bytes changed, a case for each test of the format.
+const CASES: [(Base, &[(usize, u8)], Found); 66] = [
+    // As they are.
+    (Base::Old, &[], UNMARKED),
+    (Base::New, &[], DONE),
+    (Base::Moved, &[], DONE),
+    // A byte 0 of 0, or the magic after a gate that is not open: a file that is not made yet.
+    (Base::New, &[(0, 0)], NOTHING),
+    (Base::New, &[(0, 0xA4)], NOTHING),
+    (Base::New, &[(0, 0xA4), (1, 0)], NONE),
+    (Base::Old, &[(0, 0)], NOTHING),
+    (Base::Moved, &[(0, 0xA4)], NOTHING),
+    // The fixed parts of the first header.
+    (Base::New, &[(1, 0x50)], NONE),
+    (Base::New, &[(7, 0)], NONE),
+    (Base::New, &[(8, 0)], NONE),
+    (Base::New, &[(8, 3)], NONE),
+    (Base::New, &[(9, 1)], NONE),
+    (Base::New, &[(11, 1)], NONE),
+    (Base::New, &[(48, 1)], NONE),
+    (Base::New, &[(62, 1)], NONE),
+    (Base::New, &[(63, 1)], NONE),
+    (Base::New, &[(63, 0xA5)], NONE),
+    (Base::Old, &[(9, 1)], NONE),
+    (Base::Old, &[(62, 1)], NONE),
+    (Base::Old, &[(8, 2)], NONE),
+    (Base::New, &[(8, 1)], NONE),
+    // The last byte of a version 1 header may be any; A5 says that a second journal counts.
+    (Base::Old, &[(63, 1)], UNMARKED),
+    (Base::Old, &[(63, 0xA4)], UNMARKED),
+    (Base::Old, &[(63, 0xA5)], NONE),
+    (Base::Moved, &[(63, 0)], BEGUN),
+    // The digest comes before slots and bodies.
+    (Base::New, &[(16, 8)], Found::OtherPlan(8)),
+    (
+        Base::New,
+        &[(47, 8), (15, 4), (67, 9)],
+        Found::OtherPlan(0xA4),
+    ),
+    (Base::Old, &[(16, 9)], Found::OtherPlan(9)),
+    (Base::Moved, &[(16, 7), (98, 0)], Found::OtherPlan(7)),
+    // The number of slots.
+    (Base::New, &[(15, 2)], NONE),
+    (Base::New, &[(15, 4)], NONE),
+    (Base::New, &[(12, 1)], NONE),
+    (Base::Old, &[(15, 3)], NONE),
+    (Base::Moved, &[(15, 3)], NONE),
+    // The second header: gate, magic, version, zeros, slots, digest, last byte.
+    (Base::Moved, &[(98, 0)], NONE),
+    (Base::Moved, &[(99, 0)], NONE),
+    (Base::Moved, &[(106, 1)], NONE),
+    (Base::Moved, &[(107, 1)], NONE),
+    (Base::Moved, &[(146, 1)], NONE),
+    (Base::Moved, &[(161, 0xA5)], NONE),
+    (Base::Moved, &[(113, 2)], NONE),
+    (Base::Moved, &[(114, 8)], NONE),
+    (Base::Moved, &[(145, 8)], NONE),
+    // Bodies after open gates: kind, the byte after it, unit, segment, the rest.
+    (Base::New, &[(67, 4)], NONE),
+    (Base::New, &[(68, 1)], NONE),
+    (Base::New, &[(70, 1)], NONE),
+    (Base::New, &[(71, 1)], NONE),
+    (Base::New, &[(82, 1)], NONE),
+    (Base::New, &[(88, 1)], NONE),
+    (Base::New, &[(89, 1)], NONE),
+    (Base::Old, &[(82, 3)], NONE),
+    (Base::Old, &[(85, 1)], NONE),
+    (Base::Moved, &[(181, 4)], NONE),
+    // Twice; complete and marked without begun.
+    (Base::New, &[(83, 1)], NONE),
+    (Base::New, &[(99, 3)], NONE),
+    (Base::New, &[(64, 0)], NONE),
+    (Base::New, &[(64, 0), (66, 0)], NONE),
+    (Base::New, &[(64, 0), (65, 0)], NONE),
+    (Base::Old, &[(82, 1)], NONE),
+    (Base::Old, &[(64, 0)], NONE),
+    // A gate that is not open hides its body.
+    (Base::New, &[(66, 0xA4), (99, 9)], MARKED),
+    // The order of the slots says nothing.
+    (Base::New, &[(67, 2), (99, 1)], DONE),
+    (Base::Old, &[(66, 2), (82, 1)], UNMARKED),
+    // Of a migrated file the first journal's slots count no more.
+    (Base::Moved, &[(65, 0xA5), (82, 9)], DONE),
+    (Base::Moved, &[(163, 0), (164, 0)], BEGUN),
+];
+
+// What a look at the file, a look at its bytes and an opening find.
 #[test]
 fn changed_bytes(rt: HostRuntime) -> Result<(), Fail> {
     let alloc = rt.alloc();
-    let cases: [(&[(usize, u8)], Found); 22] = [
-        (&[], WHOLE),
-        // A byte 0 of 0, or the magic behind a gate that is not open: a file that is not made yet.
-        (&[(0, 0)], NOTHING),
-        (&[(0, 0xA4)], NOTHING),
-        (&[(0, 0xA4), (1, 0)], Found::NotJournal),
-        // The fixed parts of the header.
-        (&[(1, 0x50)], Found::NotJournal),
-        (&[(7, 0)], Found::NotJournal),
-        (&[(8, 2)], Found::NotJournal),
-        (&[(9, 1)], Found::NotJournal),
-        (&[(11, 1)], Found::NotJournal),
-        (&[(48, 1)], Found::NotJournal),
-        (&[(63, 0xA5)], Found::NotJournal),
-        // The digest comes before slots and bodies.
-        (&[(16, 8)], Found::OtherPlan(8)),
-        (&[(47, 8), (15, 4), (66, 9)], Found::OtherPlan(7)),
-        (&[(15, 4)], Found::NotJournal),
-        // Bodies behind open gates.
-        (&[(66, 3)], Found::NotJournal),
-        (&[(67, 1)], Found::NotJournal),
-        (&[(69, 1)], Found::NotJournal),
-        (&[(81, 1)], Found::NotJournal),
-        // Twice, and complete without begun.
-        (&[(82, 1)], Found::NotJournal),
-        (&[(64, 0)], Found::NotJournal),
-        // A gate that is not open hides its body.
-        (&[(65, 0xA4), (82, 9)], BEGUN),
-        // The order of the slots says nothing.
-        (&[(66, 2), (82, 1)], WHOLE),
-    ];
-    for (changes, want) in cases {
-        let mut file = both(alloc)?;
+    let plan = one(alloc)?;
+    for (base, changes, want) in CASES {
+        let mut file = file_of(alloc, base)?;
         for (at, byte) in changes {
             if *at < file.len() {
                 file[*at] = *byte;
             }
         }
-        let seen = looked(alloc, &file, 1)?;
-        assert_eq!(rt; seen, want);
-        let found = opened(alloc, &file, 1)?;
-        assert_eq!(rt; found, want);
+        let found = opened(alloc, &file, &plan)?;
+        assert_eq!(rt; found, want, "{base:?} {changes:?}");
+        let found = looked(alloc, &file, &plan)?;
+        assert_eq!(rt; found, want, "{base:?} {changes:?}");
+        assert_eq!(rt; seen(alloc, &file, &plan), want, "{base:?} {changes:?}");
     }
     Ok(())
 }
 
-// Short files, files that are cut short, and bytes past the end.
+// Files of other forms, of 0 to 64 bytes.
 #[test]
-fn other_lengths(rt: HostRuntime) -> Result<(), Fail> {
+fn short_files(rt: HostRuntime) -> Result<(), Fail> {
     let alloc = rt.alloc();
-    let files: [(&[u8], Found); 7] = [
+    let plan = one(alloc)?;
+    let files: [(&[u8], Found); 8] = [
         (b"", NOTHING),
         (b"\x07", NOTHING),
         (b"\xA5", NOTHING),
         (b"\0anything", NOTHING),
-        (b"hello", Found::NotJournal),
+        (b"hello", NONE),
         (b"\x03ODXFJNL", NOTHING),
-        (b"\x03ODXFJN", Found::NotJournal),
+        (b"\x03ODXFJN", NONE),
+        (b"\xA5ODXFJNL\x02", NONE),
     ];
     for (file, want) in files {
-        let seen = looked(alloc, file, 1)?;
-        assert_eq!(rt; seen, want);
-        let found = opened(alloc, file, 1)?;
-        assert_eq!(rt; found, want);
+        let found = opened(alloc, file, &plan)?;
+        assert_eq!(rt; found, want, "{file:?}");
+        let found = looked(alloc, file, &plan)?;
+        assert_eq!(rt; found, want, "{file:?}");
     }
-    let whole = both(alloc)?;
-    for (size, want) in [
-        (63usize, Found::NotJournal),
-        (97, Found::NotJournal),
-        (98, WHOLE),
-    ] {
-        if size <= whole.len() {
-            let found = opened(alloc, &whole[..size], 1)?;
-            assert_eq!(rt; found, want);
-        }
-    }
-    let mut longer = both(alloc)?;
-    longer.push(0xA5)?;
-    let found = opened(alloc, &longer, 1)?;
-    assert_eq!(rt; found, WHOLE);
     Ok(())
 }
 
-// A journal of another plan, and a file that is none: refused, with the other's digest, and not written to.
+// Each file cut at each length, and with bytes past its end.
+#[test]
+fn each_length(rt: HostRuntime) -> Result<(), Fail> {
+    let alloc = rt.alloc();
+    let plan = one(alloc)?;
+    for (base, size, whole) in [
+        (Base::Old, 98, UNMARKED),
+        (Base::New, 115, DONE),
+        (Base::Moved, 213, DONE),
+    ] {
+        let mut file = file_of(alloc, base)?;
+        file.extend_from_slice(&[0xA5; 2])?;
+        assert_eq!(rt; file.len(), size + 2);
+        for length in 0..=file.len() {
+            let want = if length < 2 {
+                NOTHING
+            } else if length < size {
+                NONE
+            } else {
+                whole
+            };
+            assert_eq!(rt;
+                seen(alloc, &file[..length], &plan),
+                want,
+                "{base:?} {length}"
+            );
+        }
+    }
+    Ok(())
+}
+
+// A journal of another plan: refused in both versions, with the digest that it says, and not written to.
+#[test]
+fn other_plans_stay(rt: HostRuntime) -> Result<(), Fail> {
+    let alloc = rt.alloc();
+    let plan = plan_of(alloc, *b"abd")?;
+    for base in [Base::Old, Base::New, Base::Moved] {
+        let file = file_of(alloc, base)?;
+        let mut disk = MemDisk::new(alloc, &file, &[])?;
+        let other = match Journal::open(alloc, &mut disk, &plan) {
+            Err(OpenFault::OtherPlan { said }) => said == DIGEST,
+            _ => false,
+        };
+        assert!(rt; other, "{base:?}");
+        let left = crashed(alloc, &disk, 100, Pick::New)?;
+        assert_eq!(rt; left.as_slice(), file.as_slice());
+    }
+    Ok(())
+}
+
+// A file that is no journal is not written to.
 #[test]
 fn other_files_stay(rt: HostRuntime) -> Result<(), Fail> {
     let alloc = rt.alloc();
-    let whole = both(alloc)?;
-    let mut disk = MemDisk::new(alloc, &whole, &[])?;
-    let other = match Journal::open(alloc, &mut disk, &[8; 32], 1) {
-        Err(OpenFault::OtherPlan { said }) => said == DIGEST,
-        _ => false,
-    };
-    assert!(rt; other);
-    let left = crashed(alloc, &disk, 100, Pick::New)?;
-    assert_eq!(rt; left.as_slice(), whole.as_slice());
+    let plan = one(alloc)?;
     let mut disk = MemDisk::new(alloc, b"hello", &[])?;
-    let none = match Journal::open(alloc, &mut disk, &DIGEST, 1) {
+    let none = match Journal::open(alloc, &mut disk, &plan) {
         Err(OpenFault::NotJournal) => true,
         _ => false,
     };
@@ -122,14 +213,20 @@ fn other_files_stay(rt: HostRuntime) -> Result<(), Fail> {
 #[test]
 fn entries_in_the_order_of_slots(rt: HostRuntime) -> Result<(), Fail> {
     let alloc = rt.alloc();
-    let mut file = both(alloc)?;
-    if file.len() > 82 {
-        file[66] = 2;
-        file[82] = 1;
+    let plan = one(alloc)?;
+    let mut file = file_of(alloc, Base::New)?;
+    if file.len() > 99 {
+        file[67] = 2;
+        file[99] = 1;
     }
-    let mut disk = MemDisk::new(alloc, &file, &[])?;
-    let same = match look(alloc, &mut disk, &DIGEST, 1) {
-        Ok(entries) => entries.as_slice() == [Entry::Complete(0), Entry::Begun(0)].as_slice(),
+    let marked = Entry::Marked {
+        unit: 0,
+        segment: 0,
+    };
+    let same = match look_bytes(alloc, &file, &plan) {
+        Ok(entries) => {
+            entries.as_slice() == [Entry::Complete(0), marked, Entry::Begun(0)].as_slice()
+        }
         Err(_) => false,
     };
     assert!(rt; same);

@@ -1,63 +1,172 @@
-use flash_base::Bytes;
-use flash_journal::{Entry, Journal, OpenFault, look};
+ghost use Rattle.std.specs.Prelude.{IfOk};
+ghost use Rattle.flash_plan.specs.Accepting.{IsDraft};
+ghost use Rattle.flash_plan.specs.Plan.{IsTaskName};
+
+use flash_base::{Bytes, Items, KeyRule, Names, NoMemory, Text, Width};
+use flash_journal::{Entry, Journal, OpenFault, look, look_bytes};
+use flash_plan::{Draft, Entries, Plan, Segment, accept};
 use mem_disk::{MemDisk, Pick};
 use std::alloc::Global;
 use std::test::Fail;
 
-pub const DIGEST: [u8; 32] = [7; 32];
+/// What is recorded of a unit, whose segment is number 0.
+#[derive(Clone, Copy, Debug, PartialEq, Eq)]
+pub enum Unit {
+    Nothing,
+    Begun,
+    /// Begun, and its segment marked.
+    Marked,
+    /// Begun and complete, with no mark.
+    Unmarked,
+    /// Begun, marked and complete.
+    Done,
+    /// Marked or complete, and not begun.
+    Wrong,
+}
 
-/// What stands in a file for a plan of one or two units.
+/// What stands in a file for a plan.
 #[derive(Clone, Copy, Debug, PartialEq, Eq)]
 pub enum Found {
-    /// Whether unit 0 and unit 1 are begun and complete.
-    Entries(bool, bool, bool, bool),
+    /// The entries of the units 0 and 1.
+    Entries(Unit, Unit),
     NotJournal,
+    /// The first byte of the other plan's digest.
     OtherPlan(u8),
     Failed,
 }
 
-pub const NOTHING: Found = Found::Entries(false, false, false, false);
+pub const NOTHING: Found = Found::Entries(Unit::Nothing, Unit::Nothing);
 
-/// The journal of one unit that is begun and complete.
-pub fn both(alloc: Global) -> Result<Vec<u8>, Fail> {
-    let mut file = Vec::from_slice(alloc, b"\xA5ODXFJNL\x01\0\0\0\0\0\0\x02")?;
-    file.extend_from_slice(&DIGEST)?;
-    file.extend_from_slice(&[0; 16])?;
-    file.extend_from_slice(&[0xA5, 0xA5])?;
-    file.extend_from_slice(&[1, 0, 0, 0, 0, 0, 0, 0, 0, 0, 0, 0, 0, 0, 0, 0])?;
-    file.extend_from_slice(&[2, 0, 0, 0, 0, 0, 0, 0, 0, 0, 0, 0, 0, 0, 0, 0])?;
-    Ok(file)
+pub const BEGUN: Found = Found::Entries(Unit::Begun, Unit::Nothing);
+
+fn unit_of(begun: bool, marked: bool, complete: bool) -> Unit {
+    match (begun, marked, complete) {
+        (false, false, false) => Unit::Nothing,
+        (true, false, false) => Unit::Begun,
+        (true, true, false) => Unit::Marked,
+        (true, false, true) => Unit::Unmarked,
+        (true, true, true) => Unit::Done,
+        _ => Unit::Wrong,
+    }
+}
+
+/// A unit with this name and address and these bytes at 1000, without key rule.
+fn draft(alloc: Global, name: &str, address: u16, body: [u8; 3]) -> Result<Draft, NoMemory>
+    requires { IsTaskName name.now }
+    ensures { IfOk result IsDraft }
+{
+    let mut segments = Items::new(alloc);
+    segments.push(Segment {
+        at: 0x1000,
+        body: Bytes::from_slice(alloc, &body)?,
+    })?;
+    Ok(Draft {
+        name: Text::from_str(alloc, name)?,
+        address,
+        width: Width { size: 4, at: 4 },
+        check: 0x0202,
+        key: KeyRule::Free,
+        idents: Items::new(alloc),
+        after: Names::new(alloc),
+        segments,
+    })
+}
+
+/// A plan of one unit with one segment of these bytes.
+pub fn plan_of(alloc: Global, body: [u8; 3]) -> Result<Plan, Fail> {
+    let mut drafts = Items::new(alloc);
+    drafts.push(draft(alloc, "A", 0x1001, body)?)?;
+    Ok(accept(alloc, drafts)?)
+}
+
+/// The plan of one unit with one segment.
+pub fn one(alloc: Global) -> Result<Plan, Fail> {
+    plan_of(alloc, *b"abc")
+}
+
+/// The plan of two units with one segment each.
+pub fn two(alloc: Global) -> Result<Plan, Fail> {
+    let mut drafts = Items::new(alloc);
+    drafts.push(draft(alloc, "A", 0x1001, *b"abc")?)?;
+    drafts.push(draft(alloc, "B", 0x1002, *b"abc")?)?;
+    Ok(accept(alloc, drafts)?)
+}
+
+/// The plan of three units with one segment each.
+pub fn three(alloc: Global) -> Result<Plan, Fail> {
+    let mut drafts = Items::new(alloc);
+    drafts.push(draft(alloc, "A", 0x1001, *b"abc")?)?;
+    drafts.push(draft(alloc, "B", 0x1002, *b"abc")?)?;
+    drafts.push(draft(alloc, "C", 0x1003, *b"abc")?)?;
+    Ok(accept(alloc, drafts)?)
 }
 
 /// What an opening of the file finds.
-pub fn opened(alloc: Global, image: &[u8], units: u16) -> Result<Found, Fail> {
+pub fn opened(alloc: Global, image: &[u8], plan: &Plan) -> Result<Found, Fail> {
     let mut disk = MemDisk::new(alloc, image, &[])?;
-    match Journal::open(alloc, &mut disk, &DIGEST, units) {
-        Ok(journal) => Ok(Found::Entries(
-            journal.has(Entry::Begun(0)),
-            journal.has(Entry::Complete(0)),
-            journal.has(Entry::Begun(1)),
-            journal.has(Entry::Complete(1)),
-        )),
-        Err(fault) => Ok(refused(fault)),
+    Ok(match Journal::open(alloc, &mut disk, plan) {
+        Ok(journal) => held(&journal),
+        Err(fault) => refused(fault),
+    })
+}
+
+/// What a journal in memory has.
+pub fn held(journal: &Journal) -> Found {
+    let first = unit_of(
+        journal.has(Entry::Begun(0)),
+        journal.has(Entry::Marked {
+            unit: 0,
+            segment: 0,
+        }),
+        journal.has(Entry::Complete(0)),
+    );
+    let second = unit_of(
+        journal.has(Entry::Begun(1)),
+        journal.has(Entry::Marked {
+            unit: 1,
+            segment: 0,
+        }),
+        journal.has(Entry::Complete(1)),
+    );
+    Found::Entries(first, second)
+}
+
+fn listed(answer: Result<Entries, OpenFault>) -> Found {
+    match answer {
+        Ok(entries) => listed_in(entries.as_slice()),
+        Err(fault) => refused(fault),
     }
 }
 
+fn listed_in(list: &[Entry]) -> Found {
+    let first = unit_of(
+        list.contains(&Entry::Begun(0)),
+        list.contains(&Entry::Marked {
+            unit: 0,
+            segment: 0,
+        }),
+        list.contains(&Entry::Complete(0)),
+    );
+    let second = unit_of(
+        list.contains(&Entry::Begun(1)),
+        list.contains(&Entry::Marked {
+            unit: 1,
+            segment: 0,
+        }),
+        list.contains(&Entry::Complete(1)),
+    );
+    Found::Entries(first, second)
+}
+
 /// What a look at the file finds.
-pub fn looked(alloc: Global, image: &[u8], units: u16) -> Result<Found, Fail> {
+pub fn looked(alloc: Global, image: &[u8], plan: &Plan) -> Result<Found, Fail> {
     let mut disk = MemDisk::new(alloc, image, &[])?;
-    match look(alloc, &mut disk, &DIGEST, units) {
-        Ok(entries) => {
-            let list = entries.as_slice();
-            Ok(Found::Entries(
-                list.contains(&Entry::Begun(0)),
-                list.contains(&Entry::Complete(0)),
-                list.contains(&Entry::Begun(1)),
-                list.contains(&Entry::Complete(1)),
-            ))
-        }
-        Err(fault) => Ok(refused(fault)),
-    }
+    Ok(listed(look(alloc, &mut disk, plan)))
+}
+
+/// What a look at the bytes alone finds.
+pub fn seen(alloc: Global, image: &[u8], plan: &Plan) -> Found {
+    listed(look_bytes(alloc, image, plan))
 }
 
 fn refused(fault: OpenFault) -> Found {
@@ -68,9 +177,9 @@ fn refused(fault: OpenFault) -> Found {
     }
 }
 
-/// The image that a crash leaves behind so many calls, or behind all if there are fewer.
+/// The image that a crash leaves after so many calls, or after all if there are fewer.
 pub fn crashed(alloc: Global, disk: &MemDisk, calls: u64, pick: Pick) -> Result<Bytes, Fail> {
     let made = disk.calls();
-    let behind = if calls < made { calls } else { made };
-    Ok(disk.crash(alloc, behind, pick)?)
+    let after = if calls < made { calls } else { made };
+    Ok(disk.crash(alloc, after, pick)?)
 }

@@ -8,7 +8,7 @@ use Rattle.flash_plan.specs.declared.unit.LinkRules.{LinkRules}
 use Rattle.flash_plan.specs.declared.unit.UnitPlan.{UnitPlan}
 use Rattle.run_model.specs.Link.{Link, is_open, is_known, hear_piece, take_message, first_message, without_first}
 use Rattle.run_model.specs.Ways.{UnitMessage, messages_from, messages_in}
-use Rattle.bay_core.proofs.Takes.{others_keep}
+use Rattle.bay_core.proofs.Takes.{others_keep, first_none}
 use Rattle.bay_core.specs.Core.{addresses_of}
 use Rattle.bay_core.specs.declared.event.Event.{Event}
 use Rattle.bay_core.specs.declared.event.Event.TheVariants.{Collected, Tended}
@@ -21,7 +21,7 @@ use Rattle.link_law.proofs.Moving.{Stands, WordsMove}
 use Rattle.link_law.proofs.Piecing.{IsPiece, reads, words_all, piece_stands}
 use Rattle.link_law.proofs.Pieces.{PieceReads}
 use Rattle.link_law.proofs.Silent.{IsSilent, all_bytes}
-use Rattle.link_law.proofs.Words.{IsKept, untaken, kept_word, came_word, more_words, more_long, without_none, first_none}
+use Rattle.link_law.proofs.Words.{IsKept, untaken, kept_word, came_word, more_words, more_long, without_none}
 
 -- ------ a message that was kept
 kept_silent : (u : ℕ) → IsSilent (Collected u Kept)

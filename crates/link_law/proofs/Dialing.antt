@@ -2,6 +2,7 @@
 use Rattle.std.proofs.Common.{◌≡◌, ℕ, ◌+◌, ◌≤◌, true, false, List, [], ◌∷◌, ◌++◌, length, drop, Some, refl, sym, ◌∙◌, ap, subst, arith}
 use Rattle.std.specs.Prelude.{Bool, Option, ◌||◌, not, nat_le, nat_lt, is_some, if◌then◌else◌}
 use Rattle.std.proofs.lemmas.Bool.{false≢true, both_ways}
+use Rattle.std.proofs.Math.Bool.{or-true}
 use Rattle.doip_frame.specs.Frame.{stream_of}
 use Rattle.flash_plan.specs.declared.unit.LinkRules.{LinkRules}
 use Rattle.flash_plan.specs.declared.unit.UnitPlan.{UnitPlan}
@@ -16,7 +17,7 @@ use Rattle.link_law.specs.Happened.{one, has, count}
 use Rattle.link_law.specs.Kinds.{bytes_in, is_dial, is_ask, is_quiet, is_quiet_wait}
 use Rattle.link_law.specs.Looked.{answer_in, unit_messages}
 use Rattle.link_law.specs.Follows.{last_dial, since_dial, is_ended, is_loss, phase_in, is_owed, taken}
-use Rattle.link_law.proofs.Lists.{has_more, count_more, count_same, behind_it, to_same, count_after_more, dial_is, or_true}
+use Rattle.link_law.proofs.Lists.{has_more, count_more, count_same, behind_it, to_same, count_after_more, dial_is}
 use Rattle.link_law.proofs.Moving.{Stands, stands}
 use Rattle.link_law.proofs.Standing.{IsFresh, fresh_of}
 use Rattle.link_law.proofs.Silent.{IsSilent, fails, untaken_words, asked_now, owed_same, all_bytes, since_bytes, ended_more, none_more}
@@ -81,7 +82,7 @@ module _ (rules : LinkRules) (P : List UnitPlan) (es : List Event) (l : Link) (f
       ∙ (λ i. was.live.called i || was.live.whole i || (ap (nat_le 1000) (count_same is_quiet_wait (Tended (Asked false)) refl (since_dial es)) ∙ was.live.patient) i)
 
   has_asked : has is_ask (since_dial es ++ (Tended (Asked false) ∷ [])) ≡ true
-  has_asked = has_more is_ask (Tended (Asked false)) (since_dial es) ∙ or_true (has is_ask (since_dial es))
+  has_asked = has_more is_ask (Tended (Asked false)) (since_dial es) ∙ or-true (has is_ask (since_dial es))
 
   no_bytes : bytes_in (since_dial es ++ (Tended (Asked false) ∷ [])) ≡ []
   no_bytes = since_bytes (since_dial es) (Tended (Asked false)) (ask_silent false) ∙ s.link.unasked was.asked
@@ -118,7 +119,7 @@ module _ (rules : LinkRules) (P : List UnitPlan) (es : List Event) (l : Link) (f
     ticks = refl;
     asked = asked_now rules P es (Tended (Asked true)) (ask_silent true) l refl refl s.link;
     owes = s.link.owes ∙ sym (owed_same (since_dial es) (Tended (Asked true)) (ask_silent true) refl);
-    unasked = λ none_asked. absurd (both_ways _ none_asked (has_more is_ask (Tended (Asked true)) (since_dial es) ∙ or_true (has is_ask (since_dial es))));
+    unasked = λ none_asked. absurd (both_ways _ none_asked (has_more is_ask (Tended (Asked true)) (since_dial es) ∙ or-true (has is_ask (since_dial es))));
     words = untaken_words rules P es (Tended (Asked true)) (ask_silent true) l (asked_link true l) (λ a. refl) s.link refl;
   })
 

@@ -1,12 +1,13 @@
 -- Each event, and the whole list.
 use Rattle.std.proofs.Common.{◌≡◌, ℕ, ◌+◌, true, false, List, [], ◌∷◌, ◌++◌, refl, sym, ◌∙◌, ap, subst, append_assoc, arith}
-use Rattle.std.specs.Prelude.{Bool, ◌==◌, ◌&&◌, not, is_some, if◌then◌else◌}
-use Rattle.std.proofs.lemmas.Bool.{false≢true, and_parts}
+use Rattle.std.specs.Prelude.{Bool, ◌==◌, ◌&&◌, is_some, if◌then◌else◌}
+use Rattle.std.proofs.lemmas.Bool.{false≢true, and_parts, not-true}
 use Rattle.std.proofs.lemmas.List.{append-nil}
+use Rattle.std.proofs.Math.Bool.{and-false}
 use Rattle.flash_plan.specs.Plan.{plan_of}
 use Rattle.flash_plan.specs.declared.unit.LinkRules.{LinkRules}
 use Rattle.flash_plan.specs.declared.unit.UnitPlan.{UnitPlan}
-use Rattle.run_model.specs.Link.{Link, Phase, link_start, is_down, is_dialed, is_asked, is_up, is_open, drop_link, quiet_link, polled_quiet, unanswered, said_link, take_message, first_message}
+use Rattle.run_model.specs.Link.{Link, link_start, is_down, is_dialed, is_asked, is_open, drop_link, quiet_link, polled_quiet, unanswered, said_link, take_message, first_message}
 use Rattle.run_model.specs.Link as phase
 use Rattle.bay_core.proofs.Allowed.{CollectedFacts, collected_facts, sent_facts}
 use Rattle.bay_core.specs.Core.{Core, core_of, core_start, core_after, link_after, tended_link}
@@ -29,14 +30,6 @@ use Rattle.link_law.proofs.Silent.{IsSilent, keeps, fails, untaken_words, asked_
 use Rattle.run_model.proofs.Phases.{down_is, dialed_is, asked_is, up_is}
 
 -- ------ phases
-not_true : (b : Bool) → not b ≡ true → b ≡ false
-not_true true e = absurd (false≢true e)
-not_true false e = refl
-
-and_false : (b : Bool) → (b && false) ≡ false
-and_false true = refl
-and_false false = refl
-
 module _ (rules : LinkRules) (P : List UnitPlan) (es : List Event) (l : Link) (s : Stands rules P es l) where
   -- an event that is nothing to the link
   record IsIdle (x : Event) : Type 0 where
@@ -172,7 +165,7 @@ module _ (rules : LinkRules) (P : List UnitPlan) (es : List Event) (l : Link) (s
     ticks = refl;
     calm = λ e. absurd (false≢true (ap is_asked (sym up ∙ e)));
     owes = s.link.owes ∙ sym (owed_same (since_dial es) (Collected u Quiet) silent refl);
-    words = untaken_words rules P es (Collected u Quiet) silent l (quiet_link l) (λ a. and_false ((plan_of P u).address == a)) s.link refl;
+    words = untaken_words rules P es (Collected u Quiet) silent l (quiet_link l) (λ a. and-false ((plan_of P u).address == a)) s.link refl;
   }))
     where
       silent : IsSilent (Collected u Quiet)
@@ -198,8 +191,8 @@ module _ (rules : LinkRules) (P : List UnitPlan) (es : List Event) (c : Core) (s
   collects : (u : ℕ) (heard : Heard) → CollectedFacts P c u heard → Stands rules P (es ++ (Collected u heard ∷ [])) (link_after rules P (Collected u heard) c.link)
   collects u Kept f = kept rules P es c.link s u f.inbox
   collects u Quiet f = quiet_up rules P es c.link s u (up_is c.link.phase f.up)
-  collects u (Piece bytes) f = pieces.collected rules P es u bytes c.link (ap is_open (up_is c.link.phase f.up)) (not_true _ f.inbox) s
-  collects u Lost f = failure rules P es c.link s (Collected u Lost) (record { silent = record { no_dial = refl; none = refl; bytes = refl }; failed = refl; no_quiet = refl; no_ask = refl; no_say = refl; loss = refl; no_take = λ a. and_false ((plan_of P u).address == a) }) (ap is_down (up_is c.link.phase f.up))
+  collects u (Piece bytes) f = pieces.collected rules P es u bytes c.link (ap is_open (up_is c.link.phase f.up)) (not-true _ f.inbox) s
+  collects u Lost f = failure rules P es c.link s (Collected u Lost) (record { silent = record { no_dial = refl; none = refl; bytes = refl }; failed = refl; no_quiet = refl; no_ask = refl; no_say = refl; loss = refl; no_take = λ a. and-false ((plan_of P u).address == a) }) (ap is_down (up_is c.link.phase f.up))
 
   pub each_event : (e : Event) → is_allowed P c e ≡ true → Stands rules P (es ++ (e ∷ [])) (link_after rules P e c.link)
   each_event (Claimed u) ok = idle rules P es c.link s (Claimed u) (record { silent = record { no_dial = refl; none = refl; bytes = refl }; works = refl; no_wait = refl; no_quiet = refl; no_ask = refl; no_say = refl; no_loss = refl; no_take = λ a. refl })

@@ -7,6 +7,7 @@ use Rattle.doip_frame.specs.declared.frame.Frame.{Frame}
 use Rattle.doip_frame.specs.declared.frame.Frame.TheVariants.{HeaderNack, Activate, Activated, AliveAsk, AliveSay, Message, Ack, Nack, Other}
 use Rattle.bay_core.specs.LinkLaws.{refuses_header, first_code}
 use Rattle.link_law.specs.Looked.{before_refusal, before_answer, answer_in, is_denial, looked_at, checks_in}
+use Rattle.bay_core.proofs.LinkLaws.{code_more}
 
 pub refuses_more : (F G : List Frame) → refuses_header F ≡ false → refuses_header (F ++ G) ≡ refuses_header G
 refuses_more [] G no_refusal = refl
@@ -34,19 +35,6 @@ before_more (Other kind payload ∷ F) G no_refusal = ap (λ (fs : List Frame). 
 
 pub before_all : (F : List Frame) → refuses_header F ≡ false → before_refusal F ≡ F
 before_all F no_refusal = ap before_refusal (sym (append-nil F)) ∙ before_more F [] no_refusal ∙ append-nil F
-
--- where no answer came yet
-pub code_more : (F G : List Frame) → first_code F ≡ None → first_code (F ++ G) ≡ first_code G
-code_more [] G none = refl
-code_more (Activated t entity code oem ∷ F) G none = absurd (false≢true (sym (ap (is_some {T = ℕ}) none)))
-code_more (HeaderNack code ∷ F) G none = code_more F G none
-code_more (Activate source kind oem ∷ F) G none = code_more F G none
-code_more (AliveAsk ∷ F) G none = code_more F G none
-code_more (AliveSay source ∷ F) G none = code_more F G none
-code_more (Message s t body ∷ F) G none = code_more F G none
-code_more (Ack s t code old ∷ F) G none = code_more F G none
-code_more (Nack s t code old ∷ F) G none = code_more F G none
-code_more (Other kind payload ∷ F) G none = code_more F G none
 
 -- where one came
 pub code_stays : (F G : List Frame) (c : ℕ) → first_code F ≡ Some c → first_code (F ++ G) ≡ Some c

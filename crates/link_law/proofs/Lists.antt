@@ -3,30 +3,19 @@ use Rattle.std.proofs.Common.{◌≡◌, inl, inr, ℕ, ◌+◌, true, false, Li
 use Rattle.std.specs.Prelude.{Bool, Option, ◌&&◌, ◌||◌, not, nat_lt, if◌then◌else◌}
 use Rattle.std.proofs.lemmas.Bool.{cases_Bool}
 use Rattle.std.proofs.lemmas.List.{append-nil}
+use Rattle.std.proofs.Math.Bool.{or_assoc, or-false, or-true}
 use Rattle.bay_core.specs.declared.event.Event.{Event}
 use Rattle.link_law.specs.Happened.{one, has, count, behind_last, to_last, count_after, some_amid}
 use Rattle.link_law.specs.Kinds.{bytes_in, event_bytes, is_dial, is_say, dial_of}
 use Rattle.link_law.specs.Looked.{checks_of}
 use Rattle.link_law.specs.Follows.{last_dial, leaves_check}
 
-pub or_assoc : (a b c : Bool) → ((a || b) || c) ≡ (a || (b || c))
-or_assoc true b c = refl
-or_assoc false b c = refl
-
-pub or_false : (a : Bool) → (a || false) ≡ a
-or_false true = refl
-or_false false = refl
-
-pub or_true : (a : Bool) → (a || true) ≡ true
-or_true true = refl
-or_true false = refl
-
 pub add_right : (a b c : ℕ) → a + (b + c) ≡ (a + b) + c
 add_right a b c = omega arith
 
 module _ (kind : Event → Bool) (x : Event) where
   pub has_more : (es : List Event) → has kind (es ++ (x ∷ [])) ≡ (has kind es || kind x)
-  has_more [] = or_false (kind x)
+  has_more [] = or-false (kind x)
   has_more (e ∷ es) = ap (λ (b : Bool). kind e || b) (has_more es) ∙ sym (or_assoc (kind e) (has kind es) (kind x))
 
   pub count_more : (es : List Event) → count kind (es ++ (x ∷ [])) ≡ count kind es + one (kind x)
@@ -38,19 +27,19 @@ module _ (kind : Event → Bool) (x : Event) where
 
   module _ (is : kind x ≡ true) where
     some : (es : List Event) → has kind (es ++ (x ∷ [])) ≡ true
-    some es = has_more es ∙ ap (λ (b : Bool). has kind es || b) is ∙ or_true (has kind es)
+    some es = has_more es ∙ ap (λ (b : Bool). has kind es || b) is ∙ or-true (has kind es)
 
     pub behind_it : (es : List Event) → behind_last kind (es ++ (x ∷ [])) ≡ []
-    behind_it [] = ap (λ (b : Bool). if b then [] else x ∷ []) (or_false (kind x) ∙ is)
+    behind_it [] = ap (λ (b : Bool). if b then [] else x ∷ []) (or-false (kind x) ∙ is)
     behind_it (e ∷ es) = ap (λ (b : Bool). if b then behind_last kind (es ++ (x ∷ [])) else e ∷ (es ++ (x ∷ []))) (some (e ∷ es)) ∙ behind_it es
 
     pub to_it : (es : List Event) → to_last kind (es ++ (x ∷ [])) ≡ es ++ (x ∷ [])
-    to_it [] = ap (λ (b : Bool). if b then x ∷ [] else []) (or_false (kind x) ∙ is)
+    to_it [] = ap (λ (b : Bool). if b then x ∷ [] else []) (or-false (kind x) ∙ is)
     to_it (e ∷ es) = ap (λ (b : Bool). if b then e ∷ to_last kind (es ++ (x ∷ [])) else []) (some (e ∷ es)) ∙ ap (λ (xs : List Event). e ∷ xs) (to_it es)
 
   module _ (is_not : kind x ≡ false) where
     pub has_same : (es : List Event) → has kind (es ++ (x ∷ [])) ≡ has kind es
-    has_same es = has_more es ∙ ap (λ (b : Bool). has kind es || b) is_not ∙ or_false (has kind es)
+    has_same es = has_more es ∙ ap (λ (b : Bool). has kind es || b) is_not ∙ or-false (has kind es)
 
     pub count_same : (es : List Event) → count kind (es ++ (x ∷ [])) ≡ count kind es
     count_same es = count_more es ∙ ap (λ (b : Bool). count kind es + one b) is_not ∙ add_nothing (count kind es)
@@ -59,7 +48,7 @@ module _ (kind : Event → Bool) (x : Event) where
         add_nothing n = omega arith
 
     pub behind_same : (es : List Event) → behind_last kind (es ++ (x ∷ [])) ≡ behind_last kind es ++ (x ∷ [])
-    behind_same [] = ap (λ (b : Bool). if b then [] else x ∷ []) (or_false (kind x) ∙ is_not)
+    behind_same [] = ap (λ (b : Bool). if b then [] else x ∷ []) (or-false (kind x) ∙ is_not)
     behind_same (e ∷ es) = elim (cases_Bool (has kind (e ∷ es))) [
       | inl h ↦ ap (λ (b : Bool). if b then behind_last kind (es ++ (x ∷ [])) else e ∷ (es ++ (x ∷ []))) (has_same (e ∷ es) ∙ h) ∙ behind_same es
           ∙ ap (λ (b : Bool). (if b then behind_last kind es else e ∷ es) ++ (x ∷ [])) (sym h)
@@ -68,7 +57,7 @@ module _ (kind : Event → Bool) (x : Event) where
     ]
 
     pub to_same : (es : List Event) → to_last kind (es ++ (x ∷ [])) ≡ to_last kind es
-    to_same [] = ap (λ (b : Bool). if b then x ∷ [] else []) (or_false (kind x) ∙ is_not)
+    to_same [] = ap (λ (b : Bool). if b then x ∷ [] else []) (or-false (kind x) ∙ is_not)
     to_same (e ∷ es) = ap (λ (b : Bool). if b then e ∷ to_last kind (es ++ (x ∷ [])) else []) (has_same (e ∷ es)) ∙ ap (λ (xs : List Event). if has kind (e ∷ es) then e ∷ xs else []) (to_same es)
 
 pub bytes_more : (es : List Event) (x : Event) → bytes_in (es ++ (x ∷ [])) ≡ bytes_in es ++ event_bytes x
@@ -87,7 +76,7 @@ count_after_more test before (e ∷ es) x =
 
 pub dial_is : (es : List Event) (x : Event) → is_dial x ≡ true → last_dial (es ++ (x ∷ [])) ≡ dial_of x
 dial_is [] x is = refl
-dial_is (e ∷ es) x is = ap (λ (b : Bool). if b then last_dial (es ++ (x ∷ [])) else dial_of e) (has_more is_dial x es ∙ ap (λ (b : Bool). has is_dial es || b) is ∙ or_true (has is_dial es)) ∙ dial_is es x is
+dial_is (e ∷ es) x is = ap (λ (b : Bool). if b then last_dial (es ++ (x ∷ [])) else dial_of e) (has_more is_dial x es ∙ ap (λ (b : Bool). has is_dial es || b) is ∙ or-true (has is_dial es)) ∙ dial_is es x is
 
 pub dial_same : (es : List Event) (x : Event) → is_dial x ≡ false → dial_of x ≡ None → last_dial (es ++ (x ∷ [])) ≡ last_dial es
 dial_same [] x is_not none = none

@@ -2,6 +2,7 @@
 use Rattle.std.proofs.Common.{◌≡◌, inl, inr, ℕ, ◌+◌, true, false, List, [], ◌∷◌, ◌++◌, Some, None, refl, sym, ◌∙◌, ap, subst, arith}
 use Rattle.std.specs.Prelude.{Bool, Option, ◌==◌, ◌&&◌, ◌||◌, not, nat_le, nat_lt, if◌then◌else◌}
 use Rattle.std.proofs.lemmas.Bool.{cases_lt, lt-ltb, le-ltb, false≢true, both_ways}
+use Rattle.std.proofs.Math.Bool.{or-false, and-true}
 use Rattle.doip_frame.proofs.Streams.{split}
 use Rattle.doip_frame.specs.Frame.{Stream, stream_of}
 use Rattle.doip_frame.specs.declared.frame.Frame.{Frame}
@@ -19,7 +20,7 @@ use Rattle.link_law.specs.Kinds.{event_bytes, bytes_in, is_dial, is_ask, is_say,
 use Rattle.link_law.specs.Looked.{answer_in, is_broken, checks_in, checks_of, unit_messages}
 use Rattle.link_law.specs.Follows.{last_dial, since_dial, is_ended, is_loss, phase_in, is_owed}
 use Rattle.link_law.proofs.Frames.{checks_more}
-use Rattle.link_law.proofs.Lists.{has_same, count_same, to_same, bytes_more, or_false, owed_more, brings}
+use Rattle.link_law.proofs.Lists.{has_same, count_same, to_same, bytes_more, owed_more, brings}
 use Rattle.link_law.proofs.Moving.{Stands, WordsMove, stands}
 use Rattle.link_law.proofs.Pieces.{PieceReads, piece_reads, joint}
 use Rattle.link_law.proofs.Silent.{none_more}
@@ -43,7 +44,7 @@ piece_phase d w p x is o = ap (λ (y : Option Bool). phase_in y (w ++ (x ∷ [])
   where
     ended : is_ended (w ++ (x ∷ [])) ≡ is_broken (stream_of (bytes_in w ++ event_bytes x))
     ended = (λ i. (has_same is_failed_call x is.works w ∙ o.live.called) i || is_broken (stream_of (bytes_more w x i)) || (ap (nat_le 1000) (count_same is_quiet_wait x is.no_wait w) ∙ o.live.patient) i)
-        ∙ or_false (is_broken (stream_of (bytes_in w ++ event_bytes x)))
+        ∙ or-false (is_broken (stream_of (bytes_in w ++ event_bytes x)))
 
 answer_stands : (o : Option ℕ) → is_down (phase_for o) ≡ false
 answer_stands None = refl
@@ -117,12 +118,8 @@ module _ (rules : LinkRules) (P : List UnitPlan) (es : List Event) (x : Event) (
   owed : (l.owes || nat_lt 0 (checks_in reads.extra)) ≡ is_owed (since_dial es ++ (x ∷ []))
   owed =
       (λ i. s.link.owes i || (more_checks (checks_of (bytes_in (since_dial es))) (checks_in reads.extra) ∙ ap (nat_lt (checks_of (bytes_in (since_dial es)))) (sym checks_all)) i)
-      ∙ ap (λ (b : Bool). b || brings (since_dial es) x) (sym (ap (λ (b : Bool). is_owed (since_dial es) && not b) is.no_say ∙ as_before (is_owed (since_dial es))))
+      ∙ ap (λ (b : Bool). b || brings (since_dial es) x) (sym (ap (λ (b : Bool). is_owed (since_dial es) && not b) is.no_say ∙ and-true (is_owed (since_dial es))))
       ∙ sym (owed_more [] (since_dial es) x)
-    where
-      as_before : (b : Bool) → (b && true) ≡ b
-      as_before true = refl
-      as_before false = refl
 
   -- with these messages in the inbox
   pub piece_stands : (inbox : List (ℕ × UnitMessage)) → WordsMove rules P es x (record behind { inbox = inbox }) → Stands rules P (es ++ (x ∷ [])) (record behind { inbox = inbox })

@@ -3,6 +3,7 @@ use Rattle.std.proofs.Common.{◌≡◌, inl, inr, ℕ, ◌+◌, true, false, Li
 use Rattle.std.specs.Prelude.{Bool, Option, ◌==◌, ◌&&◌, ◌||◌, not, is_some, nat_lt, if◌then◌else◌}
 use Rattle.std.proofs.lemmas.Bool.{cases_Bool, both_ways, eqb-true}
 use Rattle.std.proofs.lemmas.List.{append-nil}
+use Rattle.std.proofs.Math.Bool.{or-false, or-true, or_assoc}
 use Rattle.doip_frame.specs.declared.frame.Bad.{Bad}
 use Rattle.doip_frame.specs.declared.frame.Frame.{Frame}
 use Rattle.doip_frame.specs.declared.frame.Frame.TheVariants.{HeaderNack, Activate, Activated, AliveAsk, AliveSay, Message, Ack, Nack, Other}
@@ -29,21 +30,9 @@ pub record Reads (tester : ℕ) (units : List ℕ) (l m : Link) (fs : List Frame
   pub words : (a : ℕ) → is_known units a ≡ true → messages_from a m.inbox ≡ messages_from a l.inbox ++ messages_in tester a fs
   pub others : (a : ℕ) → is_known units a ≡ false → messages_from a m.inbox ≡ messages_from a l.inbox
 
-or_false : (a : Bool) → a ≡ (a || false)
-or_false true = refl
-or_false false = refl
-
-or_true : (a : Bool) → true ≡ (a || true)
-or_true true = refl
-or_true false = refl
-
 or_more : (a : Bool) (m n : ℕ) → ((a || nat_lt 0 m) || nat_lt 0 n) ≡ (a || nat_lt 0 (m + n))
-or_more a m n = ap (λ (b : Bool). b) (assoc a (nat_lt 0 m) (nat_lt 0 n)) ∙ ap (λ (b : Bool). a || b) (positive m n)
+or_more a m n = ap (λ (b : Bool). b) (or_assoc a (nat_lt 0 m) (nat_lt 0 n)) ∙ ap (λ (b : Bool). a || b) (positive m n)
   where
-    assoc : (a b c : Bool) → ((a || b) || c) ≡ (a || (b || c))
-    assoc true b c = refl
-    assoc false b c = refl
-
     positive : (m n : ℕ) → (nat_lt 0 m || nat_lt 0 n) ≡ nat_lt 0 (m + n)
     positive m n = grind arith
 
@@ -60,7 +49,7 @@ module _ (tester : ℕ) (units : List ℕ) where
     asked = refl;
     got = refl;
     rest = refl;
-    owes = or_false l.owes;
+    owes = sym (or-false l.owes);
     words = λ a known. sym (append-nil (messages_from a l.inbox));
     others = λ a unknown. refl;
   }
@@ -74,7 +63,7 @@ module _ (tester : ℕ) (units : List ℕ) where
     asked = refl;
     got = refl;
     rest = refl;
-    owes = or_false l.owes ∙ ap (λ (n : ℕ). l.owes || nat_lt 0 n) (sym no_check);
+    owes = sym (or-false l.owes) ∙ ap (λ (n : ℕ). l.owes || nat_lt 0 n) (sym no_check);
     words = λ a known. sym (append-nil (messages_from a l.inbox)) ∙ ap (λ (ws : List UnitMessage). messages_from a l.inbox ++ (ws ++ [])) (sym (no_word a));
     others = λ a unknown. refl;
   }
@@ -118,7 +107,7 @@ module _ (tester : ℕ) (units : List ℕ) where
           asked = k.asked;
           got = k.got;
           rest = k.rest;
-          owes = k.owes ∙ or_false l.owes ∙ ap (λ (n : ℕ). l.owes || nat_lt 0 n) (sym no_check);
+          owes = k.owes ∙ sym (or-false l.owes) ∙ ap (λ (n : ℕ). l.owes || nat_lt 0 n) (sym no_check);
           words = λ a known. kept tester units a known source target word l ∙ ap (λ (ws : List UnitMessage). messages_from a l.inbox ++ ws) (sym (append-nil (message_in tester a f) ∙ is a));
           others = λ a unknown. other_word a unknown;
         }
@@ -135,7 +124,7 @@ module _ (tester : ℕ) (units : List ℕ) where
     asked = refl;
     got = refl;
     rest = refl;
-    owes = or_true l.owes;
+    owes = sym (or-true l.owes);
     words = λ a known. sym (append-nil (messages_from a l.inbox));
     others = λ a unknown. refl;
   }
@@ -174,7 +163,7 @@ module _ (tester : ℕ) (units : List ℕ) where
     asked = refl;
     got = refl;
     rest = refl;
-    owes = or_false l.owes;
+    owes = sym (or-false l.owes);
     words = λ a known. sym (append-nil (messages_from a l.inbox));
     others = λ a unknown. refl;
   }
@@ -221,7 +210,7 @@ module _ (tester : ℕ) (units : List ℕ) where
     asked = refl;
     got = refl;
     rest = refl;
-    owes = or_false l.owes ∙ ap (λ (n : ℕ). l.owes || nat_lt 0 n) (sym no_check);
+    owes = sym (or-false l.owes) ∙ ap (λ (n : ℕ). l.owes || nat_lt 0 n) (sym no_check);
     words = λ a known. sym (append-nil (messages_from a l.inbox)) ∙ ap (λ (ws : List UnitMessage). messages_from a l.inbox ++ ws) (sym (no_word a));
     others = λ a unknown. refl;
   }

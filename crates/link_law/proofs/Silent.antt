@@ -3,6 +3,7 @@ use Rattle.std.proofs.Common.{◌≡◌, ℕ, ◌+◌, ◌≤◌, true, false, L
 use Rattle.std.specs.Prelude.{Bool, Option, ◌&&◌, ◌||◌, not, nat_le, nat_lt, if◌then◌else◌}
 use Rattle.std.proofs.lemmas.Bool.{le-ltb, false≢true}
 use Rattle.std.proofs.lemmas.List.{append-nil}
+use Rattle.std.proofs.Math.Bool.{or-true}
 use Rattle.doip_frame.specs.Frame.{stream_of}
 use Rattle.flash_plan.specs.declared.unit.LinkRules.{LinkRules}
 use Rattle.flash_plan.specs.declared.unit.UnitPlan.{UnitPlan}
@@ -15,7 +16,7 @@ use Rattle.link_law.specs.Happened.{one, has, count, to_last}
 use Rattle.link_law.specs.Kinds.{event_bytes, bytes_in, is_dial, is_ask, is_say, is_quiet, is_quiet_wait, is_failed_call, dial_of}
 use Rattle.link_law.specs.Looked.{answer_in, is_broken, checks_of, unit_messages}
 use Rattle.link_law.specs.Follows.{last_dial, since_dial, is_ended, is_loss, phase_in, is_owed, takes, taken, IsLinkOf}
-use Rattle.link_law.proofs.Lists.{has_more, has_same, count_same, to_it, to_same, bytes_more, or_true, owed_more, brings}
+use Rattle.link_law.proofs.Lists.{has_more, has_same, count_same, to_it, to_same, bytes_more, owed_more, brings}
 use Rattle.link_law.proofs.Words.{IsKept, untaken}
 use Rattle.link_law.proofs.Moving.{Stands, WordsMove, stands}
 
@@ -29,7 +30,7 @@ phase_failed (Some true) w x failed = refl
 phase_failed (Some false) w x failed =
     ap (λ (b : Bool). if b || is_broken (stream_of (bytes_in (w ++ (x ∷ [])))) || nat_le 1000 (count is_quiet_wait (w ++ (x ∷ []))) then phase.Down
     else if has is_ask (w ++ (x ∷ [])) then phase_for (answer_in (stream_of (bytes_in (w ++ (x ∷ [])))).frames) else phase.Dialed)
-    (has_more is_failed_call x w ∙ ap (λ (b : Bool). has is_failed_call w || b) failed ∙ or_true (has is_failed_call w))
+    (has_more is_failed_call x w ∙ ap (λ (b : Bool). has is_failed_call w || b) failed ∙ or-true (has is_failed_call w))
 
 -- an event that is not a dial, nor received bytes
 pub record IsSilent (x : Event) : Type 0 where

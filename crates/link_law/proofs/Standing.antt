@@ -1,7 +1,7 @@
 -- What is known of the events since the last dial in each phase.
 use Rattle.std.proofs.Common.{◌≡◌, ℕ, true, false, List, Some, None, refl, sym, ◌∙◌, ap, subst}
 use Rattle.std.specs.Prelude.{Bool, Option, ◌==◌, ◌&&◌, ◌||◌, not, is_some, nat_le, if◌then◌else◌}
-use Rattle.std.proofs.lemmas.Bool.{false≢true, both_ways}
+use Rattle.std.proofs.lemmas.Bool.{false≢true, both_ways, or_parts}
 use Rattle.doip_frame.specs.Frame.{Stream, stream_of}
 use Rattle.doip_frame.specs.declared.frame.Bad.{Bad}
 use Rattle.doip_frame.specs.declared.frame.Frame.{Frame}
@@ -78,20 +78,12 @@ pub record IsFresh (d : Option Bool) (w : List Event) : Type 0 where
   pub live : IsLive d w
   pub asked : has is_ask w ≡ false
 
-or_left : (a b : Bool) → (a || b) ≡ false → a ≡ false
-or_left true b e = e
-or_left false b e = refl
-
-or_right : (a b : Bool) → (a || b) ≡ false → b ≡ false
-or_right true b e = absurd (false≢true (sym e))
-or_right false b e = e
-
 live_of : (w : List Event) → is_ended w ≡ false → IsLive (Some false) w
 live_of w e = record {
   dialed = refl;
-  called = or_left _ _ (or_left _ (nat_le 1000 (count is_quiet_wait w)) e);
-  whole = or_right (has is_failed_call w) _ (or_left _ (nat_le 1000 (count is_quiet_wait w)) e);
-  patient = or_right (has is_failed_call w || is_broken (stream_of (bytes_in w))) _ e;
+  called = (or_parts _ _ (or_parts _ (nat_le 1000 (count is_quiet_wait w)) e).0).0;
+  whole = (or_parts (has is_failed_call w) _ (or_parts _ (nat_le 1000 (count is_quiet_wait w)) e).0).1;
+  patient = (or_parts (has is_failed_call w || is_broken (stream_of (bytes_in w))) _ e).1;
 }
 
 opened_in : (w : List Event) (p : Phase) (ended asked : Bool) → is_ended w ≡ ended → has is_ask w ≡ asked → (if ended then phase.Down else if asked then phase_for (answer_in (stream_of (bytes_in w)).frames) else phase.Dialed) ≡ p → is_open p ≡ true → IsOpened (Some false) w p

@@ -38,13 +38,6 @@ without_none a b (m ∷ ms) e = elim (cases_Bool (m.0 == a)) [
   ]
 ]
 
-pub first_none : (a : ℕ) (ms : List (ℕ × UnitMessage)) → is_some (first_message a ms) ≡ false → messages_from a ms ≡ []
-first_none a [] e = refl
-first_none a (m ∷ ms) e = elim (cases_Bool (m.0 == a)) [
-  | inl f ↦ absurd (false≢true (sym (rw f at e)))
-  | inr f ↦ rw f (first_none a ms (rw f at e))
-]
-
 pub first_some : (a : ℕ) (ms : List (ℕ × UnitMessage)) → is_some (first_message a ms) ≡ true → messages_from a ms ≡ [] → ⊥
 first_some a [] is e = false≢true is
 first_some a (m ∷ ms) is e = elim (cases_Bool (m.0 == a)) [

@@ -33,6 +33,13 @@ loss_count s = s.losses
 abbrev pub tick_count : LinkState → ℕ
 tick_count s = s.ticks
 
+-- where it stands
+abbrev pub phase_now : LinkState → phase.Phase
+phase_now s = link_phase s.phase
+
+abbrev pub owes_now : LinkState → Bool
+owes_now s = s.owes
+
 -- frames are looked at
 abbrev pub is_open_now : LinkState → Bool
 is_open_now s = is_open (link_phase s.phase)

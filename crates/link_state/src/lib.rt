@@ -6,8 +6,6 @@
 mod inbox;
 mod laws;
 mod state;
-#[cfg(test)]
-mod tests;
 
 pub use inbox::Message;
 pub use laws::messages_come_in_order;

@@ -3,6 +3,7 @@ ghost use Rattle.std.specs.Prelude.{◌≡◌, length};
 use crate::inbox::{Inbox, Message, clear, empty, has_any, place_of, put, take_first};
 use doip_frame::{Deframer, Frame, Frames};
 use flash_base::{Bytes, NoMemory};
+use run_model::PATIENCE;
 use std::alloc::Global;
 
 /// Where the link stands.
@@ -46,16 +47,13 @@ struct Standing {
     owes: bool,
 }
 
-/// The ticks after which an activation counts as unanswered.
-const PATIENCE: u64 = 1000;
-
 impl LinkState {
     ghost use Rattle.std.specs.Prelude.{◌≡◌, ◌+◌, ◌<◌, ◌^◌, ◌==◌, ◌&&◌, true, false, is_some, IfOk, OnOk, OnErr};
     ghost use Rattle.run_model.specs.Link.{Link, link_start, dialed_link, asked_link, said_link, polled_quiet, drop_link, hear_piece, see, see_all, keep_message, is_known, is_live, is_open, take_message, first_message, see_frame, unanswered};
     ghost use Rattle.run_model.specs.Link as phase;
     ghost use Rattle.run_model.specs.Ways.{Reply, Nacked};
     ghost use Rattle.link_state.specs.Inboxes.{message_of};
-    ghost use Rattle.link_state.specs.State.{Shows, ShowsBody, IsOf, SameLabels, AreDistinct, link_phase, tester_of, units_of, loss_count, tick_count, option_message, is_open_now, see_answer, see_bad, SameDeframer, SameRest, SameButLoss, IsDropped, IsStandingOf, HasGoneBack, emptied_link};
+    ghost use Rattle.link_state.specs.State.{Shows, ShowsBody, IsOf, SameLabels, AreDistinct, link_phase, phase_now, owes_now, tester_of, units_of, loss_count, tick_count, option_message, is_open_now, see_answer, see_bad, SameDeframer, SameRest, SameButLoss, IsDropped, IsStandingOf, HasGoneBack, emptied_link};
 
     /// The link of a tester to these units: no connection yet.
     pub fn new(alloc: Global, tester: u16, units: &[u16]) -> Result<LinkState, NoMemory>
@@ -77,9 +75,17 @@ impl LinkState {
         })
     }
 
+    /// The logical address of the tester.
+    pub fn tester(&self) -> u16
+        ensures { result ≡ tester_of self.now }
+    {
+        self.tester
+    }
+
     /// Where the link stands.
     pub fn phase(&self) -> Phase
-        ensures { (l : Link) → Shows self.now l → link_phase result ≡ l.phase }
+        ensures is { link_phase result ≡ phase_now self.now }
+        ensures shows { (l : Link) → Shows self.now l → link_phase result ≡ l.phase }
     {
         self.phase
     }
@@ -102,7 +108,8 @@ impl LinkState {
 
     /// Whether an alive check is to be answered.
     pub fn owes(&self) -> bool
-        ensures { (l : Link) → Shows self.now l → result ≡ l.owes }
+        ensures is { result ≡ owes_now self.now }
+        ensures shows { (l : Link) → Shows self.now l → result ≡ l.owes }
     {
         self.owes
     }
@@ -177,20 +184,14 @@ impl LinkState {
     fn is_late(&self) -> bool
         ensures { (l : Link) → ShowsBody self.now l → result ≡ unanswered l }
     {
-        match self.phase {
-            Phase::Asked => self.ticks.saturating_sub(self.asked) >= PATIENCE,
-            Phase::Down | Phase::Dialed | Phase::Up | Phase::Refused { .. } => false,
-        }
+        matches!(self.phase, Phase::Asked) && self.ticks.saturating_sub(self.asked) >= PATIENCE
     }
 
     /// Whether frames are looked at.
     fn is_open(&self) -> bool
         ensures { result ≡ is_open_now self.now }
     {
-        match self.phase {
-            Phase::Asked | Phase::Up => true,
-            Phase::Down | Phase::Dialed | Phase::Refused { .. } => false,
-        }
+        matches!(self.phase, Phase::Asked | Phase::Up)
     }
 
     /// Keeps a message of a unit of the plan, and drops any other.
@@ -352,6 +353,16 @@ impl LinkState {
         self.owes = before.owes;
         self.deframer = Deframer::new(self.alloc);
         clear(&mut self.inboxes);
+    }
+
+    /// No message and no byte of the connection is kept; phase, ticks, losses and whether an alive check is to be
+    /// answered stay.
+    pub fn empty(&mut self)
+        ensures shows { (l : Link) → Shows self.old l → Shows self.new (emptied_link l) }
+        ensures of { SameLabels self.old self.new }
+    {
+        let before = self.standing();
+        self.go_back(before);
     }
 
     /// A receive brought these bytes. Where there is no memory for them, phase, ticks, losses and whether an

@@ -59,11 +59,15 @@ pub record IsNew (image failing : List ℕ) (s : MemDisk) : Type 0 where
   pub link_faults : s.link_faults ≡ 0
   pub linked_not : s.linked ≡ false
 
--- the number of the next call, from 0, is listed to fail
-abbrev pub is_listed : MemDisk → Bool
-is_listed s = list_any (λ n. n == moment_of s) s.failing.items
+-- the number of disk calls so far
+abbrev pub disk_calls : MemDisk → ℕ
+disk_calls s = moment_of s - s.link_calls
 
--- before the last moment a call fails exactly where it is listed or no memory was found
+-- the number of the next disk call, from 0, is listed to fail
+abbrev pub is_listed : MemDisk → Bool
+is_listed s = list_any (λ n. n == disk_calls s) s.failing.items
+
+-- before the last moment a disk call fails exactly where it is listed or no memory was found
 abbrev pub FailsExactly : {T : Type 0} → MemDisk → MemDisk → Result T DeviceFault → Type 0
 FailsExactly old new result = moment_of old < LAST → (IsErr result ↔ (IsTrue (is_listed old) ⊎ (old.starved < new.starved)))
 

@@ -22,7 +22,7 @@ pub struct MemDisk {
     pub(crate) first: Vec<u8>,
     // what a read gives
     bytes: Vec<u8>,
-    // the numbers of the calls that fail
+    // the numbers of the disk calls that fail
     failing: Vec<u64>,
     // what each call did, up to the first that found no memory
     pub(crate) calls: Vec<Done>,
@@ -48,12 +48,12 @@ impl MemDisk {
     ghost use Rattle.std.specs.Prelude.{◌≡◌, ◌+◌, ◌≤◌, ◌<◌, ◌⊎◌, ◌↔◌, IsTrue, IsOk, IsErr, OnOk, OnErr, IfOk, length};
     ghost use Rattle.std.specs.Bool.{OnTrue, OnFalse};
     ghost use Rattle.shop_model.specs.History.{LAST, DiskCall, LinkCall, Redial, WroteOrMissed, disk_now};
-    ghost use Rattle.mem_disk.specs.Disks.{history_of, moment_of, is_listed, IsNew, FailsExactly, ListsMiss, Recorded, Starved, WroteSome, DiskFaulted, LinkFaulted, LinkCounted};
+    ghost use Rattle.mem_disk.specs.Disks.{history_of, moment_of, disk_calls, is_listed, IsNew, FailsExactly, ListsMiss, Recorded, Starved, WroteSome, DiskFaulted, LinkFaulted, LinkCounted};
     ghost use Rattle.mem_disk.specs.Made.{call_of};
     ghost use Rattle.mem_disk.specs.Replay.{IsNoWrite, after};
 
-    /// A disk with these bytes, which a crash leaves. The calls with the numbers in `failing` fail, the first
-    /// one being 0.
+    /// A disk with these bytes, which a crash leaves. The disk calls with the numbers in `failing` fail, the first
+    /// one being 0; link calls are not counted.
     pub fn new(alloc: Global, image: &[u8], failing: &[u64]) -> Result<MemDisk, NoMemory>
         ensures { IfOk result (IsNew image.now failing.now) }
     {
@@ -87,11 +87,18 @@ impl MemDisk {
         self.starved
     }
 
-    // Whether the next call is listed to fail.
+    /// The number of disk calls so far, failed ones too.
+    pub fn disk_calls(&self) -> u64
+        ensures { result ≡ disk_calls self.now }
+    {
+        self.calls() - self.link_calls
+    }
+
+    // Whether the next disk call is listed to fail.
     fn listed(&self) -> bool
         ensures { result ≡ is_listed self.now }
     {
-        let number = self.calls();
+        let number = self.disk_calls();
         self.failing.contains(&number)
     }
 

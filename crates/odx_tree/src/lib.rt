@@ -12,6 +12,3 @@ mod reading;
 pub use element::Element;
 pub use fault::TreeFault;
 pub use reading::read;
-
-#[cfg(test)]
-mod tests;

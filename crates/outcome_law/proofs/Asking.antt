@@ -5,11 +5,11 @@ use Rattle.outcome_law.proofs.Clock.{dues_none}
 use Rattle.std.proofs.Math.Nat.{zero-mod}
 use Rattle.std.proofs.Common.{◌≡◌, ◌⊎◌, inl, inr, ℕ, ◌+◌, ◌-◌, ◌%◌, ◌<◌, ◌≤◌, true, false, List, [], ◌∷◌, ◌++◌, length, Some, None, refl, sym, ◌∙◌, ap, subst, arith, append_assoc}
 use Rattle.std.specs.Prelude.{Bool, Option, ◌==◌, ◌&&◌, ◌||◌, not, nat_le, nat_lt, filter, if◌then◌else◌, unwrap_or}
-use Rattle.std.proofs.lemmas.Bool.{cases_Bool, false≢true, eq-eqb, ne_eqb, and_parts, leb-true, leb-false, ltb-false}
+use Rattle.std.proofs.lemmas.Bool.{cases_Bool, false≢true, eq-eqb, ne_eqb, and_parts, leb-true, leb-false, ltb-false, or_parts}
 use Rattle.std.proofs.lemmas.List.{append-nil}
 use Rattle.bay_core.proofs.Queueing.{said_other, held_filter, nack_words, alike_way, alike_words, timely_held}
 use Rattle.bay_core.proofs.Sending.{IsNacked, Refused, Heard, let_out, let_ready, let_whole, let_none, let_lone, answered_alike, active_is, no_X, no_held, no_later, refused_way, let_nothing, let_no_held, held_last, tick_kept}
-use Rattle.bay_core.proofs.Ticking.{left_nil, right_nil, bodies, held_bodies}
+use Rattle.bay_core.proofs.Ticking.{left_nil, right_nil, bodies, held_bodies, some_cons}
 use Rattle.bay_core.specs.Joint.{HoldsAtMost, held_of}
 use Rattle.flash_base.specs.Lists.{Each}
 use Rattle.doip_frame.specs.Frame.{stream_of, message_bytes, nack_bytes}
@@ -75,10 +75,6 @@ ticks_are sid (t ∷ ts) final due = ap (λ (xs : List ℕ). t ∷ xs) (ticks_ar
 pub later_each : (tick : ℕ) (ts : List ℕ) → Each (λ d. tick < d) (later_ticks tick ts)
 later_each tick [] = tt
 later_each tick (t ∷ ts) = elim (cases_Bool (nat_le t tick)) [ inl e ↦ rw e (later_each tick ts) | inr e ↦ rw e (leb-false t tick e, later_each tick ts) ]
-
-or_parts : (x y : Bool) → (x || y) ≡ false → (x ≡ false) × (y ≡ false)
-or_parts true y e = absurd (false≢true (sym e))
-or_parts false y e = (refl, e)
 
 pub later_late : (tick p : ℕ) (ts : List ℕ) → tick ≤ p → ascends p ts ≡ true → is_late p ts ≡ false → is_late p (later_ticks tick ts) ≡ false
 later_late tick p [] le up late = refl
@@ -153,21 +149,14 @@ module _ (tester t : ℕ) (bytes : List ℕ) (l : Link) (v w : Vehicle) (c : IsC
       filtered : held_of a out.held ≡ filter (λ h. not (waits h)) (held_of a v.gateway.held)
       filtered = held_filter tester a (λ h. not (waits h)) v.gateway.held
 
-      cons_nil : (x : HeldAnswer) (xs : List HeldAnswer) → x ∷ xs ≡ [] → ⊥
-      cons_nil x xs e = false≢true (sym (ap is_cons e))
-        where
-          is_cons : List HeldAnswer → Bool
-          is_cons [] = false
-          is_cons (y ∷ ys) = true
-
       kept_one : (x : HeldAnswer) → filter (λ h. not (waits h)) (x ∷ []) ≡ one ∷ [] → x ∷ [] ≡ one ∷ []
       kept_one x f = elim (cases_Bool (waits x)) [
-        | inl y ↦ absurd (cons_nil one [] (sym (rw y at f)))
+        | inl y ↦ absurd (some_cons one [] (sym (rw y at f)))
         | inr y ↦ rw y at f
       ]
 
       go : HoldsAtMost tester a k v.gateway → held_of a v.gateway.held ≡ one ∷ []
-      go (inl none) = absurd (cons_nil one [] (sym (sym (filtered ∙ ap (filter (λ h. not (waits h))) none) ∙ e)))
+      go (inl none) = absurd (some_cons one [] (sym (sym (filtered ∙ ap (filter (λ h. not (waits h))) none) ∙ e)))
       go (inr lone) = lone.held ∙ kept_one lone.one (sym (filtered ∙ ap (filter (λ h. not (waits h))) lone.held) ∙ e)
 
   pub others_on : (a k : ℕ) (inbox : List (ℕ × UnitMessage)) → (a ≡ t → ⊥) → HoldsAtMost tester a k v.gateway → WasRefused ⊎ WasHeard → IsStillOn tester a inbox inbox l.rest l.rest v.gateway w.gateway
@@ -285,13 +274,6 @@ module _ (tester : ℕ) (plan : UnitPlan) (found : ℕ → Bool) (talk : Talk) (
     held = held;
   }
 
-  cons_nil : (x : HeldAnswer) (xs : List HeldAnswer) → x ∷ xs ≡ [] → ⊥
-  cons_nil x xs e = false≢true (sym (ap is_cons e))
-    where
-      is_cons : List HeldAnswer → Bool
-      is_cons [] = false
-      is_cons (y ∷ ys) = true
-
   -- it was not delivered
   refused_awaits : (r : RefusedNow) (fo vo wo : Option ControlUnit) → KeptIn fo vo → KeptIn vo wo → IsNacked r.code vo wo → on_way tester plan.address l.inbox l.rest w.gateway ≡ Nacked r.code ∷ [] → IsAwaitCounted plan found now (held_of plan.address w.gateway.held) (on_way tester plan.address l.inbox l.rest w.gateway) fo wo
   refused_awaits r None None None k k2 three way = way ∙ ap (λ (n : ℕ). Nacked n ∷ []) three
@@ -314,7 +296,7 @@ module _ (tester : ℕ) (plan : UnitPlan) (found : ℕ → Bool) (talk : Talk) (
   refused_times r (Some f) None k = absurd k
   refused_times r (Some f) (Some x) k =
       let it = refused_it tester plan.address asked l v w c up l.inbox nothing r in
-      inr (begins (t0 + l.ticks) refl it.tick [] (dues_none tester plan.address w.gateway.later it.later) refl refl (λ one e. absurd (cons_nil one [] (sym e ∙ it.held))))
+      inr (begins (t0 + l.ticks) refl it.tick [] (dues_none tester plan.address w.gateway.later it.later) refl refl (λ one e. absurd (some_cons one [] (sym e ∙ it.held))))
 
   pub refused_awaited : RefusedNow → KeptIn (unit_at first.units plan.address) (unit_at v.units plan.address) → KeptIn (unit_at v.units plan.address) (unit_at w.units plan.address) → KeptIn (unit_at first.units plan.address) (unit_at w.units plan.address)
       → IsAwaited tester plan found t0 now l first w
@@ -382,10 +364,10 @@ module _ (tester : ℕ) (plan : UnitPlan) (found : ℕ → Bool) (talk : Talk) (
         let late_grows : Grows f.counts.late (obedient old asked).0.counts.late = subst (λ (x : Counts). Grows f.counts.late x.late) (sym is_counts) kept.counts.late in
         record {
           heard = obeyed_counted _ _ (length o.ticks) (counts_too (obedient old asked).0 _ _ o.becomes) (it.way ∙ ap said_words o.gives ∙ said_of (sid_of asked) o.ticks (Some (obedient old asked).1) o.due)
-              (patience (length o.ticks) o.ticks (obedient old asked).0.counts.stalled stalled_grows (ap (λ (x : ControlUnit). x.counts.stalled) o.becomes) refl) (λ one e. absurd (cons_nil one [] (sym e ∙ it.held)));
+              (patience (length o.ticks) o.ticks (obedient old asked).0.counts.stalled stalled_grows (ap (λ (x : ControlUnit). x.counts.stalled) o.becomes) refl) (λ one e. absurd (some_cons one [] (sym e ∙ it.held)));
           timed = late_or (o.ticks ++ (o.due ∷ [])) (obedient old asked).0.counts.late late_grows (ap (λ (x : ControlUnit). x.counts.late) o.becomes)
               (λ late. begins (t0 + l.ticks) refl it.tick (o.ticks ++ (o.due ∷ [])) (it.due ∙ ap (λ (rs : List UnitReply). later_ticks v.gateway.tick (ticks_of rs)) o.gives ∙ ap (later_ticks v.gateway.tick) (ticks_are (sid_of asked) o.ticks (Some (obedient old asked).1) o.due)) o.ascending late
-              (λ one e. absurd (cons_nil one [] (sym e ∙ it.held))));
+              (λ one e. absurd (some_cons one [] (sym e ∙ it.held))));
         }
 
     holds_known : (h : HeardNow) → h.old ≡ old → h.new ≡ new → Holds h.old asked v.gateway.tick h.replies h.new → Known f new
@@ -434,11 +416,11 @@ module _ (tester : ℕ) (plan : UnitPlan) (found : ℕ → Bool) (talk : Talk) (
             );
             on_way = it.way ∙ ap said_words d.gives ∙ said_of (sid_of asked) d.ticks (said_by d.kind (sid_of asked)) d.due;
             patience = patience (length d.ticks) d.ticks (raised d.kind d.mid.counts).stalled grows.stalled (ap (λ (x : ControlUnit). x.counts.stalled) d.becomes) refl;
-            holding = λ one e. absurd (cons_nil one [] (sym e ∙ it.held));
+            holding = λ one e. absurd (some_cons one [] (sym e ∙ it.held));
           };
           timed = late_or (d.ticks ++ last_tick (said_by d.kind (sid_of asked)) d.due) (raised d.kind d.mid.counts).late grows.late (ap (λ (x : ControlUnit). x.counts.late) d.becomes)
               (λ late. begins (t0 + l.ticks) refl it.tick (d.ticks ++ last_tick (said_by d.kind (sid_of asked)) d.due) (it.due ∙ ap (λ (rs : List UnitReply). later_ticks v.gateway.tick (ticks_of rs)) d.gives ∙ ap (later_ticks v.gateway.tick) (ticks_are (sid_of asked) d.ticks (said_by d.kind (sid_of asked)) d.due)) d.ascending late
-              (λ one e. absurd (cons_nil one [] (sym e ∙ it.held))));
+              (λ one e. absurd (some_cons one [] (sym e ∙ it.held))));
         }
 
   heard_known : (h : HeardNow) (f : ControlUnit) → Kept f h.old → RoseBy talk.busies f.counts.busy h.old.counts.busy → StateAt plan talk.place h.old → Takes plan found f talk.place h.old → Known f h.new

@@ -1,7 +1,7 @@
 -- Where nothing failed and every unit matches, each outcome is complete, but for want of memory: what blocks a unit is blocked
 -- itself or lacked memory, and no unit stands before itself.
 use Rattle.std.proofs.Common.{◌≡◌, ◌⊎◌, inl, inr, ℕ, zero, suc, ◌+◌, ◌<◌, ◌≤◌, true, false, List, [], ◌∷◌, length, Some, None, refl, sym, ◌∙◌, ap, subst, arith}
-use Rattle.std.specs.Prelude.{Bool, Option, ◌==◌, is_some, Contains, slice_index_or}
+use Rattle.std.specs.Prelude.{Bool, Option, ◌==◌, is_some}
 use Rattle.std.specs.List.{IsDistinct, AllByRecursion, list_any}
 use Rattle.std.proofs.lemmas.Bool.{cases_Bool, false≢true, both_ways, eqb-true, ne_eqb}
 use Rattle.std.proofs.lemmas.Map.Steps.{length-le_from_distinct_below}
@@ -25,6 +25,7 @@ use Rattle.outcome_law.specs.Law.{last_vehicle}
 use Rattle.outcome_law.specs.LinkCounting.{faults_of}
 use Rattle.outcome_law.specs.OutcomeCounting.{AreOutcomesCounted}
 use Rattle.outcome_law.specs.Outcomes.{IsBlockedBy, IsOutcomeCaused, IsCalmOutcome, AllMatch, LacksMemory, CompleteLaw}
+use Rattle.flash_plan.proofs.Marks.{each_of}
 
 -- ------ numbers below a bound, each once
 all_apart : (n : ℕ) (vs : List ℕ) → Each (λ v. n ≡ v → ⊥) vs → AllByRecursion (λ y. (n == y) ≡ false) vs
@@ -60,14 +61,6 @@ stands_all P w n (v ∷ vs) a all = (stands_on P w n v a all.0, stands_all P w n
 apart_all : (P : List UnitPlan) (n : ℕ) (vs : List ℕ) → (StandsBefore P n n → ⊥) → Each (StandsBefore P n) vs → Each (λ v. n ≡ v → ⊥) vs
 apart_all P n [] no_cycle all = tt
 apart_all P n (v ∷ vs) no_cycle all = (λ is. no_cycle (subst (λ (k : ℕ). StandsBefore P n k) (sym is) all.0), apart_all P n vs no_cycle all.1)
-
-each_of : (Q : ℕ → Type 0) (xs : List ℕ) (x : ℕ) → Each Q xs → Contains xs x → Q x
-each_of Q [] x all (k, lt, is) = absurd (omega (arith, lt))
-each_of Q (y ∷ ys) x all (k, lt, is) = at (λ later. each_of Q ys x all.1 later) k lt is
-  where
-    at : (Contains ys x → Q x) → (k : ℕ) → k < suc (length ys) → slice_index_or (y ∷ ys) k x ≡ x → Q x
-    at again zero lt is = subst Q is all.0
-    at again (suc k) lt is = again (k, omega (arith, lt), is)
 
 module _ (rules : LinkRules) (P : List UnitPlan) (found : Entry → Bool) (c : Core) (failed : Bool) (faults : ℕ) (first now : Vehicle) (t0 : ℕ) (accepted : IsAccepted P)
     (units : AreUnitsCounted rules P found t0 c first now) (outcomes : AreOutcomesCounted rules P c failed faults first now) (fine : failed ≡ false) (none_failed : faults ≡ 0) (calm : IsVehicleCalm first now) (matching : AllMatch P found first) where

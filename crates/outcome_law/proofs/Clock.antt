@@ -1,18 +1,16 @@
 -- A tick, for a unit whose answer is awaited.
 use Rattle.std.proofs.Common.{◌≡◌, ◌⊎◌, inl, inr, ℕ, suc, ◌+◌, ◌-◌, ◌%◌, ◌<◌, ◌≤◌, true, false, List, [], ◌∷◌, ◌++◌, length, Some, None, refl, sym, ◌∙◌, ap, subst, arith, append_assoc, length-append}
 use Rattle.std.specs.Prelude.{Bool, Option, ◌==◌, ◌&&◌, ◌||◌, nat_le, map, if◌then◌else◌, unwrap_or}
-use Rattle.std.proofs.lemmas.Bool.{cases_Bool, cases_lt, false≢true, both_ways, eq-eqb, ne_eqb, eqb-true, and_parts, and_from, leb-true, leb-false, le-leb, lt-leb}
+use Rattle.std.proofs.lemmas.Bool.{cases_Bool, cases_lt, false≢true, both_ways, eq-eqb, ne_eqb, eqb-true, and_parts, and_from, leb-true, leb-false, le-leb, lt-leb, or_parts}
 use Rattle.std.proofs.lemmas.List.{append-nil}
 use Rattle.std.proofs.Math.Nat.{add-mod_right}
-use Rattle.bay_core.proofs.Ticking.{some_cons, left_nil, right_nil, bodies, held_bodies, turned, head_of, tail_of, on_none, on_one, turn_word, way_none, way_lone, before_last, missed_not}
+use Rattle.bay_core.proofs.Ticking.{some_cons, left_nil, right_nil, bodies, held_bodies, turned, head_of, tail_of, on_none, on_one, turn_word, way_none, way_lone, before_last, missed_not, words_front}
 use Rattle.bay_core.specs.Joint.{HoldsAtMost, IsLoneHeld, held_of}
-use Rattle.doip_frame.specs.Frame.{Stream, stream_of}
+use Rattle.doip_frame.specs.Frame.{stream_of}
 use Rattle.flash_base.specs.Lists.{Each}
 use Rattle.flash_plan.specs.declared.unit.UnitPlan.{UnitPlan}
 use Rattle.run_model.proofs.Hearing.{found_address}
 use Rattle.run_model.proofs.Moving.{due_words}
-use Rattle.run_model.proofs.Whole.{stream_more}
-use Rattle.run_model.proofs.Words.{words_more}
 use Rattle.run_model.specs.Connected.{IsConnected}
 use Rattle.run_model.specs.Link.{Link, quiet_link}
 use Rattle.run_model.specs.Script.{bytes_at}
@@ -100,9 +98,6 @@ module _ (tester a : ℕ) where
   abbrev words : List ℕ → List UnitMessage
   words bytes = messages_in tester a (stream_of bytes).frames
 
-  words_front : (q more : List ℕ) → AreWholeFrames q → words (q ++ more) ≡ words q ++ words more
-  words_front q more w = ap (λ (s : Stream). messages_in tester a s.frames) (stream_more q more w) ∙ words_more tester a (stream_of q).frames (stream_of more).frames
-
   pub dues_none : (queue : List (ℕ × List ℕ)) → messages_later tester a queue ≡ [] → dues tester a queue ≡ []
   dues_none [] e = refl
   dues_none (q ∷ qs) e =
@@ -133,10 +128,6 @@ module _ (tester a : ℕ) where
         rw d (rw e (ap (λ (ds : List ℕ). q.0 ∷ ds) (all_after tick q.0 qs after parts.1)))
   ]
 
-  or_parts : (x y : Bool) → (x || y) ≡ false → (x ≡ false) × (y ≡ false)
-  or_parts true y e = absurd (false≢true (sym e))
-  or_parts false y e = (refl, e)
-
   tick_dues : (tick p from : ℕ) (queue : List (ℕ × List ℕ)) → Each (λ q. AreWholeFrames q.1) queue → ascends_for tester a from queue ≡ true → Each (λ d. tick < d) (dues tester a queue) → is_late p (dues tester a queue) ≡ false
       → (dues tester a (not_due (tick + 1) queue) ≡ dues tester a queue) ⊎ ((words (bytes_due (tick + 1) queue) ≡ [] → ⊥) × (is_late (tick + 1) (dues tester a (not_due (tick + 1) queue)) ≡ false))
   tick_dues tick p from [] whole up after late = inl refl
@@ -146,7 +137,7 @@ module _ (tester a : ℕ) where
         elim (cases_Bool (nat_le q.0 (tick + 1))) [
           | inl d ↦ rw (d, e) (elim rest [
             | inl same ↦ inl same
-            | inr (some, on) ↦ inr (λ z. some (right_nil (words q.1) (words (bytes_due (tick + 1) qs)) (sym (words_front q.1 (bytes_due (tick + 1) qs) whole.0) ∙ z)), on)
+            | inr (some, on) ↦ inr (λ z. some (right_nil (words q.1) (words (bytes_due (tick + 1) qs)) (sym (words_front tester a q.1 (bytes_due (tick + 1) qs) whole.0) ∙ z)), on)
           ])
           | inr d ↦ rw d (rw e rest)
         ]
@@ -159,7 +150,7 @@ module _ (tester a : ℕ) where
           | inl d ↦
               let is : q.0 ≡ tick + 1 = omega (arith, first, leb-true q.0 (tick + 1) d) in
               rw d (inr (
-                λ z. both_ways _ e (ap has_no_message (left_nil (words q.1) (words (bytes_due (tick + 1) qs)) (sym (words_front q.1 (bytes_due (tick + 1) qs) whole.0) ∙ z))),
+                λ z. both_ways _ e (ap has_no_message (left_nil (words q.1) (words (bytes_due (tick + 1) qs)) (sym (words_front tester a q.1 (bytes_due (tick + 1) qs) whole.0) ∙ z))),
                 elim (tick_dues tick q.0 q.0 qs whole.1 parts.1 after2.1 late2.1) [
                   | inl same ↦ ap (λ (ds : List ℕ). is_late (tick + 1) ds) same ∙ ap (λ (k : ℕ). is_late k (dues tester a qs)) (sym is) ∙ late2.1
                   | inr (some, on) ↦ on

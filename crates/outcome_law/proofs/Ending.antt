@@ -1,7 +1,7 @@
 -- Each recorded outcome has its cause.
 use Rattle.std.proofs.Common.{◌≡◌, ◌⊎◌, inl, inr, ℕ, zero, suc, ◌+◌, ◌<◌, ◌≤◌, true, false, List, [], ◌∷◌, length, Some, None, refl, sym, ◌∙◌, ap, subst, arith}
 use Rattle.std.specs.Prelude.{Bool, Option, ◌==◌, ◌&&◌, ◌||◌, nat_lt, is_some, Contains, slice_index_or, unwrap_or, if◌then◌else◌}
-use Rattle.std.proofs.lemmas.Bool.{cases_Bool, false≢true, and_parts, eqb-true, ltb-true, ltb-false}
+use Rattle.std.proofs.lemmas.Bool.{cases_Bool, false≢true, and_parts, eqb-true, ltb-true, ltb-false, or_cases, or_right}
 use Rattle.flash_base.specs.Lists.{Each}
 use Rattle.flash_plan.specs.Outcomes.{same_outcome}
 use Rattle.flash_plan.specs.Plan.{IsAccepted, Ascend, plan_of, count_of}
@@ -26,6 +26,7 @@ use Rattle.outcome_law.proofs.Growing.{VehicleGrows, rose_then}
 use Rattle.outcome_law.specs.LinkCounting.{IsPhaseCounted, IsLinkCounted}
 use Rattle.outcome_law.specs.OutcomeCounting.{Rests, IsStopCounted, StopCounted}
 use Rattle.outcome_law.specs.Outcomes.{IsBlockedBy}
+use Rattle.flash_plan.proofs.Marks.{each_of}
 
 -- ------ outcomes that compare as equal are
 same_is : (a b : Outcome) → same_outcome a b ≡ true → a ≡ b
@@ -93,10 +94,6 @@ first_or x w ws (k, lt, is) = at k lt is
     at zero lt is = inl is
     at (suc k) lt is = inr (k, omega (arith, lt), is)
 
-each_of : (Q : ℕ → Type 0) (xs : List ℕ) (x : ℕ) → Each Q xs → Contains xs x → Q x
-each_of Q [] x all (k, lt, is) = absurd (omega (arith, lt))
-each_of Q (y ∷ ys) x all has = elim (first_or x y ys has) [ inl is ↦ subst Q is all.0 | inr later ↦ each_of Q ys x all.1 later ]
-
 pub record Blocks (c : Core) (after : List ℕ) (by : ℕ) : Type 0 where
   pub listed : Contains after by
   pub incomplete : c.recorded (entry.Complete by) ≡ false
@@ -145,14 +142,6 @@ blocked_is P c u DiskFault up e = absurd (false≢true e)
 blocked_is P c u NoMemory up e = absurd (false≢true e)
 
 -- ------ what an outcome rests on
-or_cases : (x y : Bool) → (x || y) ≡ true → (x ≡ true) ⊎ (y ≡ true)
-or_cases true y e = inl refl
-or_cases false y e = inr e
-
-or_right : (a b : Bool) → b ≡ true → (a || b) ≡ true
-or_right true b e = refl
-or_right false b e = e
-
 pub more_recorded : (e : Event) (records : Entry → Bool) (x : Entry) → records x ≡ true → recorded_after e records x ≡ true
 more_recorded (Claimed u) records x is = is
 more_recorded (Began u) records x is = or_right _ (records x) is

@@ -1,10 +1,11 @@
 -- What an obedient unit answers at each place of the script: well, or as the table of unfit units says, or that the whole check
 -- found nothing.
 use Rattle.std.proofs.Common.{◌≡◌, ◌⊎◌, inl, inr, ℕ, zero, suc, ◌+◌, ◌-◌, ◌/◌, ◌%◌, ◌<◌, ◌≤◌, true, false, List, [], ◌∷◌, ◌++◌, length, Some, None, refl, sym, ◌∙◌, ap, subst, arith, length-take}
-use Rattle.std.specs.Prelude.{Bool, Option, ◌==◌, ◌&&◌, ◌||◌, not, is_some, nat_lt, nat_le, min, replicate, if◌then◌else◌, Contains, slice_index_or, unwrap_or}
-use Rattle.std.proofs.lemmas.Bool.{cases_Bool, both_ways, and_from, and_parts, eqb-true, eq-eqb, ne_eqb, le-ltb, ltb-true, false≢true}
-use Rattle.std.proofs.lemmas.List.{append-nil}
+use Rattle.std.specs.Prelude.{Bool, Option, ◌==◌, ◌&&◌, ◌||◌, not, is_some, nat_lt, nat_le, min, if◌then◌else◌, Contains, slice_index_or, unwrap_or}
+use Rattle.std.proofs.lemmas.Bool.{cases_Bool, both_ways, and_from, and_parts, eqb-true, eq-eqb, ne_eqb, le-ltb, ltb-true, false≢true, or_parts, not-true, not-false, leb-false}
+use Rattle.std.proofs.lemmas.List.{append-nil, length-replicate}
 use Rattle.std.proofs.lemmas.List.Elements.{Contains-append_right}
+use Rattle.std.proofs.Math.Bool.{and-false}
 use Rattle.sha2.proofs.Facts256.{length-sha256}
 use Rattle.sha2.specs.Sha256.{sha256}
 use Rattle.flash_base.specs.ByteMaps.{MemoryMap, byte_at, byte_or_0, has_each, bytes_of}
@@ -32,8 +33,8 @@ use Rattle.run_model.specs.Script.{Cursor, Blocks, Place, AtIdent, AtBegin, AtPr
 use Rattle.run_model.specs.Sound.{HoldsBytes}
 use Rattle.run_model.specs.States.{StateAt, HasRoom, Opened}
 use Rattle.outcome_law.specs.Causes.{Unfit, lacks_ident, lacks_level, other_key, stays_locked, lacks_room, other_check, odd_seed, odd_block, OtherIdent, HasNoneChecked}
-use Rattle.outcome_law.proofs.Growing.{fill_domain}
 use Rattle.outcome_law.specs.Counting.{SameMake, Takes, IsIdentPlace}
+use Rattle.unit_model.proofs.Domains.{fill_domain}
 
 -- ------ lists and memory
 contains_mid : {T : Type 0} (front back all : List T) (x : T) → front ++ (x ∷ back) ≡ all → Contains all x
@@ -42,10 +43,6 @@ contains_mid {T} front back all x is = subst (λ (xs : List T). Contains xs x) i
 same_self : (xs : List ℕ) → same_bytes xs xs ≡ true
 same_self [] = refl
 same_self (x ∷ xs) = and_from _ _ (eq-eqb x x refl) (same_self xs)
-
-or_parts : (a b : Bool) → (a || b) ≡ false → (a ≡ false) × (b ≡ false)
-or_parts true b e = absurd (false≢true (sym e))
-or_parts false b e = (refl, e)
 
 pub not_value : (vs : List (List ℕ)) (value : List ℕ) → has_value vs value ≡ false → Contains vs value → ⊥
 not_value [] value e (k, lt, is) = absurd (omega (arith, lt))
@@ -116,18 +113,6 @@ level_is Free level e = absurd (false≢true e)
 level_is (Xor l mask) level e = ap (λ (n : ℕ). Some n) (eqb-true l level e)
 level_is (Digest l size secret) level e = ap (λ (n : ℕ). Some n) (eqb-true l level e)
 
-not_true : (b : Bool) → not b ≡ true → b ≡ false
-not_true true e = absurd (false≢true e)
-not_true false e = refl
-
-not_false : (b : Bool) → not b ≡ false → b ≡ true
-not_false true e = refl
-not_false false e = absurd (false≢true (sym e))
-
-replicate_length : (n x : ℕ) → length (replicate n x) ≡ n
-replicate_length zero x = refl
-replicate_length (suc n) x = ap suc (replicate_length n x)
-
 module _ (plan : UnitPlan) (ok : IsAcceptedUnit plan) (begun : Bool) (found skipped : ℕ → Bool) (first u : ControlUnit) (make : SameMake first u) where
   abbrev Fair : Place → ControlUnit × List ℕ → Type 0
   Fair place step = IsFair plan begun found skipped first place step.0 (judge (bytes_at plan place) step.1)
@@ -169,7 +154,7 @@ module _ (plan : UnitPlan) (ok : IsAcceptedUnit plan) (begun : Bool) (found skip
   locked_why : Opened plan u → is_locked u ≡ true → Unfit plan begun first (Refused 49 51)
   locked_why opened locked =
       let p = and_parts (has_key u.key) (not u.unlocked) locked in
-      stays_locked (ap has_key (sym make.key) ∙ p.0) (go (cases_Bool (has_key plan.key)) (not_true _ p.1))
+      stays_locked (ap has_key (sym make.key) ∙ p.0) (go (cases_Bool (has_key plan.key)) (not-true _ p.1))
     where
       go : (has_key plan.key ≡ true) ⊎ (has_key plan.key ≡ false) → u.unlocked ≡ false → (has_key plan.key ≡ false) ⊎ (all_zero first.seed ≡ true)
       go (inr e) shut = inl e
@@ -228,7 +213,7 @@ module _ (plan : UnitPlan) (ok : IsAcceptedUnit plan) (begun : Bool) (found skip
       reads = (says plan (AtSeed level) ok tt asked refl).reads
 
       size : length (seed_given u) ≡ length first.seed
-      size = elim (cases_Bool u.unlocked) [ inl e ↦ rw e (replicate_length (length u.seed) 0 ∙ ap (λ (xs : List ℕ). length xs) make.seed) | inr e ↦ rw e (ap (λ (xs : List ℕ). length xs) make.seed) ]
+      size = elim (cases_Bool u.unlocked) [ inl e ↦ rw e (length-replicate (length u.seed) 0 ∙ ap (λ (xs : List ℕ). length xs) make.seed) | inr e ↦ rw e (ap (λ (xs : List ℕ). length xs) make.seed) ]
 
       keyed : (rest : List ℕ) (w : ControlUnit) → IsFairNext plan begun first w (if all_zero rest then segments_from skipped [] plan.segments else AtKey level rest)
       keyed rest w = elim (cases_Bool (all_zero rest)) [ inl e ↦ rw e (segments_on [] plan.segments w) | inr e ↦ rw e (tt, tt, tt) ]
@@ -240,15 +225,9 @@ module _ (plan : UnitPlan) (ok : IsAcceptedUnit plan) (begun : Bool) (found skip
       ]
         where
           go : (nat_le 1 (length seed) ≡ true) ⊎ (nat_le 1 (length seed) ≡ false) → (nat_le 1 (length seed) && nat_le (length seed) 32) ≡ false → (length first.seed ≡ 0) ⊎ (32 < length first.seed)
-          go (inr n) both = let lt : length seed < 1 = below 1 (length seed) n in inl (omega (arith, lt, same))
+          go (inr n) both = let lt : length seed < 1 = leb-false 1 (length seed) n in inl (omega (arith, lt, same))
+          go (inl y) both = let lt : 32 < length seed = leb-false (length seed) 32 (right y both) in inr (omega (arith, lt, same))
             where
-              below : (a b : ℕ) → nat_le a b ≡ false → b < a
-              below a b e = grind (arith, e)
-          go (inl y) both = let lt : 32 < length seed = below (length seed) 32 (right y both) in inr (omega (arith, lt, same))
-            where
-              below : (a b : ℕ) → nat_le a b ≡ false → b < a
-              below a b e = grind (arith, e)
-
               right : {a b : Bool} → a ≡ true → (a && b) ≡ false → b ≡ false
               right {a} {b} is f = ap (λ (x : Bool). x && b) (sym is) ∙ f
 
@@ -285,8 +264,8 @@ module _ (plan : UnitPlan) (ok : IsAcceptedUnit plan) (begun : Bool) (found skip
 
       at : is_locked u ≡ false → Fair (AtErase c) (erase_in u (Some (record { width = plan.width; at = c.now.at; size = length c.now.body; more = [] })))
       at open_u = let some = some_body c is in rw some
-          (pick (AtErase c) (not (has_each c.now.at (length c.now.body) u.memory)) (refuse u 49 49) (answer (erased u c.now.at (length c.now.body)) (113 ∷ 1 ∷ 255 ∷ 0 ∷ 0 ∷ [])) (λ e. no_room c is (not_true _ e))
-          (λ e. (tt, (open_u, fill_room (not_false _ e)), tt)))
+          (pick (AtErase c) (not (has_each c.now.at (length c.now.body) u.memory)) (refuse u 49 49) (answer (erased u c.now.at (length c.now.body)) (113 ∷ 1 ∷ 255 ∷ 0 ∷ 0 ∷ [])) (λ e. no_room c is (not-true _ e))
+          (λ e. (tt, (open_u, fill_room (not-false _ e)), tt)))
         where
           fill_room : has_each c.now.at (length c.now.body) u.memory ≡ true → HasRoom c.now (erased u c.now.at (length c.now.body))
           fill_room has k lt = fill_domain c.now.at (length c.now.body) 255 u.memory (c.now.at + k) ∙ room_of c.now.at (length c.now.body) u.memory has k lt
@@ -301,13 +280,10 @@ module _ (plan : UnitPlan) (ok : IsAcceptedUnit plan) (begun : Bool) (found skip
   in_bytes c w n m bytes is block said few low = elim (cases_Bool (nat_le 3 (number_of bytes))) [
     | inl e ↦ rw e (blocks_on c (record { sent = []; rest = c.now.body; counter = 1; limit = min (number_of bytes) 65535 }) w (omega (arith, said, few, block)))
     | inr e ↦ rw e (odd_block (
-        let under : number_of bytes < 3 = below 3 (number_of bytes) e in
+        let under : number_of bytes < 3 = leb-false 3 (number_of bytes) e in
         let lt : n < 3 = low (omega (arith, said, under)) in
         omega (arith, lt, is)))
   ]
-    where
-      below : (a b : ℕ) → nat_le a b ≡ false → b < a
-      below a b e = grind (arith, e)
 
   block_fair : (c : Cursor) (w : ControlUnit) (n m : ℕ) → first.block ≡ n → w.block ≡ n → m ≡ min n 4294967295 → IsFair plan begun found skipped first (AtDownload c) w (block_verdict m)
   block_fair c w n m is block said = elim (cases_Bool (nat_lt m 256)) [
@@ -344,15 +320,11 @@ module _ (plan : UnitPlan) (ok : IsAcceptedUnit plan) (begun : Bool) (found skip
 
   taking : (t : OpenTransfer) (counter : ℕ) (body : List ℕ) → t.up ≡ false → t.counter ≡ counter → length body + 2 ≤ block_number u → length body ≤ t.rest → receive_in u (Some t) counter body ≡ (written u t body, 118 ∷ counter ∷ [])
   taking t counter body down same few fits =
-      let a : is_repeat t counter ≡ false = (λ i. is_some t.last && next_counter counter == same i) ∙ (λ i. is_some t.last && counter_moves counter i) ∙ never (is_some t.last) in
+      let a : is_repeat t counter ≡ false = (λ i. is_some t.last && next_counter counter == same i) ∙ (λ i. is_some t.last && counter_moves counter i) ∙ and-false (is_some t.last) in
       let b : (counter == t.counter) ≡ true = eq-eqb counter t.counter (sym same) in
       let c : nat_lt (block_number u) (length body + 2) ≡ false = le-ltb _ _ few in
       let d : nat_lt t.rest (length body) ≡ false = le-ltb _ _ fits in
       rw (down, a, b, c, d) refl
-    where
-      never : (x : Bool) → (x && false) ≡ false
-      never true = refl
-      never false = refl
 
   abbrev transfer_at : Cursor → Blocks → Option ℕ → OpenTransfer
   transfer_at c b last = record { up = false; at = c.now.at + length b.sent; rest = length b.rest; counter = b.counter; last = last }
@@ -407,7 +379,7 @@ module _ (plan : UnitPlan) (ok : IsAcceptedUnit plan) (begun : Bool) (found skip
 
       checks : Fair (AtCheck c) (check_in u plan.check (Some (record { width = plan.width; at = c.now.at; size = length c.now.body; more = sha256 c.now.body })))
       checks = let some = some_body c is in rw (some, long)
-          (pick (AtCheck c) (not (has_each c.now.at (length c.now.body) u.memory)) (refuse u 49 49) _ (λ e. no_room c is (not_true _ e))
+          (pick (AtCheck c) (not (has_each c.now.at (length c.now.body) u.memory)) (refuse u 49 49) _ (λ e. no_room c is (not-true _ e))
           (λ e. rw same (good (AtCheck c) (Routine plan.check option) (record u { checked = (c.now.at, length c.now.body) ∷ u.checked }) 113 (1 ∷ (big_endian 2 plan.check ++ (0 ∷ []))) reads refl refl
           (let number : (number2 (plan.check / 256 % 256) (plan.check % 256) == plan.check) ≡ true = eq-eqb _ _ number_is in
           rw number (tt, tt, tt)))))

@@ -26,6 +26,7 @@ use Rattle.unit_model.specs.declared.reply.UnitReply.{UnitReply}
 use Rattle.outcome_law.proofs.Growing.{rose_then}
 use Rattle.outcome_law.specs.LinkCounting.{IsFairFrame, AreFair}
 use Rattle.outcome_law.specs.Rising.{Rose, Grows}
+use Rattle.bay_core.proofs.Ticking.{due_all, not_due_all}
 
 -- ------ counts that rise keep it
 frame_on : (old a b : ℕ → ℕ) → ((code : ℕ) → Grows (a code) (b code)) → (f : Frame) → IsFairFrame old a f → IsFairFrame old b f
@@ -117,20 +118,6 @@ module _ (old new : ℕ → ℕ) where
   keeps_words got unit sid [] g can k = k
   keeps_words got unit sid (r ∷ rs) g can k = keeps_words got unit sid rs (queue_reply g unit sid r.due r.body) can.1 (keeps_word got g unit sid r.due r.body can.0 k)
 
-  due_for : (tick : ℕ) (queue : List (ℕ × List ℕ)) → Each (λ q. IsFor q.1) queue → IsFor (bytes_due tick queue)
-  due_for tick [] all = for_none
-  due_for tick (q ∷ qs) all = elim (cases_Bool (nat_le q.0 tick)) [
-    | inl e ↦ rw e (for_append q.1 (bytes_due tick qs) all.0 (due_for tick qs all.1))
-    | inr e ↦ rw e (due_for tick qs all.1)
-  ]
-
-  rest_for : (tick : ℕ) (queue : List (ℕ × List ℕ)) → Each (λ q. IsFor q.1) queue → Each (λ q. IsFor q.1) (not_due tick queue)
-  rest_for tick [] all = tt
-  rest_for tick (q ∷ qs) all = elim (cases_Bool (nat_le q.0 tick)) [
-    | inl e ↦ rw e (rest_for tick qs all.1)
-    | inr e ↦ rw e (all.0, rest_for tick qs all.1)
-  ]
-
   alive_for : (tick : ℕ) (g : Gateway) → IsFor (alive_bytes tick g)
   alive_for tick g = elim (cases_Bool (is_some g.active && has_tick tick g.alive)) [
     | inl e ↦ rw e (record { whole = record { rest = refl; bad = refl }; all = (tt, tt) })
@@ -164,9 +151,9 @@ module _ (old new : ℕ → ℕ) where
       let k = keeps_of tester l g c a in
       let bare : IsFor l.got = subst (λ (x : List ℕ). IsFor x) (ap (λ (x : List ℕ). l.got ++ x) none ∙ append-nil l.got) k.ready in
       let next : IsFor (l.got ++ (bytes_due (g.tick + 1) g.later ++ (alive_bytes (g.tick + 1) g ++ pending_of (g.tick + 1) (tester_of g) g.held))) =
-      for_append l.got (bytes_due (g.tick + 1) g.later ++ (alive_bytes (g.tick + 1) g ++ pending_of (g.tick + 1) (tester_of g) g.held)) bare (for_append (bytes_due (g.tick + 1) g.later) (alive_bytes (g.tick + 1) g ++ pending_of (g.tick + 1) (tester_of g) g.held) (due_for (g.tick + 1) g.later k.later)
+      for_append l.got (bytes_due (g.tick + 1) g.later ++ (alive_bytes (g.tick + 1) g ++ pending_of (g.tick + 1) (tester_of g) g.held)) bare (for_append (bytes_due (g.tick + 1) g.later) (alive_bytes (g.tick + 1) g ++ pending_of (g.tick + 1) (tester_of g) g.held) (due_all IsFor for_none for_append (g.tick + 1) g.later k.later)
       (for_append (alive_bytes (g.tick + 1) g) (pending_of (g.tick + 1) (tester_of g) g.held) (alive_for (g.tick + 1) g) (pending_for (g.tick + 1) (tester_of g) g.held))) in
-      record { ready = next.all; later = only_for (not_due (g.tick + 1) g.later) (rest_for (g.tick + 1) g.later k.later) }
+      record { ready = next.all; later = only_for (not_due (g.tick + 1) g.later) (not_due_all IsFor (g.tick + 1) g.later k.later) }
 
   pub nacked_fair : (tester t code : ℕ) (l : Link) (g : Gateway) → IsConnected tester l g → AreFair old new l g → AreFair old new l (record g { ready = g.ready ++ nack_bytes t tester code; unfinished = [] })
   nacked_fair tester t code l g c a = let k = keeps_ready l.got g (nack_bytes t tester code) (for_nack t tester code) (keeps_of tester l g c a) in record { ready = k.ready.all; later = only_for g.later k.later }

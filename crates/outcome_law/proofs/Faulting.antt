@@ -1,7 +1,8 @@
 -- A disk fault has its cause in the events: an append failed.
 use Rattle.std.proofs.Common.{◌≡◌, ◌⊎◌, inl, inr, ℕ, ◌+◌, ◌<◌, true, false, List, [], ◌∷◌, ◌++◌, length, Some, None, refl, sym, ◌∙◌, ap}
 use Rattle.std.specs.Prelude.{Bool, Option, ◌==◌, ◌||◌, nat_le, nat_lt, is_some, unwrap_or, if◌then◌else◌}
-use Rattle.std.proofs.lemmas.Bool.{cases_Bool, false≢true, both_ways, and_parts}
+use Rattle.std.proofs.lemmas.Bool.{cases_Bool, false≢true, both_ways, and_parts, or_left, or_right}
+use Rattle.std.proofs.Math.Bool.{or-false}
 use Rattle.flash_base.specs.declared.unit.KeyRule.{KeyRule}
 use Rattle.flash_base.specs.declared.unit.KeyRule.TheVariants.{Free, Xor, Digest}
 use Rattle.flash_plan.specs.Plan.{IsAccepted, plan_of, count_of}
@@ -156,14 +157,6 @@ record AreFaultsCaused (P : List UnitPlan) (c : Core) : Type 0 where
   faulted : (n : ℕ) → (c.slots n).faulted ≡ true → c.halt.failed ≡ true
   stop : c.halt.stop ≡ Some DiskFault → c.halt.failed ≡ true
 
-or_right : (a b : Bool) → b ≡ true → (a || b) ≡ true
-or_right true b e = refl
-or_right false b e = e
-
-or_left : (a b : Bool) → a ≡ true → (a || b) ≡ true
-or_left true b e = refl
-or_left false b e = absurd (false≢true e)
-
 not_fault : (o : Outcome) → is_fault o ≡ false → Some o ≡ Some DiskFault → ⊥
 not_fault o e is = both_ways _ e (ap (λ (x : Option Outcome). is_fault (unwrap_or x o)) is)
 
@@ -223,11 +216,7 @@ or_assoc true false z = refl
 or_assoc false y z = refl
 
 failed_over : (rules : LinkRules) (P : List UnitPlan) (c : Core) (events : List Event) → (core_of rules P c events).halt.failed ≡ (c.halt.failed || has_failure events)
-failed_over rules P c [] = sym (or_false c.halt.failed)
-  where
-    or_false : (b : Bool) → (b || false) ≡ b
-    or_false true = refl
-    or_false false = refl
+failed_over rules P c [] = sym (or-false c.halt.failed)
 failed_over rules P c (e ∷ es) = failed_over rules P (core_after rules P e c) es ∙ or_assoc (is_disk_failure e) c.halt.failed (has_failure es)
 
 pub failed_law : FailedLaw

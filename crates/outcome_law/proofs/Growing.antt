@@ -5,7 +5,7 @@ use Rattle.std.proofs.lemmas.Bool.{cases_Bool, cases_eq}
 use Rattle.doip_frame.specs.Frame.{Cut, Partial, Wrong, Whole, cut_frame, message_bytes}
 use Rattle.doip_frame.specs.declared.frame.Frame.{Frame}
 use Rattle.doip_frame.specs.declared.frame.Frame.TheVariants.{HeaderNack, Activate, Activated, AliveAsk, AliveSay, Message, Ack, Nack, Other}
-use Rattle.flash_base.specs.ByteMaps.{MemoryMap, byte_at, fill, put, bytes_of, has_each}
+use Rattle.flash_base.specs.ByteMaps.{byte_at, bytes_of, has_each}
 use Rattle.flash_base.specs.Lists.{same_bytes}
 use Rattle.sha2.specs.Sha256.{sha256}
 use Rattle.uds_codec.specs.Key.{key_of}
@@ -24,6 +24,7 @@ use Rattle.unit_model.specs.declared.reply.UnitReply.{UnitReply}
 use Rattle.run_model.proofs.Hearing.{found_address}
 use Rattle.outcome_law.specs.Counting.{SameMake, Kept, KeptIn}
 use Rattle.outcome_law.specs.Rising.{RoseBy, Grows, CountsGrow}
+use Rattle.unit_model.proofs.Domains.{fill_domain, put_domain}
 
 pub up_same : (n : ℕ) → Grows n n
 up_same n = omega arith
@@ -179,14 +180,6 @@ make_then u w x f g = frame u x (g.idents ∙ f.idents) (g.key ∙ f.key) (g.che
 
 pub make_is : (u w x : ControlUnit) → x ≡ w → SameMake u w → SameMake u x
 make_is u w x is m = subst (λ (y : ControlUnit). SameMake u y) (sym is) m
-
-pub fill_domain : (at n x : ℕ) (m : MemoryMap) (a : ℕ) → is_some (byte_at (fill at n x m) a) ≡ is_some (byte_at m a)
-fill_domain at n x [] a = refl
-fill_domain at n x (p ∷ ps) a = elim (cases_Bool (p.0 == a)) [ inl e ↦ rw e refl | inr e ↦ rw e (fill_domain at n x ps a) ]
-
-pub put_domain : (at : ℕ) (xs : List ℕ) (m : MemoryMap) (a : ℕ) → is_some (byte_at (put at xs m) a) ≡ is_some (byte_at m a)
-put_domain at xs [] a = refl
-put_domain at xs (p ∷ ps) a = elim (cases_Bool (p.0 == a)) [ inl e ↦ rw e refl | inr e ↦ rw e (put_domain at xs ps a) ]
 
 abbrev Made : ControlUnit → ControlUnit × List ℕ → Type 0
 Made u step = SameMake u step.0

@@ -3,9 +3,9 @@ use Rattle.std.proofs.Common.{◌≡◌, ◌⊎◌, inl, inr, ℕ, zero, suc, �
 use Rattle.std.specs.Prelude.{Option, ◌==◌, is_some, unwrap_or}
 use Rattle.std.proofs.lemmas.Bool.{cases_Bool, false≢true, both_ways, and_parts, eqb-true, eq-eqb}
 use Rattle.std.proofs.lemmas.List.{append-nil}
-use Rattle.bay_core.proofs.LinkLaws.{link_laws}
+use Rattle.bay_core.proofs.LinkLaws.{link_laws, code_more}
 use Rattle.bay_core.proofs.Links.{heard_steps}
-use Rattle.bay_core.proofs.Piecing.{frames_first}
+use Rattle.bay_core.proofs.Piecing.{frames_first, after_same, got_frames}
 use Rattle.bay_core.specs.Core.{addresses_of}
 use Rattle.bay_core.specs.LinkLaws.{refuses_header, first_code, phase_for}
 use Rattle.bay_core.specs.declared.event.Event.TheVariants.{Tended}
@@ -30,6 +30,7 @@ use Rattle.outcome_law.proofs.Growing.{VehicleGrows, rose_then, up_then}
 use Rattle.outcome_law.specs.LinkCounting.{is_garbled, fault_of, has_answer, IsFairFrame, AreFair, IsPhaseCounted, IsLinkCounted}
 use Rattle.outcome_law.specs.Rising.{RoseBy, Rose, Grows}
 use Rattle.run_model.proofs.Phases.{asked_is, asked_open, open_live}
+use Rattle.outcome_law.proofs.Silence.{rest_frames}
 
 -- ------ bytes
 bytes_same : (xs ys : List ℕ) → same_bytes xs ys ≡ true → xs ≡ ys
@@ -59,27 +60,9 @@ none_bad a b good = go (stream_of a).bad refl
     go None e = refl
     go (Some bad) e = absurd (false≢true (ap (is_some {T = Bad}) (sym good ∙ bad_in (suc (length a)) a b bad (omega arith) e)))
 
-after_same : {T : Type 0} (front xs ys : List T) → BeginsWith (front ++ xs) (front ++ ys) → BeginsWith xs ys
-after_same [] xs ys b = b
-after_same {T} (f ∷ fs) xs ys (more, is) = after_same fs xs ys (more, ap tail is)
-  where
-    tail : List T → List T
-    tail [] = []
-    tail (x ∷ rest) = rest
-
--- the rest of a stream has no whole frame
-no_frames : (fs gs : List Frame) → fs ≡ fs ++ gs → gs ≡ []
-no_frames fs [] e = refl
-no_frames fs (g ∷ gs) e = let n : length fs ≡ length fs + suc (length gs) = ap (λ (xs : List Frame). length xs) e ∙ length-append fs (g ∷ gs) in absurd (omega (arith, n))
-
 module _ (tester : ℕ) (l : Link) (v : Vehicle) (c : IsConnected tester l v.gateway) where
-  got_frames : (more : List ℕ) → (stream_of (l.got ++ more)).frames ≡ (stream_of l.got).frames ++ (stream_of (l.rest ++ more)).frames
-  got_frames more = ap (λ (x : Stream). x.frames) (split l.got more c.bad) ∙ ap (λ (x : List ℕ). (stream_of l.got).frames ++ (stream_of (x ++ more)).frames) c.rest
-
-  rest_frames : v.gateway.ready ≡ [] → (stream_of (l.rest ++ v.gateway.ready)).frames ≡ []
-  rest_frames none =
-      ap (λ (x : List ℕ). (stream_of (l.rest ++ x)).frames) none
-      ∙ no_frames (stream_of l.got).frames (stream_of (l.rest ++ [])).frames (ap (λ (x : List ℕ). (stream_of x).frames) (sym (append-nil l.got)) ∙ got_frames [])
+  none_whole : v.gateway.ready ≡ [] → (stream_of (l.rest ++ v.gateway.ready)).frames ≡ []
+  none_whole none = ap (λ (x : List ℕ). (stream_of (l.rest ++ x)).frames) none ∙ ap (λ (x : List ℕ). (stream_of x).frames) (append-nil l.rest) ∙ rest_frames tester l v.gateway c
 
   carried_is : (piece : List ℕ) (w : Vehicle) → IsShown piece v w → w.gateway.carried ≡ l.got ++ piece
   carried_is piece w shown = ap (λ (x : Vehicle). x.gateway.carried) shown.carries.becomes ∙ ap (λ (x : List ℕ). x ++ piece) c.carried
@@ -93,7 +76,7 @@ module _ (tester : ℕ) (l : Link) (v : Vehicle) (c : IsConnected tester l v.gat
       go (inr seen) =
           let b : BeginsWith (stream_of (l.got ++ piece)).frames (stream_of (l.got ++ v.gateway.ready)).frames =
           subst (λ (x : List ℕ × List ℕ). BeginsWith (stream_of x.0).frames (stream_of (x.1 ++ v.gateway.ready)).frames) (λ i. (carried_is piece w shown i, c.carried i)) seen.frames in
-          after_same (stream_of l.got).frames _ _ (subst (λ (x : List Frame × List Frame). BeginsWith x.0 x.1) (λ i. (got_frames piece i, got_frames v.gateway.ready i)) b)
+          after_same (stream_of l.got).frames _ _ (subst (λ (x : List Frame × List Frame). BeginsWith x.0 x.1) (λ i. (got_frames tester l v.gateway c piece i, got_frames tester l v.gateway c v.gateway.ready i)) b)
 
   -- where the bytes are the next ones due, no refusal is among them
   plain_good : (piece : List ℕ) (w : Vehicle) → v.gateway.ready ≡ piece ++ w.gateway.ready → (stream_of (l.rest ++ piece)).bad ≡ None
@@ -134,19 +117,6 @@ code_fair old new (Message s t body ∷ fs) code all e = code_fair old new fs co
 code_fair old new (Ack s t n before ∷ fs) code all e = code_fair old new fs code all.1 e
 code_fair old new (Nack s t n before ∷ fs) code all e = code_fair old new fs code all.1 e
 code_fair old new (Other kind payload ∷ fs) code all e = code_fair old new fs code all.1 e
-
--- where the first frames have no answer, the others have
-code_more : (fs gs : List Frame) → first_code fs ≡ None → first_code (fs ++ gs) ≡ first_code gs
-code_more [] gs e = refl
-code_more (HeaderNack n ∷ fs) gs e = code_more fs gs e
-code_more (Activated t entity n oem ∷ fs) gs e = absurd (false≢true (sym (ap (is_some {T = ℕ}) e)))
-code_more (Activate source kind oem ∷ fs) gs e = code_more fs gs e
-code_more (AliveAsk ∷ fs) gs e = code_more fs gs e
-code_more (AliveSay source ∷ fs) gs e = code_more fs gs e
-code_more (Message s t body ∷ fs) gs e = code_more fs gs e
-code_more (Ack s t n before ∷ fs) gs e = code_more fs gs e
-code_more (Nack s t n before ∷ fs) gs e = code_more fs gs e
-code_more (Other kind payload ∷ fs) gs e = code_more fs gs e
 
 -- ------ phases
 end_phase : (bad : Option Bad) (m : Link) → ((see_end bad m).phase ≡ m.phase) ⊎ ((see_end bad m).phase ≡ phase.Down)
@@ -192,7 +162,7 @@ module _ (rules : LinkRules) (P : List UnitPlan) (piece : List ℕ) (l : Link) (
   fair = fair_on first.gateway.denied v.gateway.denied w.gateway.denied l v.gateway grow.denied (is.fair (open_live l.phase opened))
 
   ready_fair : Each (IsFairFrame first.gateway.denied w.gateway.denied) (stream_of (l.rest ++ v.gateway.ready)).frames
-  ready_fair = fair_back first.gateway.denied w.gateway.denied (stream_of l.got).frames _ (subst (λ (x : List Frame). Each (IsFairFrame first.gateway.denied w.gateway.denied) x) (got_frames rules.tester l v c v.gateway.ready) fair.ready)
+  ready_fair = fair_back first.gateway.denied w.gateway.denied (stream_of l.got).frames _ (subst (λ (x : List Frame). Each (IsFairFrame first.gateway.denied w.gateway.denied) x) (got_frames rules.tester l v.gateway c v.gateway.ready) fair.ready)
 
   fs_fair : Each (IsFairFrame first.gateway.denied w.gateway.denied) (stream_of (l.rest ++ piece)).frames
   fs_fair = let b = piece_frames rules.tester l v c piece w shown in fair_front first.gateway.denied w.gateway.denied (stream_of (l.rest ++ piece)).frames b.0 (subst (λ (x : List Frame). Each (IsFairFrame first.gateway.denied w.gateway.denied) x) b.1 ready_fair)
@@ -321,5 +291,5 @@ quiet_counted tester l first v faults c opened none grow is = elim (cases_Bool (
     waited : is_asked l.phase ≡ true → RoseBy (is.losses.silent + 1) first.gateway.silent (ticked v).gateway.silent
     waited waits = elim (is.losses.awaits waits) [
       | inr rose ↦ rose_then _ _ _ _ rose grow.silent
-      | inl answered ↦ absurd (false≢true (sym (ap has_answer (rest_frames tester l v c none)) ∙ answered))
+      | inl answered ↦ absurd (false≢true (sym (ap has_answer (none_whole tester l v c none)) ∙ answered))
     ]

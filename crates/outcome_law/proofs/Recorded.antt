@@ -1,7 +1,7 @@
 -- The laws of recorded outcomes, over every legal list of events.
 use Rattle.std.proofs.Common.{◌≡◌, inl, inr, ℕ, ◌+◌, true, false, List, [], ◌∷◌, Some, None, refl, sym, ap, subst, arith}
 use Rattle.std.specs.Prelude.{Bool, Option, ◌||◌, is_some, unwrap_or}
-use Rattle.std.proofs.lemmas.Bool.{cases_Bool, false≢true, both_ways, and_parts}
+use Rattle.std.proofs.lemmas.Bool.{cases_Bool, false≢true, both_ways, and_parts, or_left, or_right}
 use Rattle.flash_plan.specs.Plan.{IsAccepted, plan_of}
 use Rattle.flash_plan.specs.declared.outcome.Entry.{Entry}
 use Rattle.flash_plan.specs.declared.outcome.Entry.TheVariants as entry
@@ -45,14 +45,6 @@ outcome_counting_law rules P found c e v v2 first t0 faults failed failed2 accep
     }
 
 -- ------ along a list
-or_left : (a b : Bool) → a ≡ true → (a || b) ≡ true
-or_left true b e = refl
-or_left false b e = absurd (false≢true e)
-
-or_right : (a b : Bool) → b ≡ true → (a || b) ≡ true
-or_right true b e = refl
-or_right false b e = e
-
 over : (rules : LinkRules) (P : List UnitPlan) (found : Entry → Bool) (c : Core) (events : List Event) (s : Vehicle) (states : List Vehicle) (first : Vehicle) (t0 faults : ℕ) (failed : Bool) → IsAccepted P → is_legal rules P c events ≡ true → DrivesAll rules P c events s states
     → IsVehicleJoint rules P found c s t0 → (has_failure events ≡ true → failed ≡ true) → AreOutcomesCounted rules P c failed faults first s
     → AreOutcomesCounted rules P (core_of rules P c events) failed (faults + faults_of events s states) first (last_vehicle s states)

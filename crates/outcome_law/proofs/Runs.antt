@@ -26,11 +26,10 @@ use Rattle.run_model.specs.Troubles.{IsCalm, AreCalm}
 use Rattle.unit_session.proofs.Keeps.{left_judged}
 use Rattle.unit_session.specs.Left.{left_for, requests_left}
 use Rattle.bay_core.proofs.OneStep.{step_law, core_law}
-use Rattle.bay_core.specs.Core.{Core, core_start, core_after, core_of, recorded_after}
+use Rattle.bay_core.specs.Core.{Core, core_start, core_after, core_of}
 use Rattle.bay_core.specs.Joint.{IsVehicleJoint}
 use Rattle.bay_core.specs.Law.{DrivesAll}
 use Rattle.bay_core.specs.Legal.{is_legal}
-use Rattle.bay_core.specs.declared.event.Event.TheVariants.{Claimed, Began, Sent, Collected, Tended, Marked, Completed, DiskFailed, Ended}
 use Rattle.bay_core.specs.declared.event.Event.{Event}
 use Rattle.outcome_law.proofs.Checking.{takes_with, takes_on}
 use Rattle.outcome_law.proofs.Fair.{IsFair, IsFairEnd, fair}
@@ -41,27 +40,13 @@ use Rattle.outcome_law.specs.Counting.{Takes, IsEndCaused, SameChecked, AreUnits
 use Rattle.outcome_law.specs.Keeping.{KeptDoneLaw}
 use Rattle.outcome_law.specs.Law.{last_vehicle, IsRun, EndsCaused, CauseLaw, CountingLaw, IsCalmUnit, AnyUnit, IsUnfitEnd, IsMatchingRun, CalmLaw, MatchingLaw, AnswersWell, ObedientLaw, GoesOn, DoneLaw}
 use Rattle.outcome_law.specs.Rising.{RoseBy}
+use Rattle.outcome_law.proofs.Ending.{more_recorded}
 
 -- ------ records only grow
-or_right : (a b : Bool) → b ≡ true → (a || b) ≡ true
-or_right true b e = refl
-or_right false b e = e
-
-recorded_more : (e : Event) (records : Entry → Bool) (x : Entry) → records x ≡ true → recorded_after e records x ≡ true
-recorded_more (Claimed u) records x is = is
-recorded_more (Began u) records x is = or_right _ (records x) is
-recorded_more (Sent u place lost) records x is = is
-recorded_more (Collected u h) records x is = is
-recorded_more (Tended step) records x is = is
-recorded_more (Marked u s) records x is = or_right _ (records x) is
-recorded_more (Completed u) records x is = or_right _ (records x) is
-recorded_more (DiskFailed u entry) records x is = is
-recorded_more (Ended u why) records x is = is
-
 pub counting_law : CountingLaw
 counting_law rules P found c e v v2 first t0 accepted ok did joint counted = record {
   units = λ n lt. unit_step rules P found c v first t0 accepted joint counted e n v2 ok did lt;
-  more = λ x is. recorded_more e c.recorded x (counted.more x is);
+  more = λ x is. more_recorded e c.recorded x (counted.more x is);
 }
 
 -- ------ lists

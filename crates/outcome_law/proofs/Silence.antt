@@ -1,9 +1,9 @@
 -- 1,000 ticks without an answer: the unit was mute or late, which was counted.
 use Rattle.std.proofs.Common.{◌≡◌, ◌⊎◌, inl, inr, ℕ, zero, suc, ◌+◌, ◌<◌, ◌≤◌, true, false, List, [], ◌∷◌, ◌++◌, length, Some, None, refl, sym, ◌∙◌, ap, arith, length-append}
 use Rattle.std.specs.Prelude.{Bool, Option, ◌==◌, ◌||◌, is_some}
-use Rattle.std.proofs.lemmas.Bool.{cases_Bool, false≢true, leb-false}
+use Rattle.std.proofs.lemmas.Bool.{cases_Bool, false≢true, leb-false, or_parts}
 use Rattle.std.proofs.lemmas.List.{append-nil}
-use Rattle.bay_core.proofs.Ticking.{bodies, held_bodies, turned, on_one}
+use Rattle.bay_core.proofs.Ticking.{bodies, held_bodies, turned, on_one, some_cons}
 use Rattle.bay_core.specs.Joint.{HoldsAtMost, IsLoneHeld, held_of}
 use Rattle.doip_frame.proofs.Streams.{split}
 use Rattle.doip_frame.specs.Frame.{Stream, stream_of}
@@ -15,7 +15,7 @@ use Rattle.run_model.specs.Link.{Link, first_message}
 use Rattle.run_model.specs.Script.{bytes_at}
 use Rattle.run_model.specs.States.{Obeyed, Departed}
 use Rattle.run_model.specs.Talk.{Talk}
-use Rattle.run_model.specs.Ways.{UnitMessage, Reply, Nacked, messages_from, messages_in, messages_later, on_way, pending_messages, final_message}
+use Rattle.run_model.specs.Ways.{UnitMessage, Reply, Nacked, messages_in, messages_later, on_way, pending_messages, final_message}
 use Rattle.uds_codec.specs.Request.{sid_of}
 use Rattle.unit_model.specs.Poll.{is_turn, ticked}
 use Rattle.unit_model.specs.Step.{Departure, Refuses, Odd, Fails, Mutes, Busies, said_by, is_late}
@@ -27,36 +27,22 @@ use Rattle.outcome_law.proofs.Growing.{rose_then}
 use Rattle.outcome_law.specs.Causes.{IsCaused}
 use Rattle.outcome_law.specs.Counting.{KeptIn, IsCounted, IsHeardCounted, IsMissedCounted, IsAwaitCounted, dues, come, IsHeldTimed, IsOnTime, IsTimed}
 use Rattle.outcome_law.specs.Rising.{Rose}
-
--- no word of the unit is in the inbox
-pub no_word : (a : ℕ) (ms : List (ℕ × UnitMessage)) → is_some (first_message a ms) ≡ false → messages_from a ms ≡ []
-no_word a [] e = refl
-no_word a (m ∷ ms) e = elim (cases_Bool (m.0 == a)) [
-  | inl f ↦ absurd (false≢true (sym (rw f at e)))
-  | inr f ↦ rw f (no_word a ms (rw f at e))
-]
+use Rattle.bay_core.proofs.Takes.{first_none}
 
 -- the rest of a stream has no whole frame
 no_frames : (fs gs : List Frame) → fs ≡ fs ++ gs → gs ≡ []
 no_frames fs [] e = refl
 no_frames fs (g ∷ gs) e = let n : length fs ≡ length fs + suc (length gs) = ap (λ (xs : List Frame). length xs) e ∙ length-append fs (g ∷ gs) in absurd (omega (arith, n))
 
-rest_frames : (tester : ℕ) (l : Link) (g : Gateway) → IsConnected tester l g → (stream_of l.rest).frames ≡ []
+pub rest_frames : (tester : ℕ) (l : Link) (g : Gateway) → IsConnected tester l g → (stream_of l.rest).frames ≡ []
 rest_frames tester l g c = no_frames (stream_of l.got).frames (stream_of l.rest).frames
     (ap (λ (x : List ℕ). (stream_of x).frames) (sym (append-nil l.got)) ∙ ap (λ (s : Stream). s.frames) (split l.got [] c.bad) ∙ ap (λ (x : List ℕ). (stream_of l.got).frames ++ (stream_of x).frames) (append-nil _ ∙ c.rest))
-
-cons_nil : {T : Type 0} (x : T) (xs : List T) → x ∷ xs ≡ [] → ⊥
-cons_nil {T} x xs e = false≢true (sym (ap is_cons e))
-  where
-    is_cons : List T → Bool
-    is_cons [] = false
-    is_cons (y ∷ ys) = true
 
 -- nothing said is nothing answered
 silent_is : (sid k : ℕ) (said : Option (List ℕ)) → [] ≡ pending_messages sid k ++ final_message said → said ≡ None
 silent_is sid zero None e = refl
-silent_is sid zero (Some body) e = absurd (cons_nil (Reply body) [] (sym e))
-silent_is sid (suc k) said e = absurd (cons_nil _ _ (sym e))
+silent_is sid zero (Some body) e = absurd (some_cons (Reply body) [] (sym e))
+silent_is sid (suc k) said e = absurd (some_cons _ _ (sym e))
 
 none_some : (body : List ℕ) → None ≡ Some body → ⊥
 none_some body e = false≢true (ap (is_some {T = List ℕ}) e)
@@ -79,21 +65,17 @@ one_reply body code e = false≢true (ap is_unheard (ap (head_or (Reply body)) e
     is_unheard (Reply b) = false
     is_unheard (Nacked n) = true
 
-late_head : (x y : Bool) → (x || y) ≡ false → x ≡ false
-late_head true y e = absurd (false≢true (sym e))
-late_head false y e = refl
-
 module _ (tester : ℕ) (plan : UnitPlan) (found : ℕ → Bool) (t0 : ℕ) (t : Talk) (l : Link) (first v : Vehicle) (c : IsConnected tester l v.gateway) (none : v.gateway.ready ≡ []) (no_more : is_some (first_message plan.address l.inbox) ≡ false)
     (ticks : v.gateway.tick ≡ t0 + l.ticks) (over : t.since + 1000 ≤ l.ticks + 1) (most : HoldsAtMost tester plan.address (sid_of (bytes_at plan t.place)) v.gateway) where
   abbrev a : ℕ
   a = plan.address
 
   nothing : come tester plan.address l.inbox l.rest v.gateway ≡ []
-  nothing = λ i. no_word plan.address l.inbox no_more i ++ (ap (λ (x : List ℕ). messages_in tester plan.address (stream_of x).frames) (ap (λ (x : List ℕ). l.rest ++ x) none ∙ append-nil l.rest) ∙ ap (messages_in tester plan.address) (rest_frames tester l v.gateway c)) i
+  nothing = λ i. first_none plan.address l.inbox no_more i ++ (ap (λ (x : List ℕ). messages_in tester plan.address (stream_of x).frames) (ap (λ (x : List ℕ). l.rest ++ x) none ∙ append-nil l.rest) ∙ ap (messages_in tester plan.address) (rest_frames tester l v.gateway c)) i
 
   -- what is on the way is held, where nothing more is due
   way_held : messages_later tester plan.address v.gateway.later ≡ [] → on_way tester plan.address l.inbox l.rest v.gateway ≡ bodies (held_of plan.address v.gateway.held)
-  way_held later = λ i. no_word plan.address l.inbox no_more i ++ ((ap (λ (x : List ℕ). messages_in tester plan.address (stream_of x).frames) (ap (λ (x : List ℕ). l.rest ++ x) none ∙ append-nil l.rest) ∙ ap (messages_in tester plan.address) (rest_frames tester l v.gateway c)) i
+  way_held later = λ i. first_none plan.address l.inbox no_more i ++ ((ap (λ (x : List ℕ). messages_in tester plan.address (stream_of x).frames) (ap (λ (x : List ℕ). l.rest ++ x) none ∙ append-nil l.rest) ∙ ap (messages_in tester plan.address) (rest_frames tester l v.gateway c)) i
       ++ (later i ++ held_bodies plan.address v.gateway.held i))
 
   none_later : (sent : ℕ) → sent ≡ t0 + t.since → IsOnTime tester plan.address sent l.inbox l.rest v.gateway → dues tester plan.address v.gateway.later ≡ []
@@ -102,7 +84,7 @@ module _ (tester : ℕ) (plan : UnitPlan) (found : ℕ → Bool) (t0 : ℕ) (t :
       go : (ds : List ℕ) → Each (λ d. v.gateway.tick < d) ds → is_late on.last ds ≡ false → ds ≡ []
       go [] after late = refl
       go (d ∷ ds) after late =
-          let soon : d < on.last + 1000 = leb-false (on.last + 1000) d (late_head _ _ late) in
+          let soon : d < on.last + 1000 = leb-false (on.last + 1000) d (or_parts _ _ late).0 in
           let past : on.last ≤ sent = on.taken nothing in
           let now : v.gateway.tick < d = after.0 in
           absurd (omega (arith, soon, past, now, at, over, ticks))
@@ -111,7 +93,7 @@ module _ (tester : ℕ) (plan : UnitPlan) (found : ℕ → Bool) (t0 : ℕ) (t :
   no_reply code is way = go most
     where
       go : HoldsAtMost tester plan.address (sid_of (bytes_at plan t.place)) v.gateway → ⊥
-      go (inl empty) = cons_nil _ _ (sym way ∙ is ∙ ap bodies empty)
+      go (inl empty) = some_cons _ _ (sym way ∙ is ∙ ap bodies empty)
       go (inr lone) = one_reply lone.one.body code (sym (is ∙ ap bodies lone.held) ∙ way)
 
   -- it said nothing, and holds nothing

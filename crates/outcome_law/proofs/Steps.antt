@@ -1,8 +1,9 @@
 -- Each event keeps what is counted of each unit.
 use Rattle.std.proofs.Common.{◌≡◌, ◌⊎◌, inl, inr, ℕ, ◌+◌, ◌<◌, ◌≤◌, true, false, List, [], ◌∷◌, ◌++◌, Some, None, refl, sym, ◌∙◌, ap, subst, arith}
 use Rattle.std.specs.Prelude.{Bool, Option, ◌==◌, ◌&&◌, ◌||◌, nat_le, nat_lt, is_some, length}
-use Rattle.std.proofs.lemmas.Bool.{cases_Bool, false≢true, both_ways, eqb-true, eq-eqb, le-ltb, lt-ltb, leb-true, and_parts}
-use Rattle.bay_core.proofs.Allowed.{SentFacts, sent_facts, collected_facts, MarkFacts, mark_facts, open_slot, asks_needs, not_true}
+use Rattle.std.proofs.lemmas.Bool.{cases_Bool, false≢true, both_ways, eqb-true, eq-eqb, le-ltb, lt-ltb, leb-true, and_parts, not-true}
+use Rattle.std.proofs.Math.Bool.{and-false}
+use Rattle.bay_core.proofs.Allowed.{SentFacts, sent_facts, collected_facts, MarkFacts, mark_facts, open_slot, asks_needs}
 use Rattle.bay_core.proofs.Links.{Steps}
 use Rattle.bay_core.proofs.Piecing.{piece_first, known_address}
 use Rattle.bay_core.proofs.Sane.{event_steps}
@@ -40,7 +41,7 @@ use Rattle.run_model.proofs.Sends.{message_sends, alive_sends}
 use Rattle.run_model.specs.Connected.{IsConnected}
 use Rattle.flash_plan.specs.Outcomes.{with_entry}
 use Rattle.run_model.specs.Entries.{with_mark, marks_of}
-use Rattle.run_model.specs.Link.{Link, Phase, is_up, is_live, is_down, is_dialed, is_asked, hear_piece, take_message, first_message, without_first, quiet_link, polled_quiet}
+use Rattle.run_model.specs.Link.{Link, is_up, is_live, hear_piece, take_message, first_message, without_first, quiet_link}
 use Rattle.run_model.specs.Link as phase
 use Rattle.run_model.specs.Places.{is_ended, needs_request}
 use Rattle.run_model.specs.Script.{Cursor, Place, AtIdent, AtBegin, AtProgram, AtSeed, AtKey, AtErase, AtDownload, AtBlock, AtExit, AtCheck, AtMark, AtFinish, AtReset, AtDone, AtEnd, bytes_at, start_place, idents_from, segments_from, place_marked}
@@ -56,7 +57,7 @@ use Rattle.unit_model.specs.Poll.{Ticks, IsShown, ticked}
 use Rattle.unit_model.specs.Unit.{ControlUnit, Counts}
 use Rattle.unit_model.specs.Vehicle.{Gateway, Vehicle, unit_at}
 use Rattle.unit_session.specs.Left.{left_for, requests_left}
-use Rattle.bay_core.proofs.Sending.{came_out, Refused as refused_request, Heard as heard_request}
+use Rattle.bay_core.proofs.Sending.{came_out, Refused as refused_request, Heard as heard_request, place_goes}
 use Rattle.outcome_law.proofs.Asking.{others_on, refused_awaited, heard_awaited}
 use Rattle.outcome_law.proofs.Checking.{FinishesIn, finishes_in, finishes_on, has_checked, heard_checked, takes_same}
 use Rattle.outcome_law.proofs.Clock.{tick_awaited}
@@ -445,14 +446,10 @@ module _ (rules : LinkRules) (P : List UnitPlan) (found : Entry → Bool) (c : C
       (λ e. moved n w is lt (counted.units n lt).talk))
       (λ losses live. by_awaited u n _ c.link w lt (λ lu o a. absurd (both_ways _ idle a)) (λ e o a. still_awaits n w is lt live o a))
 
-  closed : (b : Bool) → (b && false) ≡ false
-  closed true = refl
-  closed false = refl
-
   pub completed_step : (u n : ℕ) (w : Vehicle) → is_allowed P c (Completed u) ≡ true → w ≡ v → VehicleGrows v w → n < count_of P → Counted (Completed u) n w
   completed_step u n w ok is grows lt = after (Completed u) n w ok lt grows (checked_still n w lt is)
       (by_talk u n _ w c.recorded lt (λ lu. moved u w is lu (counted.units u lu).talk) (λ e. moved n w is lt (counted.units n lt).talk))
-      (λ losses live. by_awaited u n _ c.link w lt (λ lu o a. absurd (both_ways _ (closed (c.slots u).claimed) o)) (λ e o a. still_awaits n w is lt live o a))
+      (λ losses live. by_awaited u n _ c.link w lt (λ lu o a. absurd (both_ways _ (and-false (c.slots u).claimed) o)) (λ e o a. still_awaits n w is lt live o a))
 
   pub failed_step : (u n : ℕ) (entry : Entry) (w : Vehicle) → is_allowed P c (DiskFailed u entry) ≡ true → w ≡ v → VehicleGrows v w → n < count_of P → Counted (DiskFailed u entry) n w
   failed_step u n entry w ok is grows lt = after (DiskFailed u entry) n w ok lt grows (checked_still n w lt is)
@@ -462,7 +459,7 @@ module _ (rules : LinkRules) (P : List UnitPlan) (found : Entry → Bool) (c : C
   pub ended_step : (u n : ℕ) (why : Outcome) (w : Vehicle) → is_allowed P c (Ended u why) ≡ true → w ≡ v → VehicleGrows v w → n < count_of P → Counted (Ended u why) n w
   ended_step u n why w ok is grows lt = after (Ended u why) n w ok lt grows (checked_still n w lt is)
       (by_talk u n _ w c.recorded lt (λ lu. moved u w is lu (counted.units u lu).talk) (λ e. moved n w is lt (counted.units n lt).talk))
-      (λ losses live. by_awaited u n _ c.link w lt (λ lu o a. absurd (both_ways _ (closed (c.slots u).claimed) o)) (λ e o a. still_awaits n w is lt live o a))
+      (λ losses live. by_awaited u n _ c.link w lt (λ lu o a. absurd (both_ways _ (and-false (c.slots u).claimed) o)) (λ e o a. still_awaits n w is lt live o a))
 
   -- ------ a request
   sent_awaited : (u number : ℕ) (w : Vehicle) → SentFacts P c u number → FeedsOr false (request_frame rules P c u) v w → VehicleGrows v w → (n : ℕ) → n < count_of P
@@ -484,25 +481,8 @@ module _ (rules : LinkRules) (P : List UnitPlan) (found : Entry → Bool) (c : C
       how = came_out rules.tester (plan_of P u).address _ c.link v w (joint.connected (open_live c.link.phase (up_open c.link.phase f.up))) f.up
           (message_sends rules.tester (plan_of P u).address _ v w (sent_can rules P c found v t0 accepted joint u f.below f.request) (between rules c.link v.gateway (joint.connected (open_live c.link.phase (up_open c.link.phase f.up)))) did).handled
 
-      goes : (place : Place) → needs_request place ≡ true → is_ended place ≡ false
-      goes (AtIdent x xs) e = refl
-      goes AtBegin e = absurd (false≢true e)
-      goes AtProgram e = refl
-      goes (AtSeed level) e = refl
-      goes (AtKey level seed) e = refl
-      goes (AtErase cc) e = refl
-      goes (AtDownload cc) e = refl
-      goes (AtBlock cc b) e = refl
-      goes (AtExit cc) e = refl
-      goes (AtCheck cc) e = refl
-      goes (AtMark cc) e = absurd (false≢true e)
-      goes AtFinish e = refl
-      goes AtReset e = refl
-      goes AtDone e = absurd (false≢true e)
-      goes (AtEnd o) e = absurd (false≢true e)
-
       nothing : on_way rules.tester (plan_of P u).address c.link.inbox c.link.rest v.gateway ≡ []
-      nothing = (joint.units u f.below).slot.rests (open_live c.link.phase (up_open c.link.phase f.up)) f.claimed f.idle (goes (c.slots u).talk.place (asks_needs (plan_of P u) (c.slots u).talk.place f.request))
+      nothing = (joint.units u f.below).slot.rests (open_live c.link.phase (up_open c.link.phase f.up)) f.claimed f.idle (place_goes (c.slots u).talk.place (asks_needs (plan_of P u) (c.slots u).talk.place f.request))
 
       own : refused_request rules.tester (plan_of P u).address (bytes_at (plan_of P u) (c.slots u).talk.place) c.link v w (joint.connected (open_live c.link.phase (up_open c.link.phase f.up))) f.up
           ⊎ heard_request rules.tester (plan_of P u).address (bytes_at (plan_of P u) (c.slots u).talk.place) c.link v w (joint.connected (open_live c.link.phase (up_open c.link.phase f.up))) f.up
@@ -678,7 +658,7 @@ module _ (rules : LinkRules) (P : List UnitPlan) (found : Entry → Bool) (c : C
   collected_step u kept_word n w ok did grows lt = let f = collected_facts P c u kept_word ok in kept_step u f.below f.slot f.awaiting f.up n w ok did grows lt
   collected_step u Quiet n w ok did grows lt =
       let f = collected_facts P c u Quiet ok in
-      quiet_step u f.below f.slot f.awaiting f.up n w ok (not_true _ f.inbox) did grows (ticks_up v (ticked v) (record { none = did.none; becomes = refl })) (units_received rules P c found v t0 accepted joint Quiet (ticked v) (record { none = did.none; becomes = refl })) lt
+      quiet_step u f.below f.slot f.awaiting f.up n w ok (not-true _ f.inbox) did grows (ticks_up v (ticked v) (record { none = did.none; becomes = refl })) (units_received rules P c found v t0 accepted joint Quiet (ticked v) (record { none = did.none; becomes = refl })) lt
   collected_step u (Piece bytes) n w ok did grows lt = let f = collected_facts P c u (Piece bytes) ok in piece_step u f.below f.slot f.awaiting f.up bytes n w ok did grows (units_received rules P c found v t0 accepted joint (Piece bytes) w did) lt
   collected_step u Lost n w ok did grows lt = let f = collected_facts P c u Lost ok in missed_step u f.below f.slot f.awaiting f.up n w ok grows (units_received rules P c found v t0 accepted joint Lost w did) lt
 

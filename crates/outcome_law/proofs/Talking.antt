@@ -18,9 +18,8 @@ use Rattle.run_model.specs.Script.{Place, AtIdent, AtBegin, AtProgram, AtSeed, A
 use Rattle.run_model.specs.States.{StateAt, SameButCounts, Obeyed, Departed}
 use Rattle.run_model.specs.Talk.{Talk, talk_hears, talk_judged, talk_final, end_talk}
 use Rattle.run_model.specs.Ways.{UnitMessage, Reply, Nacked, pending_messages, final_message}
-use Rattle.unit_session.proofs.Keeps.{left_judged}
+use Rattle.unit_session.proofs.Keeps.{IsFinalForm, left_judged}
 use Rattle.unit_session.specs.Left.{requests_left}
-use Rattle.unit_session.specs.Onward.{IsFinalForm}
 use Rattle.bay_core.specs.Joint.{IsTalk}
 use Rattle.bay_core.proofs.Talks.{next_fits}
 use Rattle.outcome_law.proofs.Checking.{Finishes, FinishesIn, takes_all, takes_on}
@@ -29,6 +28,8 @@ use Rattle.outcome_law.proofs.Growing.{leaves_made}
 use Rattle.outcome_law.specs.Causes.{IsCaused, IsCausedBy}
 use Rattle.outcome_law.specs.Counting.{SameMake, Kept, KeptIn, Takes, TakesIn, IsIdentPlace, IsEndCaused, IsTalkCounted, IsCounted, IsHeardCounted, IsMissedCounted, IsAwaitCounted}
 use Rattle.outcome_law.specs.Rising.{RoseBy}
+use Rattle.bay_core.proofs.Sending.{place_goes}
+use Rattle.bay_core.proofs.Ticking.{some_cons}
 
 -- ------ what a place asks of the unit stays where lock, key, block number and addresses stay
 pub takes_kept : (place : Place) (u w : ControlUnit) → w.key ≡ u.key → w.unlocked ≡ u.unlocked → w.block ≡ u.block → ((a : ℕ) → is_some (byte_at w.memory a) ≡ is_some (byte_at u.memory a)) → TakesOn place u → TakesOn place w
@@ -59,33 +60,9 @@ pub takes_left : (place : Place) (u mid : ControlUnit) (bytes : List ℕ) → Le
 takes_left place u mid bytes leaves takes = let m = leaves_made u mid bytes leaves in takes_kept place u mid m.key (leaves_unlocked u mid bytes leaves) m.block m.domain takes
 
 -- ------ small facts
-pub goes_on : (place : Place) → needs_request place ≡ true → is_ended place ≡ false
-goes_on (AtIdent x xs) e = refl
-goes_on AtBegin e = absurd (false≢true e)
-goes_on AtProgram e = refl
-goes_on (AtSeed level) e = refl
-goes_on (AtKey level seed) e = refl
-goes_on (AtErase c) e = refl
-goes_on (AtDownload c) e = refl
-goes_on (AtBlock c b) e = refl
-goes_on (AtExit c) e = refl
-goes_on (AtCheck c) e = refl
-goes_on (AtMark c) e = absurd (false≢true e)
-goes_on AtFinish e = refl
-goes_on AtReset e = refl
-goes_on AtDone e = absurd (false≢true e)
-goes_on (AtEnd outcome) e = absurd (false≢true e)
-
 abbrev head_or : UnitMessage → List UnitMessage → UnitMessage
 head_or w [] = w
 head_or w (x ∷ xs) = x
-
-cons_nil : (w : UnitMessage) (ws : List UnitMessage) → w ∷ ws ≡ [] → ⊥
-cons_nil w ws e = false≢true (sym (ap is_cons e))
-  where
-    is_cons : List UnitMessage → Bool
-    is_cons [] = false
-    is_cons (x ∷ xs) = true
 
 pub pending_judged : (bytes : List ℕ) → judge bytes (pending_bytes (sid_of bytes)) ≡ Pending
 pending_judged bytes = rw (eq-eqb (sid_of bytes) (sid_of bytes) refl) refl
@@ -156,7 +133,7 @@ module _ (plan : UnitPlan) (ok : IsAcceptedUnit plan) (begun recorded : Bool) (f
     fewer : (v : Verdict) → IsFinalForm v → t.number + 1 + requests_left plan (place_judged plan t.marks t.place v) ≤ requests_left plan (start_place plan begun)
     fewer v final =
         let less : requests_left plan (place_judged plan t.marks t.place v) + 1 ≤ requests_left plan t.place = left_judged plan t.marks t.place v (record { place_is = sane.place; asked = sane.asked }) needs final in
-        let so_far : t.number + requests_left plan t.place ≤ requests_left plan (start_place plan begun) = is.left (goes_on t.place needs) in
+        let so_far : t.number + requests_left plan t.place ≤ requests_left plan (start_place plan begun) = is.left (place_goes t.place needs) in
         omega (arith, less, so_far)
 
     final_end : (v : Verdict) (outcome : Outcome) → place_judged plan t.marks t.place v ≡ AtEnd outcome → IsCausedBy plan begun found first u.counts outcome → IsTalkCounted plan begun found (Some first) (Some u) (talk_final plan v t)
@@ -271,7 +248,7 @@ module _ (plan : UnitPlan) (ok : IsAcceptedUnit plan) (begun recorded : Bool) (f
         let h2 : IsHeardCounted plan found t first held (Reply (pending_bytes (sid_of bytes)) ∷ way) u = record { before = h.before; said = h.said; pending = h.pending; state = h.state; takes = h.takes; make = h.make; step = h.step; on_way = ap (λ (x : UnitMessage). x ∷ way) (sym w) ∙ h.on_way; patience = h.patience; holding = h.holding } in
         subst (λ (x : UnitMessage). Goes (Some first) (Some u) way (talk_hears plan tick x t)) (sym w)
         (subst (λ (v : Verdict). Goes (Some first) (Some u) way (talk_judged plan tick v t)) (sym (pending_judged bytes)) (pending_word way k h2 p rest2))
-    heard_word word way zero None h p q on = absurd (cons_nil word way on)
+    heard_word word way zero None h p q on = absurd (some_cons word way on)
     heard_word word way zero (Some body) h p q on =
         let w : word ≡ Reply body = ap (head_or word) on in
         let rest : way ≡ [] = ap (drop 1) on in

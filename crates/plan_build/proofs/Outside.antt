@@ -1,6 +1,7 @@
 -- A refusal of the shelf is what a read answered.
 use Rattle.std.proofs.Common.{inl, inr, sym, subst, ℕ, ◌+◌, ◌==◌, nat_lt, cond, Bool, true, false, List, [], ◌∷◌, length, Option, Some, None, Result, Ok, Err, bytes_eq}
 use Rattle.std.specs.List.{position_from}
+use Rattle.span_store.specs.ByteMap.{top}
 use Rattle.odx_tree.specs.Tree.{tree_of}
 use Rattle.odx_tree.specs.declared.element.Element.{Element}
 use Rattle.odx_tree.specs.declared.fault.TreeFault.{TreeFault}
@@ -189,7 +190,7 @@ module _ (read : List ℕ → Result (List ℕ) ShelfFault → Type 0) where
       (of_just Asked (all_wanted name t dids (session_of c.mem s).idents) (wanted_silent Asked name t dids (session_of c.mem s).idents)) (λ wanted. session_speaks t c s wanted fill))
 
   raw_silent : (name : List ℕ) (t : Task) (at : ℕ) (wanted : List Wanted) (bytes : List ℕ) → Silent Asked (raw_part name t at wanted bytes)
-  raw_silent name t at wanted bytes = either_silent Asked (length bytes == 0) _ _ tt (either_silent Asked (nat_lt 4294967296 (at + length bytes)) _ _ tt tt)
+  raw_silent name t at wanted bytes = either_silent Asked (length bytes == 0) _ _ tt (either_silent Asked (nat_lt top (at + length bytes)) _ _ tt tt)
 
   source_speaks : (name : List ℕ) (c : Option Catalogue) (t : Task) (s : Source) → Speaks Asked (from_source read name c t s)
   source_speaks name c t (source.Raw file at wanted) = of_both Asked (fetched read file) (λ bytes. just (raw_part name t at wanted bytes)) (fetched_speaks file) (λ bytes. of_just Asked (raw_part name t at wanted bytes) (raw_silent name t at wanted bytes))

@@ -77,7 +77,7 @@ pub enum Cause {
     BinarySize { id: Text, said: u64, seen: u64 },
     /// Catalogue: the segment has no byte at this source address, and the task no fill byte.
     Hole { segment: u32, at: u64 },
-    /// Catalogue, or the order for a task with a file: the segment leaves the range from 0 to 2^32.
+    /// Catalogue, or the order for a task with a file: the segment leaves the range from 0 to 2^40.
     OutOfRange { segment: u32 },
     /// Catalogue: two segments have this target address, and none a lower one.
     Overlap { at: u64 },

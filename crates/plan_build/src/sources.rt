@@ -7,6 +7,7 @@ ghost use Rattle.flash_plan.specs.Accepting.{IsAsked, IsDraft};
 ghost use Rattle.plan_build.specs.Fetched.{came, Lies, Period};
 ghost use Rattle.plan_build.specs.Tasks.{drafted, from_file, from_session, imaged, part_with, raw_part, session_in, session_part};
 ghost use Rattle.session_image.specs.Images.{HasFiles, IsUsable};
+ghost use Rattle.span_store.specs.ByteMap.{top};
 
 use crate::built::{Catalogue, Part};
 use crate::copies::{copy_of_idents, copy_of_key, copy_of_names};
@@ -14,12 +15,12 @@ use crate::fault::{BuildFault, Cause};
 use crate::fetching::{fetch, fetch_all};
 use crate::idents::all_wanted;
 use crate::refusals::{image_refusal, input};
-use ecu_mem::ADDRESS_LIMIT;
 use flash_base::{Bytes, Files, Items, NoMemory, Text};
 use flash_order::Task;
 use flash_plan::{Draft, Segment, Wanted};
 use flash_shelf::Shelf;
 use session_image::{Image, files_of, image};
+use span_store::TOP;
 use std::alloc::Global;
 
 /// The draft of a task.
@@ -75,7 +76,7 @@ pub(crate) fn raw_part(
     body: Bytes,
 ) -> Result<Part, BuildFault>
     requires task { order.IsTask task.now }
-    requires at { at < 4294967296 }
+    requires at { at < top }
     requires idents { Each order.IsAsked idents.now }
     ensures is { (result ≡ Err BuildFault.NoMemory) ⊎ (result ≡ raw_part name.now task.now at idents.now body) }
     ensures draft { IfOk result (λ p. IsDraft p.draft) }
@@ -84,7 +85,7 @@ pub(crate) fn raw_part(
     if size == 0 {
         return Err(empty_raw(alloc, name, task));
     }
-    if ADDRESS_LIMIT < at + size {
+    if TOP < at + size {
         return Err(input(alloc, name, Cause::OutOfRange { segment: 0 }));
     }
     let idents = copy_of_idents(alloc, idents)?;
@@ -263,7 +264,7 @@ pub(crate) fn from_file<F: Shelf>(
     idents: &[Wanted],
 ) -> Result<Part, BuildFault>
     requires task { order.IsTask task.now }
-    requires at { at < 4294967296 }
+    requires at { at < top }
     requires idents { Each order.IsAsked idents.now }
     ensures keeps { F.contents shelf.new ≡ F.contents shelf.old }
     ensures never_falls { F.faults shelf.old ≤ F.faults shelf.new }

@@ -68,12 +68,36 @@ const ORDERS: &[(&str, &str)] = &[
         "shelf b.bin missing",
     ),
     (
-        r#"{"tester":"0E80","tasks":[{"name":"A","unit":"1001","check":"0202","raw":"a.bin","at":"FFFFFFFE"}]}"#,
+        r#"{"tester":"0E80","tasks":[{"name":"A","unit":"1001","width":"45","check":"0202","raw":"a.bin","at":"FFFFFFFFFE"}]}"#,
         "o.json out of range 0",
+    ),
+    (
+        r#"{"tester":"0E80","tasks":[{"name":"A","unit":"1001","width":"45","check":"0202","raw":"a.bin","at":"FFFFFFFFFD"}]}"#,
+        "A 1001 fffffffffd:616263; ; 0",
+    ),
+    (
+        r#"{"tester":"0E80","tasks":[{"name":"A","unit":"1001","width":"45","check":"0202","raw":"a.bin","at":"0100000000"}]}"#,
+        "A 1001 100000000:616263; ; 0",
+    ),
+    (
+        r#"{"tester":"0E80","tasks":[{"name":"A","unit":"1001","width":"44","check":"0202","raw":"a.bin","at":"0100000000"}]}"#,
+        "o.json too wide A",
     ),
     (
         r#"{"tester":"0E80","tasks":[{"name":"A","unit":"1001","check":"0202","raw":"a.bin","at":"FFFFFFFD"}]}"#,
         "A 1001 fffffffd:616263; ; 0",
+    ),
+    (
+        r#"{"tester":"0E80","tasks":[{"name":"A","unit":"1001","check":"0202","raw":"a.bin","at":"FFFFFFFE"}]}"#,
+        "o.json too wide A",
+    ),
+    (
+        r#"{"tester":"0E80","tasks":[{"name":"A","unit":"1001","width":"45","check":"0202","raw":"a.bin","at":"10000000000"}]}"#,
+        "o.json bad field 0 at",
+    ),
+    (
+        r#"{"tester":"0E80","tasks":[{"name":"A","unit":"1001","width":"54","check":"0202","raw":"a.bin","at":"1000"}]}"#,
+        "o.json bad field 0 width",
     ),
     (
         r#"{"tester":"0E80","tasks":[{"name":"A","unit":"1001","width":"41","check":"0202","raw":"a.bin","at":"1000"}]}"#,

@@ -13,13 +13,14 @@ use Rattle.rec_text.specs.Cutting.{IsCut, AreCut, Cuts}
 use Rattle.rec_text.proofs.Smalls.{Small, AllSmall, AllSmall-push}
 
 -- ------ one line
-pub cut_here : (room : ℕ) (m : ByteMap) (at n : ℕ) (line : List ℕ) → n ≤ length line → 0 < n → n ≤ 16 → n ≤ room → (n ≡ 16) ⊎ ((n ≡ room) ⊎ (get m (at + n) ≡ None)) → IsCut room m (at, take n line)
-cut_here room m at n line long some short inside full =
+pub cut_here : (room : ℕ) (m : ByteMap) (at n : ℕ) (line : List ℕ) → n ≤ length line → 0 < n → n ≤ 16 → n ≤ room → at + n ≤ 2 ^ 32 → (n ≡ 16) ⊎ ((n ≡ room) ⊎ (get m (at + n) ≡ None)) → IsCut room m (at, take n line)
+cut_here room m at n line long some short inside below full =
     let size : length (take n line) ≡ min n (length line) = length-take n line in
     let same : length (take n line) ≡ n = omega arith in
     record {
       some = omega arith;
       short = omega arith;
+      below = omega arith;
       inside = omega arith;
       full = elim full [
         | inl a ↦ inl (same ∙ a)
@@ -57,6 +58,7 @@ advanced room m here cuts at bs p le none holds is small within =
     let below : EndBy at cuts = EndBy_more here at cuts p.ends le in
     let z : at ≡ at - 0 = omega arith in
     let y : at + length bs - 0 ≡ at + length bs = omega arith in
+    let fits : at + length bs ≤ 2 ^ 40 = omega arith in
     let past : part m 0 here ≡ part m 0 (at - 0) = part_same m 0 here at le (λ q l u. none q (omega arith) (omega arith)) ∙ ap (part m 0) z in
     record {
       within = within;
@@ -65,7 +67,7 @@ advanced room m here cuts at bs p le none holds is small within =
           ∙ ap (λ t. over t at bs) (sym p.all ∙ past)
           ∙ part_more m 0 at bs (omega arith) holds
           ∙ ap (part m 0) y);
-      ascending = joined at cuts ((at, bs) ∷ []) p.ascending (some, within, tt, tt) below (here_at, tt);
+      ascending = joined at cuts ((at, bs) ∷ []) p.ascending (some, fits, tt, tt) below (here_at, tt);
       ends = EndBy-append (at + length bs) cuts ((at, bs) ∷ []) (EndBy_more at (at + length bs) cuts below (omega arith)) (end_at, tt);
       cut = AreCut-push room m cuts (at, bs) p.cut is;
       small = AllSmall-push cuts (at, bs) p.small small;

@@ -1,6 +1,7 @@
 pub mod Adds
 pub mod Ends
 pub mod Helds
+pub mod Lows
 pub mod Wide
 pub mod Spelled
 pub mod Conflicts

@@ -11,7 +11,7 @@ mod putting;
 mod run;
 mod spelling;
 
-pub use cutting::{DATA, cut_front};
+pub use cutting::{DATA, cut_front, next_in};
 pub use fault::RecFault;
 pub use filling::Filling;
 pub use line::{SPELLED, first_line, parse};

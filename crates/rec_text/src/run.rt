@@ -6,11 +6,14 @@ ghost use Rattle.rec_text.specs.declared.fault.RecFault.{RecFault};
 
 use crate::fault::RecFault;
 use flash_base::Bytes;
-use span_store::{PutFault, Spans, TOP};
+use span_store::{PutFault, Spans};
 use std::alloc::Global;
 
 /// So many bytes are held before they are put.
 const HELD: usize = 4096;
+
+/// Records reach no address from here on.
+const LIMIT: u64 = 0x1_0000_0000;
 
 /// Bytes by address, and bytes from `start` on that are still to be put. Up to `limit` no other byte stands there.
 #[derive(Debug, Drop)]
@@ -86,8 +89,8 @@ fn look(run: &mut Run)
     ensures start { run.new.start ≡ run.old.start }
 {
     run.limit = match run.spans.piece(run.start) {
-        Some((first, _)) => first,
-        None => TOP,
+        Some((first, _)) => first.min(LIMIT),
+        None => LIMIT,
     };
 }
 

@@ -60,6 +60,9 @@ pub(crate) fn to_texts(rt: &HostRuntime, path: &str) -> io::Result<()> {
     let Some(spans) = read_file(rt, path)? else {
         return Ok(());
     };
+    let None = spans.piece(0x1_0000_0000) else {
+        return Ok(());
+    };
     let start = Instant::now(rt)?;
     let hex = hex_rec::write(rt.alloc(), &spans);
     let srec = srec_rec::write(rt.alloc(), &spans);

@@ -4,10 +4,9 @@ use Rattle.std.proofs.lemmas.Bool.{cases_lt, lt-ltb}
 use Rattle.std.specs.Prelude.{slice_index_or}
 use Rattle.flash_base.specs.Lists.{Each}
 use Rattle.span_store.specs.ByteMap.{top}
-use Rattle.ecu_mem.specs.Values.{address_limit}
 use Rattle.ecu_mem.specs.declared.types.Block.{Block}
-use Rattle.session_image.specs.Kept.{IsPlaced, IsWithin, kept_byte, kept_bodies}
-use Rattle.session_image.specs.Pieces.{◌>>=◌, filled, is_outside, target_of, moved}
+use Rattle.session_image.specs.Kept.{IsPlaced, IsWithin}
+use Rattle.session_image.specs.Pieces.{◌>>=◌, bodies, byte_of, filled, is_outside, target_of, moved}
 use Rattle.session_image.specs.declared.content.Content.{Content}
 use Rattle.session_image.specs.declared.pieces.Piece.{Piece}
 use Rattle.session_image.specs.declared.types.ImageFault.{ImageFault}
@@ -37,7 +36,7 @@ moved_inside b number s h = rw h refl
 pub moved_outside : (b : Block) (number : ℕ) (s : ℕ × List ℕ) → is_outside b s.0 (length s.1) ≡ true → one_moved b number s ≡ Err (OutOfRange number)
 moved_outside b number s h = rw h refl
 
-at_target : (down : Bool) (at offset size : ℕ) → at + size ≤ address_limit → cond down (nat_lt at offset) (nat_lt top (at + offset + size)) ≡ false → cond down (at - offset) (at + offset) + size ≤ address_limit
+at_target : (down : Bool) (at offset size : ℕ) → at + size ≤ top → cond down (nat_lt at offset) (nat_lt top (at + offset + size)) ≡ false → cond down (at - offset) (at + offset) + size ≤ top
 at_target true at offset size h inside = omega arith
 at_target false at offset size h inside = elim (cases_lt top (at + offset + size)) [
   | inl lt ↦ let t : nat_lt top (at + offset + size) ≡ true = lt-ltb top (at + offset + size) lt in cc
@@ -61,6 +60,7 @@ first_body : (at : ℕ) (f : Result (List ℕ) ImageFault) (r : Result (List (�
 first_body at (Ok body) r = refl
 first_body at (Err e) r = refl
 
-pub bodies_begin : (c : Content) (b : Block) (fill : Option ℕ) (number before : ℕ) (s : ℕ × ℕ) →
-    Begins (kept_bodies c b fill number before) s (with_start s.0 (filled number (kept_byte c b s.0 before) fill s.0 s.1)) (kept_bodies c b fill (number + 1) (before + s.1))
-bodies_begin c b fill number before s = λ rest. first_body s.0 (filled number (kept_byte c b s.0 before) fill s.0 s.1) (kept_bodies c b fill (number + 1) (before + s.1) rest)
+pub bodies_begin : (c : Content) (filters : List (ℕ × ℕ)) (fill : Option ℕ) (number before : ℕ) (s : ℕ × ℕ) →
+    Begins (bodies c filters fill number before) s (with_start s.0 (filled number (byte_of c filters s.0 before) fill s.0 s.1)) (bodies c filters fill (number + 1) (before + s.1))
+bodies_begin c filters fill number before s =
+    λ rest. first_body s.0 (filled number (byte_of c filters s.0 before) fill s.0 s.1) (bodies c filters fill (number + 1) (before + s.1) rest)

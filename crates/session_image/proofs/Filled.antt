@@ -1,5 +1,5 @@
 -- The bytes of a range.
-use Rattle.std.proofs.Common.{◌≡◌, ◌∙◌, sym, refl, ap, zero, suc, ◌+◌, ◌<◌, ◌≤◌, inl, inr, ℕ, List, ◌∷◌, Option, Some, None, Result, Ok, Err, arith, replicate}
+use Rattle.std.proofs.Common.{◌≡◌, ◌∙◌, sym, refl, ap, zero, suc, ◌+◌, ◌<◌, ◌≤◌, inl, inr, ℕ, List, [], ◌∷◌, length, Option, Some, None, Result, Ok, Err, arith, replicate}
 use Rattle.std.proofs.lemmas.Bool.{cases_lt}
 use Rattle.std.specs.FinMap.{get}
 use Rattle.span_store.specs.ByteMap.{ByteMap}
@@ -17,34 +17,13 @@ filled_same number f g fill a (suc n) h =
     ap (λ o. with_byte number a (or_fill o fill) (filled number f fill (a + 1) n)) (h a (omega arith) (omega arith))
     ∙ ap (with_byte number a (or_fill (g a) fill)) (filled_same number f g fill (a + 1) n (λ b l u. h b (omega arith) (omega arith)))
 
--- ------ without a hole
-whole_one : (o : Option ℕ) (number a x : ℕ) (rest : Result (List ℕ) ImageFault) (xs : List ℕ) → (o ≡ None → ⊥) → rest ≡ Ok xs → with_byte number a (or_fill o None) rest ≡ Ok (or_byte o x ∷ xs)
-whole_one None number a x rest xs some ok = absurd (some refl)
-whole_one (Some y) number a x rest xs some ok = ap (λ r. r >>= λ ys. Ok (y ∷ ys)) ok
+-- ------ as many bytes as addresses
+length_one : (number a n : ℕ) (o : Option ℕ) (r : Result (List ℕ) ImageFault) (xs : List ℕ) → ((ys : List ℕ) → r ≡ Ok ys → length ys ≡ n) → with_byte number a o r ≡ Ok xs → length xs ≡ suc n
+length_one number a n None r xs rest e = cc
+length_one number a n (Some x) (Ok ys) xs rest e = let same : x ∷ ys ≡ xs = cc in sym (ap length same) ∙ ap suc (rest ys refl)
+length_one number a n (Some x) (Err f) xs rest e = cc
 
-pub filled_whole : (number : ℕ) (m : ByteMap) (a n x : ℕ) → IsLowest (IsHole m a n) None → filled number (get m) None a n ≡ Ok (laid (get m) a (replicate n x))
-filled_whole number m a zero x h = refl
-filled_whole number m a (suc n) x h =
-    whole_one (get m a) number a x (filled number (get m) None (a + 1) n) (laid (get m) (a + 1) (replicate n x))
-    (λ e. h a (omega arith, omega arith, e))
-    (filled_whole number m (a + 1) n x (λ b w. let l : a + 1 ≤ b = w.0 in let u : b < a + 1 + n = w.1 in h b (omega arith, omega arith, w.2)))
-
--- ------ with one
-hole_one : (o : Option ℕ) (number a : ℕ) (rest : Result (List ℕ) ImageFault) (low : ℕ) → (o ≡ None → low ≡ a) → ((o ≡ None → ⊥) → rest ≡ Err (Hole number low)) → with_byte number a (or_fill o None) rest ≡ Err (Hole number low)
-hole_one None number a rest low here later = ap (λ b. Err (Hole number b)) (sym (here refl))
-hole_one (Some y) number a rest low here later = ap (λ r. r >>= λ ys. Ok (y ∷ ys)) (later (λ e. cc))
-
-pub filled_hole : (number : ℕ) (m : ByteMap) (a n low : ℕ) → IsLowest (IsHole m a n) (Some low) → filled number (get m) None a n ≡ Err (Hole number low)
-filled_hole number m a zero low h = let l : a ≤ low = h.0.0 in let u : low < a + 0 = h.0.1 in absurd (omega arith)
-filled_hole number m a (suc n) low h =
-    let l : a ≤ low = h.0.0 in
-    let u : low < a + suc n = h.0.1 in
-    hole_one (get m a) number a (filled number (get m) None (a + 1) n) low
-    (λ e. elim (cases_lt a low) [
-      | inl lt ↦ absurd (h.1 a lt (omega arith, omega arith, e))
-      | inr ge ↦ omega arith
-    ])
-    (λ some. elim (cases_lt a low) [
-      | inl lt ↦ filled_hole number m (a + 1) n low ((omega arith, omega arith, h.0.2), λ b below w. let l' : a + 1 ≤ b = w.0 in let u' : b < a + 1 + n = w.1 in h.1 b below (omega arith, omega arith, w.2))
-      | inr ge ↦ let same : low ≡ a = omega arith in absurd (some (ap (get m) (sym same) ∙ h.0.2))
-    ])
+pub filled_length : (number : ℕ) (look : ℕ → Option ℕ) (fill : Option ℕ) (a n : ℕ) (xs : List ℕ) → filled number look fill a n ≡ Ok xs → length xs ≡ n
+filled_length number look fill a zero xs e = let none : [] ≡ xs = cc in sym (ap length none)
+filled_length number look fill a (suc n) xs e =
+    length_one number a n (or_fill (look a) fill) (filled number look fill (a + 1) n) xs (λ ys. filled_length number look fill (a + 1) n ys) e

@@ -135,3 +135,14 @@ laid_step look a n g k o mid out new fits was none many holds is =
     ∙ sym (append_assoc (f ++ take g rest) mid (drop r o))
     ∙ ap (λ l. l ++ drop r o) (append_assoc f (take g rest) mid)
     ∙ ap (λ l. l ++ drop r o) (sym whole)
+
+-- ------ a range in parts
+pub check_parts : (ps : List Piece) (fill : Option ℕ) (a m n : ℕ) → check_bytes ps fill a (m + n) ≡ check_bytes ps fill a m ++ check_bytes ps fill (a + m) n
+check_parts ps fill a zero n =
+    let z : 0 + n ≡ n = omega arith in
+    let y : a ≡ a + 0 = omega arith in
+    ap (check_bytes ps fill a) z ∙ ap (λ k. check_bytes ps fill k n) y
+check_parts ps fill a (suc m) n =
+    let s : suc m + n ≡ suc (m + n) = omega arith in
+    let at : a + 1 + m ≡ a + suc m = omega arith in
+    ap (check_bytes ps fill a) s ∙ ap (λ l. check_byte ps fill a ∷ l) (check_parts ps fill (a + 1) m n ∙ ap (λ k. check_bytes ps fill (a + 1) m ++ check_bytes ps fill k n) at)

@@ -1,7 +1,7 @@
 pub mod Among
 pub mod Apart
 pub mod Begins
-pub mod Dropped
+pub mod Chosen
 pub mod Filled
 pub mod Joins
 pub mod Laid
@@ -15,6 +15,7 @@ pub mod Replies
 pub mod Retained
 pub mod Shared
 pub mod Sizes
+pub mod Stretches
 pub mod Usable
 pub mod Values
 pub mod Wanted

@@ -8,55 +8,54 @@ use Rattle.ecu_mem.specs.declared.types.Block.{Block}
 use Rattle.ecu_mem.specs.declared.types.EcuMem.{EcuMem}
 use Rattle.session_image.specs.Content.{content}
 use Rattle.session_image.specs.Files.{flash_of}
-use Rattle.session_image.specs.Kept.{HasRoom, dropped, kept_ranges, kept_bodies, kept_pieces}
-use Rattle.session_image.specs.Pieces.{◌>>=◌, size_limit, total, has_its_size, some_ranges, moved, block_pieces}
+use Rattle.session_image.specs.Kept.{HasRoom}
+use Rattle.session_image.specs.Pieces.{◌>>=◌, size_limit, total, ranges, bodies, has_its_size, some_ranges, moved, own_pieces, block_pieces}
 use Rattle.session_image.specs.declared.content.Content.{Content}
 use Rattle.session_image.specs.declared.content.Content.TheVariants.{Mapped, Plain}
 use Rattle.session_image.specs.declared.pieces.Piece.{Piece}
 use Rattle.session_image.specs.declared.types.ImageFault.{ImageFault}
 use Rattle.session_image.specs.declared.types.ImageFault.TheVariants.{NoSegment, TooLarge, BinarySize}
-use Rattle.session_image.proofs.Dropped.{block_same}
 
 -- the rest once the size is known to fit
 abbrev pub sized_pieces : Option ℕ → ℕ → Block → Content → List (ℕ × ℕ) → Result (List Piece) ImageFault
-sized_pieces fill number b c rs = has_its_size c b (total rs) >>= λ c. kept_bodies c b fill number 0 rs >>= moved b number
+sized_pieces fill number b c rs = has_its_size c b (total rs) >>= λ c. bodies c b.filters fill number 0 rs >>= moved b number
 
 abbrev pub range_pieces : Option ℕ → ℕ → ℕ → Block → Content → List (ℕ × ℕ) → Result (List Piece) ImageFault
 range_pieces fill number size b c rs = cond (nat_lt size_limit (size + total rs)) (Err TooLarge) (sized_pieces fill number b c rs)
 
-pub no_range : (fill : Option ℕ) (number size : ℕ) (b : Block) (c : Content) → kept_ranges c b ≡ [] → kept_pieces fill number size b c ≡ Err (NoSegment b.id)
+pub no_range : (fill : Option ℕ) (number size : ℕ) (b : Block) (c : Content) → ranges c b ≡ [] → own_pieces fill number size b c ≡ Err (NoSegment b.id)
 no_range fill number size b c is = ap (λ rs. some_ranges b rs >>= range_pieces fill number size b c) is
 
 some_range : (b : Block) (rs : List (ℕ × ℕ)) (f : List (ℕ × ℕ) → Result (List Piece) ImageFault) → 1 ≤ length rs → (some_ranges b rs >>= f) ≡ f rs
 some_range b [] f h = absurd (omega arith)
 some_range b (r ∷ rs) f h = refl
 
-ranged : (fill : Option ℕ) (number size : ℕ) (b : Block) (c : Content) (rs : List (ℕ × ℕ)) → rs ≡ kept_ranges c b → 1 ≤ length rs → kept_pieces fill number size b c ≡ range_pieces fill number size b c rs
+ranged : (fill : Option ℕ) (number size : ℕ) (b : Block) (c : Content) (rs : List (ℕ × ℕ)) → rs ≡ ranges c b → 1 ≤ length rs → own_pieces fill number size b c ≡ range_pieces fill number size b c rs
 ranged fill number size b c rs is some = ap (λ l. some_ranges b l >>= range_pieces fill number size b c) (sym is) ∙ some_range b rs (range_pieces fill number size b c) some
 
-pub too_large : (fill : Option ℕ) (number size : ℕ) (b : Block) (c : Content) (rs : List (ℕ × ℕ)) → rs ≡ kept_ranges c b → 1 ≤ length rs → size_limit < size + total rs → kept_pieces fill number size b c ≡ Err TooLarge
+pub too_large : (fill : Option ℕ) (number size : ℕ) (b : Block) (c : Content) (rs : List (ℕ × ℕ)) → rs ≡ ranges c b → 1 ≤ length rs → size_limit < size + total rs → own_pieces fill number size b c ≡ Err TooLarge
 too_large fill number size b c rs is some over =
     ranged fill number size b c rs is some ∙ ap (λ t. cond t (Err TooLarge) (sized_pieces fill number b c rs)) (lt-ltb size_limit (size + total rs) over)
 
-fitting : (fill : Option ℕ) (number size : ℕ) (b : Block) (c : Content) (rs : List (ℕ × ℕ)) → rs ≡ kept_ranges c b → 1 ≤ length rs → size + total rs ≤ size_limit → kept_pieces fill number size b c ≡ sized_pieces fill number b c rs
+fitting : (fill : Option ℕ) (number size : ℕ) (b : Block) (c : Content) (rs : List (ℕ × ℕ)) → rs ≡ ranges c b → 1 ≤ length rs → size + total rs ≤ size_limit → own_pieces fill number size b c ≡ sized_pieces fill number b c rs
 fitting fill number size b c rs is some fits =
     ranged fill number size b c rs is some ∙ ap (λ t. cond t (Err TooLarge) (sized_pieces fill number b c rs)) (le-ltb size_limit (size + total rs) fits)
 
-pub other_size : (fill : Option ℕ) (number size : ℕ) (b : Block) (c : Content) (rs : List (ℕ × ℕ)) (e : ImageFault) → rs ≡ kept_ranges c b → 1 ≤ length rs → size + total rs ≤ size_limit
-    → has_its_size c b (total rs) ≡ Err e → kept_pieces fill number size b c ≡ Err e
-other_size fill number size b c rs e is some fits err = fitting fill number size b c rs is some fits ∙ ap (λ r. r >>= λ c. kept_bodies c b fill number 0 rs >>= moved b number) err
+pub other_size : (fill : Option ℕ) (number size : ℕ) (b : Block) (c : Content) (rs : List (ℕ × ℕ)) (e : ImageFault) → rs ≡ ranges c b → 1 ≤ length rs → size + total rs ≤ size_limit
+    → has_its_size c b (total rs) ≡ Err e → own_pieces fill number size b c ≡ Err e
+other_size fill number size b c rs e is some fits err = fitting fill number size b c rs is some fits ∙ ap (λ r. r >>= λ c. bodies c b.filters fill number 0 rs >>= moved b number) err
 
-sized : (fill : Option ℕ) (number size : ℕ) (b : Block) (c d : Content) (rs : List (ℕ × ℕ)) → rs ≡ kept_ranges c b → 1 ≤ length rs → size + total rs ≤ size_limit
-    → has_its_size c b (total rs) ≡ Ok d → kept_pieces fill number size b c ≡ (kept_bodies d b fill number 0 rs >>= moved b number)
-sized fill number size b c d rs is some fits ok = fitting fill number size b c rs is some fits ∙ ap (λ r. r >>= λ c. kept_bodies c b fill number 0 rs >>= moved b number) ok
+sized : (fill : Option ℕ) (number size : ℕ) (b : Block) (c d : Content) (rs : List (ℕ × ℕ)) → rs ≡ ranges c b → 1 ≤ length rs → size + total rs ≤ size_limit
+    → has_its_size c b (total rs) ≡ Ok d → own_pieces fill number size b c ≡ (bodies d b.filters fill number 0 rs >>= moved b number)
+sized fill number size b c d rs is some fits ok = fitting fill number size b c rs is some fits ∙ ap (λ r. r >>= λ c. bodies c b.filters fill number 0 rs >>= moved b number) ok
 
-pub no_body : (fill : Option ℕ) (number size : ℕ) (b : Block) (c d : Content) (rs : List (ℕ × ℕ)) (e : ImageFault) → rs ≡ kept_ranges c b → 1 ≤ length rs → size + total rs ≤ size_limit
-    → has_its_size c b (total rs) ≡ Ok d → kept_bodies d b fill number 0 rs ≡ Err e → kept_pieces fill number size b c ≡ Err e
+pub no_body : (fill : Option ℕ) (number size : ℕ) (b : Block) (c d : Content) (rs : List (ℕ × ℕ)) (e : ImageFault) → rs ≡ ranges c b → 1 ≤ length rs → size + total rs ≤ size_limit
+    → has_its_size c b (total rs) ≡ Ok d → bodies d b.filters fill number 0 rs ≡ Err e → own_pieces fill number size b c ≡ Err e
 no_body fill number size b c d rs e is some fits ok err = sized fill number size b c d rs is some fits ok ∙ ap (λ r. r >>= moved b number) err
 
-pub all_bodies : (fill : Option ℕ) (number size : ℕ) (b : Block) (c d : Content) (rs : List (ℕ × ℕ)) (bs : List (ℕ × List ℕ)) → rs ≡ kept_ranges c b → 1 ≤ length rs → size + total rs ≤ size_limit
-    → has_its_size c b (total rs) ≡ Ok d → kept_bodies d b fill number 0 rs ≡ Ok bs → kept_pieces fill number size b c ≡ moved b number bs
-all_bodies fill number size b c d rs bs is some fits ok bodies = sized fill number size b c d rs is some fits ok ∙ ap (λ r. r >>= moved b number) bodies
+pub all_bodies : (fill : Option ℕ) (number size : ℕ) (b : Block) (c d : Content) (rs : List (ℕ × ℕ)) (made : List (ℕ × List ℕ)) → rs ≡ ranges c b → 1 ≤ length rs → size + total rs ≤ size_limit
+    → has_its_size c b (total rs) ≡ Ok d → bodies d b.filters fill number 0 rs ≡ Ok made → own_pieces fill number size b c ≡ moved b number made
+all_bodies fill number size b c d rs made is some fits ok all = sized fill number size b c d rs is some fits ok ∙ ap (λ r. r >>= moved b number) all
 
 -- ------ plain bytes of the right number
 room_if : (t : Bool) (c d : Content) (e : ImageFault) (n : ℕ) → cond t (Ok c) (Err e) ≡ Ok d → (t ≡ true → HasRoom c n) → HasRoom d n
@@ -82,9 +81,8 @@ some_total (r ∷ rs) some within = let one : 1 ≤ r.1 = within.0.0 in omega ar
 -- ------ with its data
 pub of_content : (m : EcuMem) (files : List (List ℕ × List ℕ)) (fill : Option ℕ) (number size : ℕ) (b : Block) (e : ImageFault) →
     content files (flash_of m b) ≡ Err e → block_pieces m files fill number size b ≡ Err e
-of_content m files fill number size b e err = sym (block_same m files fill number size b) ∙ ap (λ r. r >>= λ c. kept_pieces fill number size b (dropped c b)) err
+of_content m files fill number size b e err = ap (λ r. r >>= own_pieces fill number size b) err
 
-pub of_block : (m : EcuMem) (files : List (List ℕ × List ℕ)) (fill : Option ℕ) (number size : ℕ) (b : Block) (c d : Content) →
-    content files (flash_of m b) ≡ Ok c → d ≡ dropped c b → block_pieces m files fill number size b ≡ kept_pieces fill number size b d
-of_block m files fill number size b c d ok is =
-    sym (block_same m files fill number size b) ∙ ap (λ r. r >>= λ c. kept_pieces fill number size b (dropped c b)) ok ∙ ap (kept_pieces fill number size b) (sym is)
+pub of_block : (m : EcuMem) (files : List (List ℕ × List ℕ)) (fill : Option ℕ) (number size : ℕ) (b : Block) (c : Content) →
+    content files (flash_of m b) ≡ Ok c → block_pieces m files fill number size b ≡ own_pieces fill number size b c
+of_block m files fill number size b c ok = ap (λ r. r >>= own_pieces fill number size b) ok

@@ -16,7 +16,7 @@ use Rattle.text_forms.specs.Bytes.{bytes_text}
 use Rattle.session_image.specs.Checks.{check_bytes, value_by, compared, checked, all_checked}
 use Rattle.session_image.specs.Content.{text_of, mapped, decoded, binary, read_as, content}
 use Rattle.session_image.specs.Files.{flash_of}
-use Rattle.session_image.specs.Pieces.{◌>>=◌, size_limit, ranges, total, with_byte, or_fill, filled, byte_of, bodies, is_outside, moved, has_its_size, some_ranges, block_pieces, size_of, all_pieces, session_pieces}
+use Rattle.session_image.specs.Pieces.{◌>>=◌, size_limit, ranges, total, with_byte, or_fill, filled, byte_of, bodies, is_outside, moved, has_its_size, some_ranges, block_pieces, own_pieces, size_of, all_pieces, session_pieces}
 use Rattle.session_image.specs.declared.content.Content.{Content}
 use Rattle.session_image.specs.declared.content.Content.TheVariants.{Mapped, Plain}
 use Rattle.session_image.specs.declared.pieces.Piece.{Piece}
@@ -69,12 +69,12 @@ filled_own : (number : ℕ) (look : ℕ → Option ℕ) (fill : Option ℕ) (a n
 filled_own number look fill a zero = tt
 filled_own number look fill a (suc n) = byte_own number a (or_fill (look a) fill) (filled number look fill (a + 1) n) (filled_own number look fill (a + 1) n)
 
-bodies_own : (c : Content) (b : Block) (fill : Option ℕ) (number before : ℕ) (rs : List (ℕ × ℕ)) → OnlyOwn (bodies c b fill number before rs)
-bodies_own c b fill number before [] = tt
-bodies_own c b fill number before (r ∷ rs) =
-    then_own (filled number (byte_of c b r.0 before) fill r.0 r.1) (λ body. bodies c b fill (number + 1) (before + r.1) rs >>= λ rest. Ok ((r.0, body) ∷ rest))
-    (filled_own number (byte_of c b r.0 before) fill r.0 r.1)
-    (λ body. then_own (bodies c b fill (number + 1) (before + r.1) rs) (λ rest. Ok ((r.0, body) ∷ rest)) (bodies_own c b fill (number + 1) (before + r.1) rs) (λ rest. tt))
+bodies_own : (c : Content) (fs : List (ℕ × ℕ)) (fill : Option ℕ) (number before : ℕ) (rs : List (ℕ × ℕ)) → OnlyOwn (bodies c fs fill number before rs)
+bodies_own c fs fill number before [] = tt
+bodies_own c fs fill number before (r ∷ rs) =
+    then_own (filled number (byte_of c fs r.0 before) fill r.0 r.1) (λ body. bodies c fs fill (number + 1) (before + r.1) rs >>= λ rest. Ok ((r.0, body) ∷ rest))
+    (filled_own number (byte_of c fs r.0 before) fill r.0 r.1)
+    (λ body. then_own (bodies c fs fill (number + 1) (before + r.1) rs) (λ rest. Ok ((r.0, body) ∷ rest)) (bodies_own c fs fill (number + 1) (before + r.1) rs) (λ rest. tt))
 
 moved_own : (b : Block) (number : ℕ) (ss : List (ℕ × List ℕ)) → OnlyOwn (moved b number ss)
 moved_own b number [] = tt
@@ -88,12 +88,14 @@ some_own : (b : Block) (rs : List (ℕ × ℕ)) → OnlyOwn (some_ranges b rs)
 some_own b [] = tt
 some_own b (r ∷ rs) = tt
 
-block_own : (m : EcuMem) (files : List (List ℕ × List ℕ)) (fill : Option ℕ) (number size : ℕ) (b : Block) → OnlyOwn (block_pieces m files fill number size b)
-block_own m files fill number size b =
-    then_own (content files (flash_of m b)) _ (content_own files (flash_of m b)) (λ c.
+own_own : (fill : Option ℕ) (number size : ℕ) (b : Block) (c : Content) → OnlyOwn (own_pieces fill number size b c)
+own_own fill number size b c =
     then_own (some_ranges b (ranges c b)) _ (some_own b (ranges c b)) (λ rs.
     either_own (nat_lt size_limit (size + total rs)) _ _ tt
-    (then_own (has_its_size c b (total rs)) _ (size_own c b (total rs)) (λ c. then_own (bodies c b fill number 0 rs) (moved b number) (bodies_own c b fill number 0 rs) (moved_own b number)))))
+    (then_own (has_its_size c b (total rs)) _ (size_own c b (total rs)) (λ c. then_own (bodies c b.filters fill number 0 rs) (moved b number) (bodies_own c b.filters fill number 0 rs) (moved_own b number))))
+
+block_own : (m : EcuMem) (files : List (List ℕ × List ℕ)) (fill : Option ℕ) (number size : ℕ) (b : Block) → OnlyOwn (block_pieces m files fill number size b)
+block_own m files fill number size b = then_own (content files (flash_of m b)) (own_pieces fill number size b) (content_own files (flash_of m b)) (own_own fill number size b)
 
 all_own : (m : EcuMem) (files : List (List ℕ × List ℕ)) (fill : Option ℕ) (number size : ℕ) (bs : List Block) → OnlyOwn (all_pieces m files fill number size bs)
 all_own m files fill number size [] = tt

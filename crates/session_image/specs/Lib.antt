@@ -2,7 +2,10 @@ pub mod Algorithms
 pub mod Checks
 pub mod Content
 pub mod Files
+pub mod Filling
+pub mod Filtering
 pub mod Images
+pub mod Keeping
 pub mod Kept
 pub mod Pieces
 pub mod Targets

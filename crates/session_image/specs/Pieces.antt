@@ -38,13 +38,13 @@ total [] = 0
 total (r ∷ rs) = r.1 + total rs
 
 -- ------ their bytes
-abbrev pub if_kept : Block → ℕ → Option ℕ → Option ℕ
-if_kept b a o = if is_kept b.filters a then o else None
+abbrev pub if_kept : List (ℕ × ℕ) → ℕ → Option ℕ → Option ℕ
+if_kept filters a o = if is_kept filters a then o else None
 
 -- the byte at a source address of a segment that begins at `at`, before whose bytes so many stand in the data
-abbrev pub byte_of : Content → Block → ℕ → ℕ → ℕ → Option ℕ
-byte_of (Mapped m) b at before a = if_kept b a (get m a)
-byte_of (Plain bytes) b at before a = if_kept b a (slice_get bytes (before + (a - at)))
+abbrev pub byte_of : Content → List (ℕ × ℕ) → ℕ → ℕ → ℕ → Option ℕ
+byte_of (Mapped m) filters at before a = if_kept filters a (get m a)
+byte_of (Plain bytes) filters at before a = if_kept filters a (slice_get bytes (before + (a - at)))
 
 abbrev pub or_fill : Option ℕ → Option ℕ → Option ℕ
 or_fill (Some x) fill = Some x
@@ -60,10 +60,10 @@ filled number look fill a zero = Ok []
 filled number look fill a (suc n) = with_byte number a (or_fill (look a) fill) (filled number look fill (a + 1) n)
 
 -- the ranges with their bytes; the first is segment `number`, and so many bytes of the data stand before it
-abbrev pub bodies : Content → Block → Option ℕ → ℕ → ℕ → List (ℕ × ℕ) → Result (List (ℕ × List ℕ)) ImageFault
-bodies c b fill number before [] = Ok []
-bodies c b fill number before (r ∷ rs) =
-    filled number (byte_of c b r.0 before) fill r.0 r.1 >>= λ body. bodies c b fill (number + 1) (before + r.1) rs >>= λ rest. Ok ((r.0, body) ∷ rest)
+abbrev pub bodies : Content → List (ℕ × ℕ) → Option ℕ → ℕ → ℕ → List (ℕ × ℕ) → Result (List (ℕ × List ℕ)) ImageFault
+bodies c filters fill number before [] = Ok []
+bodies c filters fill number before (r ∷ rs) =
+    filled number (byte_of c filters r.0 before) fill r.0 r.1 >>= λ body. bodies c filters fill (number + 1) (before + r.1) rs >>= λ rest. Ok ((r.0, body) ∷ rest)
 
 -- ------ where they go
 abbrev pub is_outside : Block → ℕ → ℕ → Bool
@@ -88,13 +88,16 @@ abbrev pub some_ranges : Block → List (ℕ × ℕ) → Result (List (ℕ × �
 some_ranges b [] = Err (NoSegment b.id)
 some_ranges b (r ∷ rs) = Ok (r ∷ rs)
 
--- its segments; so many segments and bytes of the session stand before them
-abbrev pub block_pieces : EcuMem → List (List ℕ × List ℕ) → Option ℕ → ℕ → ℕ → Block → Result (List Piece) ImageFault
-block_pieces m files fill number size b =
-    content files (flash_of m b) >>= λ c.
+-- its segments, from its data; so many segments and bytes of the session stand before them
+abbrev pub own_pieces : Option ℕ → ℕ → ℕ → Block → Content → Result (List Piece) ImageFault
+own_pieces fill number size b c =
     some_ranges b (ranges c b) >>= λ rs.
     if nat_lt size_limit (size + total rs) then Err TooLarge
-    else has_its_size c b (total rs) >>= λ c. bodies c b fill number 0 rs >>= moved b number
+    else has_its_size c b (total rs) >>= λ c. bodies c b.filters fill number 0 rs >>= moved b number
+
+-- its segments
+abbrev pub block_pieces : EcuMem → List (List ℕ × List ℕ) → Option ℕ → ℕ → ℕ → Block → Result (List Piece) ImageFault
+block_pieces m files fill number size b = content files (flash_of m b) >>= own_pieces fill number size b
 
 abbrev pub size_of : List Piece → ℕ
 size_of [] = 0

@@ -1,14 +1,13 @@
 //! The checksums of a session.
-ghost use Rattle.std.specs.Prelude.{◌≡◌, ◌⊎◌, ℕ, ◌≤◌, ◌<◌, ◌+◌, ◌%◌, Err, IfOk, Some, sum, length, replicate};
+ghost use Rattle.std.specs.Prelude.{◌≡◌, ◌⊎◌, ℕ, ◌≤◌, ◌<◌, ◌+◌, ◌-◌, ◌%◌, ◌++◌, Err, IfOk, Some, sum, length, min, take, drop, replicate};
 ghost use Rattle.ecu_mem.specs.Bounds.{IsCheck};
-ghost use Rattle.ecu_mem.specs.Values.{address_limit};
 ghost use Rattle.flash_base.specs.Lists.{Each};
+ghost use Rattle.span_store.specs.ByteMap.{top};
 ghost use Rattle.session_image.specs.Algorithms.{known, value_of};
 ghost use Rattle.session_image.specs.Checks.{or_byte, compared, check_bytes, checked, all_checked};
 ghost use Rattle.session_image.specs.Kept.{IsPlaced, byte_in, laid};
 ghost use Rattle.session_image.specs.Pieces.{size_limit};
 
-use crate::filling::copied;
 use crate::pieces::{Piece, SIZE_LIMIT};
 use crate::types::{Checked, ImageFault};
 use ecu_mem::Check;
@@ -16,10 +15,21 @@ use flash_base::{Bytes, Items, NoMemory, Text};
 use sha2::{Digest, Sha256};
 use std::alloc::Global;
 
+/// Copies bytes to a place, as many as go there, and answers the place behind them.
+fn copied(out: &mut [u8], at: usize, bytes: &[u8]) -> usize
+    requires { at ≤ length out.old }
+    ensures place { result ≡ at + min (length bytes.now) (length out.old - at) }
+    ensures copied { out.new ≡ take at out.old ++ (take (result - at) bytes.now ++ drop result out.old) }
+{
+    let n = bytes.len().min(out.len() - at);
+    out[at..at + n].copy_from_slice(&bytes[..n]);
+    at + n
+}
+
 /// Copies those of the bytes from an address on that lie in the range of `out`, which begins at another.
 fn lay_over(out: &mut [u8], from: u64, at: u64, bytes: &[u8])
-    requires range { from + length out.old ≤ address_limit }
-    requires bytes { at + length bytes.now ≤ address_limit }
+    requires range { from + length out.old ≤ top }
+    requires bytes { at + length bytes.now ≤ top }
     ensures { out.new ≡ laid (byte_in at bytes.now) from out.old }
 {
     let first = at.max(from);
@@ -58,7 +68,7 @@ fn check_bytes(
     size: u64,
 ) -> Result<Vec<u8>, NoMemory>
     requires pieces { Each IsPlaced pieces.now }
-    requires range { from + size ≤ address_limit }
+    requires range { from + size ≤ top }
     ensures { IfOk result (λ v. v.items ≡ check_bytes pieces.now fill from size) }
 {
     let mut out = blank(alloc, fill, size)?;
@@ -71,15 +81,20 @@ fn check_bytes(
     Ok(out)
 }
 
-/// The sum of all bytes modulo 65,536.
-fn sum_of(bytes: &[u8]) -> u16
-    ensures { result ≡ sum bytes.now % 65536 }
+/// So many bytes are summed at a time, and for each segment so many more.
+const PART: u64 = 65_536;
+
+const PART_EACH: u64 = 64;
+
+/// A sum of bytes modulo 65,536, with more bytes.
+fn sum_with(before: u16, bytes: &[u8]) -> u16
+    ensures { result ≡ (before + sum bytes.now) % 65536 }
 {
-    let mut sum = 0u16;
+    let mut all = before;
     for byte in bytes {
-        sum = sum.wrapping_add(u16::from(*byte));
+        all = all.wrapping_add(u16::from(*byte));
     }
-    sum
+    all
 }
 
 /// An algorithm that is known here.
@@ -101,16 +116,79 @@ fn known(name: &Text) -> Option<Algorithm>
     None
 }
 
-/// The value of some bytes.
-fn value(alloc: Global, algorithm: Algorithm, bytes: &[u8]) -> Result<Bytes, NoMemory>
-    ensures { IfOk result (λ v. v ≡ value_of algorithm bytes.now) }
+/// How many bytes of a range are summed at a time. The more segments there are, the more bytes, so that looking
+/// through the segments takes no more time than the bytes do.
+fn part_size(pieces: &[Piece]) -> u64
+    ensures { 0 < result }
+{
+    PART_EACH
+        .saturating_mul(pieces.len() as u64)
+        .saturating_add(PART)
+}
+
+/// The SHA-256 of a range.
+fn hash_of(
+    alloc: Global,
+    pieces: &[Piece],
+    fill: Option<u8>,
+    from: u64,
+    size: u64,
+) -> Result<Bytes, NoMemory>
+    requires pieces { Each IsPlaced pieces.now }
+    requires range { from + size ≤ top }
+    ensures { IfOk result (λ v. v ≡ value_of Algorithm.Sha256 (check_bytes pieces.now fill from size)) }
+{
+    let step = part_size(pieces);
+    let mut hasher = Sha256::new();
+    let mut done = 0;
+    while done < size {
+        let n = step.min(size - done);
+        let part = check_bytes(alloc, pieces, fill, from + done, n)?;
+        hasher.update(part.as_slice());
+        done += n;
+    }
+    let digest = hasher.finalize();
+    Bytes::from_slice(alloc, &digest)
+}
+
+/// The sum of a range.
+fn sum_of(
+    alloc: Global,
+    pieces: &[Piece],
+    fill: Option<u8>,
+    from: u64,
+    size: u64,
+) -> Result<Bytes, NoMemory>
+    requires pieces { Each IsPlaced pieces.now }
+    requires range { from + size ≤ top }
+    ensures { IfOk result (λ v. v ≡ value_of Algorithm.Sum16 (check_bytes pieces.now fill from size)) }
+{
+    let step = part_size(pieces);
+    let mut all = 0;
+    let mut done = 0;
+    while done < size {
+        let n = step.min(size - done);
+        let part = check_bytes(alloc, pieces, fill, from + done, n)?;
+        all = sum_with(all, part.as_slice());
+        done += n;
+    }
+    Bytes::from_slice(alloc, &all.to_be_bytes())
+}
+
+/// The value of the bytes of a range.
+fn value(
+    alloc: Global,
+    algorithm: Algorithm,
+    pieces: &[Piece],
+    check: &Check,
+) -> Result<Bytes, NoMemory>
+    requires pieces { Each IsPlaced pieces.now }
+    requires check { IsCheck check.now }
+    ensures { IfOk result (λ v. v ≡ value_of algorithm (check_bytes pieces.now check.now.fill check.now.from check.now.size)) }
 {
     match algorithm {
-        Algorithm::Sha256 => {
-            let digest = Sha256::digest(bytes);
-            Bytes::from_slice(alloc, &digest)
-        }
-        Algorithm::Sum16 => Bytes::from_slice(alloc, &sum_of(bytes).to_be_bytes()),
+        Algorithm::Sha256 => hash_of(alloc, pieces, check.fill, check.from, check.size),
+        Algorithm::Sum16 => sum_of(alloc, pieces, check.fill, check.from, check.size),
     }
 }
 
@@ -139,8 +217,7 @@ fn checked(alloc: Global, pieces: &[Piece], check: &Check) -> Result<Checked, Im
         let name = Text::from_str(alloc, check.name.as_str())?;
         return Ok(Checked { name, done: false });
     };
-    let bytes = check_bytes(alloc, pieces, check.fill, check.from, check.size)?;
-    compared(alloc, check, value(alloc, algorithm, bytes.as_slice())?)
+    compared(alloc, check, value(alloc, algorithm, pieces, check)?)
 }
 
 /// All checksums, in order; the first that differs is refused.

@@ -1,164 +1,179 @@
 //! The bytes of one segment.
-ghost use Rattle.std.specs.Prelude.{◌≡◌, ◌⊎◌, ℕ, ◌+◌, ◌-◌, ◌<◌, ◌≤◌, length, min, slice_get, take, drop, replicate, ◌++◌, Err, Ok, Some, None, IfOk, if◌then◌else◌};
+ghost use Rattle.std.specs.Prelude.{◌≡◌, ◌⊎◌, ℕ, ◌+◌, ◌-◌, ◌^◌, ◌<◌, ◌≤◌, ◌++◌, [], length, replicate, List, Option, None, Err, Ok, false, IfOk, IfErr, IfNone, IfSome, OnOk};
 ghost use Rattle.std.specs.FinMap.{get};
-ghost use Rattle.std.specs.FinMap as map;
-ghost use Rattle.flash_base.specs.Lists.{Each};
-ghost use Rattle.ecu_mem.specs.Bounds.{IsRange};
-ghost use Rattle.span_store.specs.ByteMap.{over, top};
-ghost use Rattle.session_image.specs.Kept.{HasRoom, kept_byte, laid};
-ghost use Rattle.session_image.specs.Content.{is_kept};
-ghost use Rattle.session_image.specs.Pieces.{filled};
+ghost use Rattle.span_store.specs.ByteMap.{top};
+ghost use Rattle.session_image.specs.Filling.{gap};
+ghost use Rattle.session_image.specs.Keeping.{IsReady, left_of};
+ghost use Rattle.session_image.specs.Kept.{HasRoom};
+ghost use Rattle.session_image.specs.Pieces.{byte_of, filled};
 
 use crate::content::Content;
-use crate::filters::kept;
+use crate::filters::Filters;
+use crate::keeping::Kept;
 use crate::types::ImageFault;
-use ecu_mem::Block;
 use flash_base::{Bytes, NoMemory};
 use span_store::Spans;
 use std::alloc::Global;
 
-/// Copies bytes to a place, as many as go there, and answers the place behind them.
-pub(crate) fn copied(out: &mut [u8], at: usize, bytes: &[u8]) -> usize
-    requires { at ≤ length out.old }
-    ensures place { result ≡ at + min (length bytes.now) (length out.old - at) }
-    ensures copied { out.new ≡ take at out.old ++ (take (result - at) bytes.now ++ drop result out.old) }
+/// No bytes yet, with room for so many.
+fn with_room(alloc: Global, size: u64) -> Result<Vec<u8>, NoMemory>
+    ensures { IfOk result (λ v. v.items ≡ []) }
 {
-    let n = bytes.len().min(out.len() - at);
-    out[at..at + n].copy_from_slice(&bytes[..n]);
-    at + n
+    Ok(Vec::with_capacity(alloc, size as usize)?)
 }
 
-/// Copies what a map has from an address on over `out`, and leaves the rest of it.
-fn lay(spans: &Spans, from: u64, out: &mut [u8])
-    requires { from + length out.old ≤ top }
-    ensures { out.new ≡ laid (get spans.now) from out.old }
+/// Puts bytes at the end.
+fn extend(out: &mut Vec<u8>, bytes: &[u8]) -> Result<(), NoMemory>
+    ensures { OnOk result (out.new.items ≡ out.old.items ++ bytes.now) }
 {
-    let stop = from + out.len() as u64;
-    let mut here = from;
-    while here < stop {
-        let Some((start, bytes)) = spans.piece(here) else {
-            return;
-        };
-        if stop <= start {
-            return;
-        }
-        here = from + copied(out, (start - from) as usize, bytes) as u64;
-    }
+    out.extend_from_slice(bytes)?;
+    Ok(())
 }
 
-/// The bytes of a range with a byte in the place of each that is not there.
-fn filled_up(
-    alloc: Global,
-    spans: &Spans,
+/// Puts one byte so many times at the end.
+fn repeat(out: &mut Vec<u8>, n: usize, byte: u8) -> Result<(), NoMemory>
+    requires { n < 2 ^ 63 }
+    ensures { OnOk result (out.new.items ≡ out.old.items ++ replicate n byte) }
+{
+    let size = out.len();
+    out.resize(size + n, byte)?;
+    Ok(())
+}
+
+/// Puts a fill byte for each address of a gap. Without one its first address is a hole.
+fn pad(
+    out: &mut Vec<u8>,
     from: u64,
-    size: u64,
-    fill: u8,
-) -> Result<Bytes, NoMemory>
-    requires { from + size ≤ top }
-    ensures { IfOk result (λ out. out ≡ laid (get spans.now) from (replicate size fill)) }
+    stop: u64,
+    fill: Option<u8>,
+    number: u32,
+) -> Result<(), ImageFault>
+    requires { stop < 2 ^ 63 }
+    ensures ok { IfOk result (λ _. (bytes : List ℕ) × (gap number from (stop - from) fill ≡ Ok bytes) × (out.new.items ≡ out.old.items ++ bytes)) }
+    ensures err { IfErr result (λ e. (e ≡ ImageFault.NoMemory) ⊎ (gap number from (stop - from) fill ≡ Err e)) }
 {
-    let mut out = vec![in alloc; fill; size as usize]?;
-    lay(spans, from, &mut out);
+    if stop <= from {
+        return Ok(());
+    }
+    let Some(byte) = fill else {
+        return Err(ImageFault::Hole {
+            segment: number,
+            at: from,
+        });
+    };
+    repeat(out, (stop - from) as usize, byte)?;
+    Ok(())
+}
+
+/// The bytes of a range, as the pieces of a walk have them, or its lowest hole.
+fn of_pieces(
+    alloc: Global,
+    pieces: &mut Kept<'_>,
+    range: (u64, u64),
+    fill: Option<u8>,
+    number: u32,
+) -> Result<Bytes, ImageFault>
+    requires ready { IsReady pieces.old }
+    requires within { range.0 + range.1 ≤ top }
+    requires low { (a : ℕ) → a < range.0 → get (left_of pieces.old) a ≡ None }
+    requires high { (a : ℕ) → range.0 + range.1 ≤ a → get (left_of pieces.old) a ≡ None }
+    ensures { (result ≡ Err ImageFault.NoMemory) ⊎ (result ≡ filled number (get (left_of pieces.old)) fill range.0 range.1) }
+{
+    let stop = range.0 + range.1;
+    let mut out = with_room(alloc, range.1)?;
+    let mut here = range.0;
+    while let Some((start, bytes)) = pieces.next() {
+        pad(&mut out, here, start, fill, number)?;
+        extend(&mut out, bytes)?;
+        here = start + bytes.len() as u64;
+    }
+    pad(&mut out, here, stop, fill, number)?;
     Ok(Bytes::from_vec(out))
 }
 
-/// The bytes of a range, which has to have each of them.
-fn whole(
-    alloc: Global,
-    spans: &Spans,
-    from: u64,
-    size: u64,
-    number: u32,
-) -> Result<Bytes, ImageFault>
-    requires { from + size ≤ top }
-    ensures length { IfOk result (λ out. length out ≡ size) }
-    ensures bytes { (result ≡ Err ImageFault.NoMemory) ⊎ (result ≡ filled number (get spans.now) None from size) }
-{
-    if let Some(at) = spans.hole_in(from, size) {
-        return Err(ImageFault::Hole {
-            segment: number,
-            at,
-        });
-    }
-    Ok(filled_up(alloc, spans, from, size, 0)?)
-}
-
-/// The bytes of a range of a map, or its lowest hole.
+/// The bytes of a range of a map, where filters keep its addresses.
 fn of_map(
     alloc: Global,
     spans: &Spans,
+    filters: &Filters<'_>,
     range: (u64, u64),
     fill: Option<u8>,
     number: u32,
 ) -> Result<Bytes, ImageFault>
     requires { range.0 + range.1 ≤ top }
-    ensures length { IfOk result (λ out. length out ≡ range.1) }
-    ensures bytes { (result ≡ Err ImageFault.NoMemory) ⊎ (result ≡ filled number (get spans.now) fill range.0 range.1) }
+    ensures { (result ≡ Err ImageFault.NoMemory) ⊎ (result ≡ filled number (byte_of (Content.Mapped spans.now) filters.now range.0 0) fill range.0 range.1) }
 {
-    match fill {
-        Some(fill) => Ok(filled_up(alloc, spans, range.0, range.1, fill)?),
-        None => whole(alloc, spans, range.0, range.1, number),
-    }
-}
-
-/// Bytes from an address on, as a map.
-fn map_at(alloc: Global, at: u64, bytes: &[u8]) -> Result<Spans, NoMemory>
-    requires { at + length bytes.now ≤ top }
-    ensures { IfOk result (λ s. s ≡ over map.empty at bytes.now) }
-{
-    let mut spans = Spans::new(alloc);
-    match spans.put(at, bytes) {
-        Ok(()) => Ok(spans),
-        Err(_) => Err(NoMemory),
-    }
+    let walk = spans.walk(range.0, range.1);
+    let mut pieces = Kept::new(filters, range.0, &[], walk);
+    of_pieces(alloc, &mut pieces, range, fill, number)
 }
 
 /// The bytes of a range that are given, where filters keep its addresses.
 fn of_bytes(
     alloc: Global,
     bytes: &[u8],
+    filters: &Filters<'_>,
     range: (u64, u64),
-    filters: &[(u64, u64)],
     fill: Option<u8>,
     number: u32,
 ) -> Result<Bytes, ImageFault>
     requires within { range.0 + range.1 ≤ top }
-    requires filters { Each IsRange filters.now }
     requires size { length bytes.now ≡ range.1 }
-    ensures length { IfOk result (λ out. length out ≡ range.1) }
-    ensures bytes { (result ≡ Err ImageFault.NoMemory) ⊎ (result ≡ filled number (λ a. if is_kept filters.now a then slice_get bytes.now (a - range.0) else None) fill range.0 range.1) }
+    ensures { (result ≡ Err ImageFault.NoMemory) ⊎ (result ≡ filled number (byte_of (Content.Plain bytes.now) filters.now range.0 0) fill range.0 range.1) }
 {
-    if filters.is_empty() {
-        return Ok(Bytes::from_slice(alloc, bytes)?);
-    }
-    let spans = kept(alloc, map_at(alloc, range.0, bytes)?, filters)?;
-    of_map(alloc, &spans, range, fill, number)
+    let none = Spans::new(alloc);
+    let mut pieces = Kept::new(filters, range.0, bytes, none.pieces());
+    of_pieces(alloc, &mut pieces, range, fill, number)
 }
 
-/// The bytes of one segment, or its lowest hole. So many bytes of the data stand before it.
+/// The bytes of a range, taken out of a map where that is allowed, no filter asks, and one extent has them.
+fn taken(
+    spans: &mut Spans,
+    filters: &Filters<'_>,
+    range: (u64, u64),
+    allowed: bool,
+) -> Option<Bytes>
+    ensures same { IfNone result (spans.new ≡ spans.old) }
+    ensures allowed { allowed ≡ false → result ≡ None }
+    ensures bytes { IfSome result (λ b. (number : ℕ) (fill : Option ℕ) → filled number (byte_of (Content.Mapped spans.old) filters.now range.0 0) fill range.0 range.1 ≡ Ok b) }
+{
+    if !allowed {
+        return None;
+    }
+    if !filters.is_empty() {
+        return None;
+    }
+    spans.take(range.0, range.1)
+}
+
+/// The bytes of one segment, or its lowest hole. So many bytes of the data stand before it. Those of the last
+/// segment are taken out of the data where one extent has them, since nothing asks for the data any more.
 pub(crate) fn body(
     alloc: Global,
-    content: &Content,
-    block: &Block,
+    content: &mut Content,
+    filters: &Filters<'_>,
     range: (u64, u64),
     before: u64,
     fill: Option<u8>,
     number: u32,
+    last: bool,
 ) -> Result<Bytes, ImageFault>
     requires within { range.0 + range.1 ≤ top }
-    requires filters { Each IsRange block.now.filters }
-    requires bytes { HasRoom content.now (before + range.1) }
-    ensures length { IfOk result (λ out. length out ≡ range.1) }
-    ensures bytes { (result ≡ Err ImageFault.NoMemory) ⊎ (result ≡ filled number (kept_byte content.now block.now range.0 before) fill range.0 range.1) }
+    requires bytes { HasRoom content.old (before + range.1) }
+    ensures bytes { (result ≡ Err ImageFault.NoMemory) ⊎ (result ≡ filled number (byte_of content.old filters.now range.0 before) fill range.0 range.1) }
+    ensures same { last ≡ false → content.new ≡ content.old }
 {
     match content {
-        Content::Mapped(spans) => of_map(alloc, spans, range, fill, number),
+        Content::Mapped(spans) => {
+            if let Some(bytes) = taken(spans, filters, range, last) {
+                return Ok(bytes);
+            }
+            of_map(alloc, spans, filters, range, fill, number)
+        }
         Content::Plain(bytes) => {
             let first = before as usize;
-            let bytes = bytes.as_slice();
-            let bytes = &bytes[first..first + range.1 as usize];
-            let filters = block.filters.as_slice();
-            of_bytes(alloc, bytes, range, filters, fill, number)
+            let bytes = &bytes.as_slice()[first..first + range.1 as usize];
+            of_bytes(alloc, bytes, filters, range, fill, number)
         }
     }
 }

@@ -1,16 +1,35 @@
-//! The part of a byte map that filters keep.
-ghost use Rattle.std.specs.Prelude.{◌≡◌, ℕ, Bool, IfOk, OnOk, take};
+//! The filters of a datablock.
+ghost use Rattle.std.specs.Prelude.{◌≡◌, ◌==◌, length, IfOk};
 ghost use Rattle.std.specs.List.{All};
 ghost use Rattle.std.specs.List.Sorted.{IsPermutation, IsNonDecreasingBy};
-ghost use Rattle.std.specs.FinMap.{retain_keys};
 ghost use Rattle.flash_base.specs.Lists.{Each};
 ghost use Rattle.ecu_mem.specs.Bounds.{IsRange};
-ghost use Rattle.session_image.specs.Content.{is_in_one, is_kept};
-ghost use Rattle.session_image.specs.Kept.{or_within};
+ghost use Rattle.session_image.specs.Filtering.{AreFor};
 
 use flash_base::NoMemory;
-use span_store::Spans;
 use std::alloc::Global;
+use std::marker::Model;
+
+/// The filters of a datablock. Contracts see the list of them.
+#[derive(Debug, Drop)]
+pub struct Filters<'a> {
+    pub(crate) said: &'a [(u64, u64)],
+    /// The same addresses in ascending ranges that share none.
+    pub(crate) apart: Vec<(u64, u64)>,
+}
+
+impl<'a> Model for Filters<'a> {
+    ghost use Rattle.std.specs.Prelude.{ℕ, List};
+    ghost use Rattle.std.specs.Coded.{coded_ℕ};
+
+    ghost Value = { List (ℕ × ℕ) };
+
+    ghost use Rattle.session_image.specs.Filtering.{AreFor};
+
+    ghost view = { λ f. f.said.now };
+
+    ghost invariant = { λ f. AreFor f.said.now f.apart.items };
+}
 
 /// The ranges by their starts.
 fn sorted(alloc: Global, ranges: &[(u64, u64)]) -> Result<Vec<(u64, u64)>, NoMemory>
@@ -22,72 +41,39 @@ fn sorted(alloc: Global, ranges: &[(u64, u64)]) -> Result<Vec<(u64, u64)>, NoMem
     Ok(sorted)
 }
 
-/// At most the first `n` bytes.
-fn first_of_bytes(bytes: &[u8], n: u64) -> &[u8]
-    ensures { result.now ≡ take n bytes.now }
-{
-    if bytes.len() as u64 <= n {
-        bytes
-    } else {
-        &bytes[..n as usize]
-    }
-}
-
-/// Adds what a map has from one address to another.
-fn add_part(kept: &mut Spans, spans: &Spans, from: u64, stop: u64) -> Result<(), NoMemory>
-    ensures { OnOk result ((had : ℕ → Bool) → kept.old ≡ retain_keys spans.now had → kept.new ≡ retain_keys spans.now (or_within had from stop)) }
-{
-    let mut here = from;
-    while here < stop {
-        let Some((start, bytes)) = spans.piece(here) else {
-            return Ok(());
-        };
-        if stop <= start {
-            return Ok(());
-        }
-        let known = first_of_bytes(bytes, stop - start);
-        match kept.put(start, known) {
-            Ok(()) => {}
-            Err(_) => return Err(NoMemory),
-        }
-        here = start + known.len() as u64;
-    }
-    Ok(())
-}
-
-/// The part of a map in some of the ranges, which ascend by their starts. Each byte is copied
-/// once, however many ranges have it.
-fn in_order(alloc: Global, spans: &Spans, ranges: &[(u64, u64)]) -> Result<Spans, NoMemory>
+/// Ranges that ascend by their starts, without the addresses that one before them has.
+fn parted(alloc: Global, ranges: &[(u64, u64)]) -> Result<Vec<(u64, u64)>, NoMemory>
     requires within { All IsRange ranges.now }
     requires ascend { IsNonDecreasingBy (λ r. r.0) ranges.now }
-    ensures { IfOk result (λ kept. kept ≡ retain_keys spans.now (is_in_one ranges.now)) }
+    ensures { IfOk result (λ v. AreFor ranges.now v.items) }
 {
-    let mut kept = Spans::new(alloc);
+    let mut parted = Vec::new(alloc);
     let mut reached = 0;
     for range in ranges {
+        let from = range.0.max(reached);
         let stop = range.0 + range.1;
-        add_part(&mut kept, spans, range.0.max(reached), stop)?;
-        reached = stop.max(reached);
+        if from < stop {
+            parted.push((from, stop - from))?;
+            reached = stop;
+        }
     }
-    Ok(kept)
+    Ok(parted)
 }
 
-/// The part of a map in some of the ranges.
-fn in_one(alloc: Global, spans: &Spans, ranges: &[(u64, u64)]) -> Result<Spans, NoMemory>
-    requires { Each IsRange ranges.now }
-    ensures { IfOk result (λ kept. kept ≡ retain_keys spans.now (is_in_one ranges.now)) }
-{
-    let sorted = sorted(alloc, ranges)?;
-    in_order(alloc, spans, sorted.as_slice())
-}
-
-/// The part of a map that filters keep; without filters it is the whole.
-pub(crate) fn kept(alloc: Global, spans: Spans, filters: &[(u64, u64)]) -> Result<Spans, NoMemory>
-    requires { Each IsRange filters.now }
-    ensures { IfOk result (λ kept. kept ≡ retain_keys spans (is_kept filters.now)) }
-{
-    if filters.is_empty() {
-        return Ok(spans);
+impl<'a> Filters<'a> {
+    pub(crate) fn new(alloc: Global, said: &'a [(u64, u64)]) -> Result<Filters<'a>, NoMemory>
+        requires { Each IsRange said.now }
+        ensures { IfOk result (λ f. f ≡ said.now) }
+    {
+        let sorted = sorted(alloc, said)?;
+        let apart = parted(alloc, sorted.as_slice())?;
+        Ok(Filters { said, apart })
     }
-    in_one(alloc, &spans, filters)
+
+    /// There are none, and every address is kept.
+    pub(crate) fn is_empty(&self) -> bool
+        ensures { result ≡ (length self.now == 0) }
+    {
+        self.said.is_empty()
+    }
 }

@@ -7,6 +7,7 @@ mod files;
 mod filling;
 mod filters;
 mod imaging;
+mod keeping;
 mod overlap;
 mod pieces;
 mod ranges;

@@ -1,21 +1,22 @@
 //! The segments of a session with their bytes.
 ghost use Rattle.std.specs.Prelude.{false, ◌≡◌, ◌⊎◌, ◌≤◌, ◌<◌, ◌+◌, ◌++◌, length, Err, Ok, IfOk, OnOk, None, Some, if◌then◌else◌, ℕ};
 ghost use Rattle.flash_base.specs.Lists.{Each};
-ghost use Rattle.ecu_mem.specs.Values.{address_limit};
+ghost use Rattle.span_store.specs.ByteMap.{top};
 ghost use Rattle.ecu_mem.specs.Bounds.{IsRange, IsWholeCatalogue, IsBlockAmong};
 ghost use Rattle.session_image.specs.Files.{blocks_at, flash_of};
-ghost use Rattle.session_image.specs.Kept.{dropped, kept_bodies, HasRoom, IsPlaced, IsWithin, kept_pieces, sizes};
-ghost use Rattle.session_image.specs.Pieces.{has_its_size, is_outside, target_of, moved, total, block_pieces, session_pieces, size_of, size_limit, segments_of};
+ghost use Rattle.session_image.specs.Kept.{HasRoom, IsPlaced, IsWithin, sizes};
+ghost use Rattle.session_image.specs.Pieces.{bodies, has_its_size, is_outside, target_of, moved, total, own_pieces, block_pieces, session_pieces, size_of, size_limit, segments_of};
 
 use crate::content::{Content, data_of};
 use crate::files::{block_of, flash_of};
 use crate::filling::body;
-use crate::filters::kept;
+use crate::filters::Filters;
 use crate::ranges::{ranges, total};
 use crate::types::ImageFault;
-use ecu_mem::{ADDRESS_LIMIT, Block, EcuMem};
+use ecu_mem::{Block, EcuMem};
 use flash_base::{Bytes, Files, Items, NoMemory, Text};
 use flash_plan::Segment;
+use span_store::TOP;
 use std::alloc::Global;
 
 /// The most bytes of a session, and of a checksum's range.
@@ -27,21 +28,6 @@ pub struct Piece {
     pub source: u64,
     pub target: u64,
     pub body: Bytes,
-}
-
-/// The data without the addresses that filters drop. Plain bytes have no addresses yet.
-fn filtered(alloc: Global, content: Content, block: &Block) -> Result<Content, NoMemory>
-    requires { Each IsRange block.now.filters }
-    ensures { IfOk result (λ c. c ≡ dropped content block.now) }
-{
-    match content {
-        Content::Mapped(spans) => Ok(Content::Mapped(kept(
-            alloc,
-            spans,
-            block.filters.as_slice(),
-        )?)),
-        Content::Plain(bytes) => Ok(Content::Plain(bytes)),
-    }
 }
 
 /// Plain bytes have to be as many as the segments have addresses.
@@ -66,28 +52,29 @@ fn has_its_size(
     }
 }
 
-/// The ranges with their bytes; the first is segment `number`.
+/// The ranges with their bytes; the first is segment `number`. Behind the last one the data are of no more use.
 fn bodies(
     alloc: Global,
-    content: &Content,
-    block: &Block,
+    content: &mut Content,
+    filters: &Filters<'_>,
     fill: Option<u8>,
     first: u32,
     ranges: &[(u64, u64)],
 ) -> Result<Items<(u64, Bytes)>, ImageFault>
     requires ranges { Each IsRange ranges.now }
-    requires filters { Each IsRange block.now.filters }
-    requires bytes { HasRoom content.now (total ranges.now) }
+    requires bytes { HasRoom content.old (total ranges.now) }
     requires limit { first + total ranges.now ≤ size_limit }
-    ensures bodies { (result ≡ Err ImageFault.NoMemory) ⊎ (result ≡ kept_bodies content.now block.now fill first 0 ranges.now) }
+    ensures bodies { (result ≡ Err ImageFault.NoMemory) ⊎ (result ≡ bodies content.old filters.now fill first 0 ranges.now) }
     ensures within { IfOk result (λ v. Each IsWithin v) }
     ensures sizes { IfOk result (λ v. sizes v ≡ total ranges.now) }
 {
     let mut bodies = Items::new(alloc);
     let mut before = 0;
     let mut number = first;
-    for range in ranges {
-        let body = body(alloc, content, block, *range, before, fill, number)?;
+    for i in 0..ranges.len() {
+        let range = ranges[i];
+        let last = i + 1 == ranges.len();
+        let body = body(alloc, content, filters, range, before, fill, number, last)?;
         bodies.push((range.0, body))?;
         before += range.1;
         number += 1;
@@ -97,20 +84,20 @@ fn bodies(
 
 /// Whether a segment leaves the addresses on its way to its target address.
 fn is_outside(block: &Block, at: u64, size: u64) -> bool
-    requires at { at + size ≤ address_limit }
-    requires offset { block.now.offset < address_limit }
+    requires at { at + size ≤ top }
+    requires offset { block.now.offset < top }
     ensures { result ≡ is_outside block.now at size }
 {
     if block.down {
         at < block.offset
     } else {
-        ADDRESS_LIMIT < at + block.offset + size
+        TOP < at + block.offset + size
     }
 }
 
 /// The target address of a segment.
 fn target_of(block: &Block, at: u64, size: u64) -> u64
-    requires at { at + size ≤ address_limit }
+    requires at { at + size ≤ top }
     requires inside { is_outside block.now at size ≡ false }
     ensures { result ≡ target_of block.now at }
 {
@@ -129,7 +116,7 @@ fn moved(
     bodies: Items<(u64, Bytes)>,
 ) -> Result<Items<Piece>, ImageFault>
     requires within { Each IsWithin bodies }
-    requires offset { block.now.offset < address_limit }
+    requires offset { block.now.offset < top }
     requires limit { first + sizes bodies ≤ size_limit }
     ensures placed { IfOk result (λ pieces. Each IsPlaced pieces) }
     ensures size { IfOk result (λ pieces. size_of pieces ≡ sizes bodies) }
@@ -155,7 +142,7 @@ fn moved(
 }
 
 /// The segments of a datablock whose data are at hand.
-fn kept_pieces(
+fn own_pieces(
     alloc: Global,
     fill: Option<u8>,
     number: u32,
@@ -165,15 +152,16 @@ fn kept_pieces(
 ) -> Result<Items<Piece>, ImageFault>
     requires segments { Each IsRange block.now.segments }
     requires filters { Each IsRange block.now.filters }
-    requires offset { block.now.offset < address_limit }
+    requires offset { block.now.offset < top }
     requires limit { number ≤ size }
     requires size { size ≤ size_limit }
     ensures placed { IfOk result (λ pieces. Each IsPlaced pieces) }
     ensures some { IfOk result (λ pieces. 1 ≤ size_of pieces) }
     ensures limit { IfOk result (λ pieces. size + size_of pieces ≤ size_limit) }
-    ensures pieces { (result ≡ Err ImageFault.NoMemory) ⊎ (result ≡ kept_pieces fill number size block.now content) }
+    ensures pieces { (result ≡ Err ImageFault.NoMemory) ⊎ (result ≡ own_pieces fill number size block.now content) }
 {
-    let ranges = ranges(alloc, &content, block)?;
+    let filters = Filters::new(alloc, block.filters.as_slice())?;
+    let ranges = ranges(alloc, &content, block, &filters)?;
     if ranges.is_empty() {
         let block = Text::from_str(alloc, block.id.as_str())?;
         return Err(ImageFault::NoSegment { block });
@@ -181,8 +169,9 @@ fn kept_pieces(
     let Some(said) = total(ranges.as_slice(), SIZE_LIMIT - size) else {
         return Err(ImageFault::TooLarge);
     };
-    let content = has_its_size(alloc, content, block, said)?;
-    let bodies = bodies(alloc, &content, block, fill, number, ranges.as_slice())?;
+    let mut content = has_its_size(alloc, content, block, said)?;
+    let ranges = ranges.as_slice();
+    let bodies = bodies(alloc, &mut content, &filters, fill, number, ranges)?;
     moved(alloc, block, number, bodies)
 }
 
@@ -205,8 +194,7 @@ fn block_pieces(
     ensures pieces { (result ≡ Err ImageFault.NoMemory) ⊎ (result ≡ block_pieces mem.now files.now fill number size block.now) }
 {
     let content = data_of(alloc, files, flash_of(mem, block))?;
-    let content = filtered(alloc, content, block)?;
-    kept_pieces(alloc, fill, number, size, block, content)
+    own_pieces(alloc, fill, number, size, block, content)
 }
 
 /// Puts the segments of a datablock behind those before them, and answers how many bytes they have.

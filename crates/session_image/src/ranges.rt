@@ -2,30 +2,64 @@
 ghost use Rattle.std.specs.Prelude.{◌≡◌, ◌<◌, ℕ, nat_lt, IfOk, None, Some, if◌then◌else◌};
 ghost use Rattle.flash_base.specs.Lists.{Each};
 ghost use Rattle.ecu_mem.specs.Bounds.{IsRange};
-ghost use Rattle.session_image.specs.Kept.{kept_ranges};
-ghost use Rattle.session_image.specs.Pieces.{total};
+ghost use Rattle.std.specs.FinMap.{retain_keys};
+ghost use Rattle.span_store.specs.Runs.{runs};
+ghost use Rattle.session_image.specs.Content.{is_kept};
+ghost use Rattle.session_image.specs.Pieces.{ranges, total};
 
 use crate::content::Content;
+use crate::filters::Filters;
+use crate::keeping::Kept;
 use ecu_mem::Block;
 use flash_base::NoMemory;
+use span_store::Spans;
 use std::alloc::Global;
 
-/// The listed segments; without any, the maximal runs of what the filters kept, of which plain
+/// The maximal runs of what filters keep of a map, ascending, each as address and size.
+fn kept_runs(
+    alloc: Global,
+    spans: &Spans,
+    filters: &Filters<'_>,
+) -> Result<Vec<(u64, u64)>, NoMemory>
+    ensures runs { IfOk result (λ v. v.items ≡ runs (retain_keys spans.now (is_kept filters.now))) }
+    ensures within { IfOk result (λ v. Each IsRange v.items) }
+{
+    let mut runs = Vec::new(alloc);
+    let mut kept = Kept::new(filters, 0, &[], spans.pieces());
+    let Some((at, bytes)) = kept.next() else {
+        return Ok(runs);
+    };
+    let mut from = at;
+    let mut end = at + bytes.len() as u64;
+    while let Some((start, bytes)) = kept.next() {
+        if start != end {
+            runs.push((from, end - from))?;
+            from = start;
+        }
+        end = start + bytes.len() as u64;
+    }
+    runs.push((from, end - from))?;
+    Ok(runs)
+}
+
+/// The listed segments; without any, the maximal runs of what the filters keep, of which plain
 /// bytes have none.
 pub(crate) fn ranges(
     alloc: Global,
     content: &Content,
     block: &Block,
+    filters: &Filters<'_>,
 ) -> Result<Vec<(u64, u64)>, NoMemory>
-    requires { Each IsRange block.now.segments }
-    ensures ranges { IfOk result (λ v. v.items ≡ kept_ranges content.now block.now) }
+    requires segments { Each IsRange block.now.segments }
+    requires filters { filters.now ≡ block.now.filters }
+    ensures ranges { IfOk result (λ v. v.items ≡ ranges content.now block.now) }
     ensures within { IfOk result (λ v. Each IsRange v.items) }
 {
     if block.segments.len() != 0 {
         return Ok(Vec::from_slice(alloc, block.segments.as_slice())?);
     }
     match content {
-        Content::Mapped(spans) => spans.runs(alloc),
+        Content::Mapped(spans) => kept_runs(alloc, spans, filters),
         Content::Plain(_) => Ok(Vec::new(alloc)),
     }
 }

@@ -334,6 +334,135 @@ fn addresses_without_a_byte(rt: HostRuntime) -> Result<(), Fail> {
     Ok(())
 }
 
+/// Four bytes at 1000 and four at 1010.
+const RUNS: &str = ":0410000001020304E2\\n:0410100005060708C2\\n:00000001FF\\n";
+
+#[test]
+fn runs_filters_and_segments(rt: HostRuntime) -> Result<(), Fail> {
+    let alloc = rt.alloc();
+    let table: [(&[(u64, u64)], &[(u64, u64)], Option<u8>, &str); 11] = [
+        (&[], &[], None, "1000:01020304 1010:05060708 "),
+        (
+            &[],
+            &[(0x1010, 4), (0x1000, 4)],
+            None,
+            "1010:05060708 1000:01020304 ",
+        ),
+        (&[], &[(0x1000, 4), (0x1002, 2)], None, "overlap 1002"),
+        (&[], &[(0x1010, 4), (0x1010, 4)], None, "overlap 1010"),
+        (
+            &[(0x1001, 2), (0x1011, 9)],
+            &[],
+            None,
+            "1001:0203 1011:060708 ",
+        ),
+        (
+            &[(0x1012, 2), (0x1001, 2), (0x1000, 2)],
+            &[],
+            None,
+            "1000:010203 1012:0708 ",
+        ),
+        (
+            &[(0x1002, 0x10)],
+            &[(0x1001, 0x11)],
+            Some(0xee),
+            "1001:ee0304eeeeeeeeeeeeeeeeeeeeeeee0506 ",
+        ),
+        (&[(0x1000, 2)], &[(0x1000, 4)], None, "hole 0 1002"),
+        (
+            &[(0x1001, 1), (0x1003, 1)],
+            &[(0x1000, 4)],
+            Some(0),
+            "1000:00020004 ",
+        ),
+        (
+            &[],
+            &[(0x1004, 0xc)],
+            Some(9),
+            "1004:090909090909090909090909 ",
+        ),
+        (&[], &[(0x1003, 0xe)], None, "hole 0 1004"),
+    ];
+    for (filters, segments, fill, wanted) in table {
+        let told = inside(
+            alloc,
+            "INTEL-HEX",
+            "",
+            RUNS,
+            filters,
+            segments,
+            "",
+            "",
+            fill,
+        )?;
+        assert_eq!(rt; told.as_str(), wanted);
+    }
+    Ok(())
+}
+
+/// Two datablocks of the same flash data.
+fn shared(
+    alloc: Global,
+    filters: &[(u64, u64)],
+    first: &[(u64, u64)],
+    second: &[(u64, u64)],
+) -> Result<String, Fail> {
+    let up = leaf(alloc, "POSITIVE-OFFSET", "100")?;
+    let up = branch(alloc, "TARGET-ADDR-OFFSET", &up)?;
+    let up = format!(in alloc; ",{up}")?;
+    let one = block(alloc, "D1", "F", &[], first, "")?;
+    let two = block(alloc, "D2", "F", filters, second, &up)?;
+    let blocks = format!(in alloc; "{one},{two}")?;
+    let flashes = flash(alloc, "F", "INTEL-HEX", "", "DATA", RUNS)?;
+    let both = references(alloc, true)?;
+    let mem = document(alloc, &both, "", &blocks, &flashes)?;
+    answer(alloc, &mem, &Files::new(alloc), None)
+}
+
+#[test]
+fn datablocks_of_the_same_data(rt: HostRuntime) -> Result<(), Fail> {
+    let alloc = rt.alloc();
+    let table: [(&[(u64, u64)], &[(u64, u64)], &[(u64, u64)], &str); 3] = [
+        (
+            &[],
+            &[],
+            &[],
+            "1000:01020304 1010:05060708 1100:01020304 1110:05060708 ",
+        ),
+        (
+            &[(0x1003, 0x10)],
+            &[(0x1000, 4)],
+            &[],
+            "1000:01020304 1103:04 1110:050607 ",
+        ),
+        (&[], &[(0x1000, 4)], &[(0x1010, 5)], "hole 1 1014"),
+    ];
+    for (filters, first, second, wanted) in table {
+        let told = shared(alloc, filters, first, second)?;
+        assert_eq!(rt; told.as_str(), wanted);
+    }
+    Ok(())
+}
+
+/// Offsets that bring the data to the end of the addresses, which have 40 bits.
+#[test]
+fn offsets_of_40_bits(rt: HostRuntime) -> Result<(), Fail> {
+    let alloc = rt.alloc();
+    let table = [
+        ("FF00000000", "ff00001000:01020304 "),
+        ("FFFFFFEFFC", "fffffffffc:01020304 "),
+        ("FFFFFFEFFD", "out of range 0"),
+    ];
+    for (offset, wanted) in table {
+        let up = leaf(alloc, "POSITIVE-OFFSET", offset)?;
+        let up = branch(alloc, "TARGET-ADDR-OFFSET", &up)?;
+        let up = format!(in alloc; ",{up}")?;
+        let told = inside(alloc, "INTEL-HEX", "", FOUR, &[], &[], &up, "", None)?;
+        assert_eq!(rt; told.as_str(), wanted);
+    }
+    Ok(())
+}
+
 const OWN: &str =
     r#",{"tag":"OWN-IDENTS","kids":[{"tag":"OWN-IDENT","kids":[{"tag":"SHORT-NAME","text":"SW"},{"tag":"IDENT-VALUES","kids":[{"tag":"IDENT-VALUE","text":"1"},{"tag":"IDENT-VALUE","text":"2"}]}]}]}"#;
 
@@ -392,13 +521,19 @@ const LETTERS: &str = ":03100000616263C7\\n:00000001FF\\n";
 /// SHA-256 of `abc`, of FIPS 180-4.
 const ABC: &str = "ba7816bf8f01cfea414140de5dae2223b00361a396177a9cb410ff61f20015ad";
 
+/// SHA-256 of 01 02 03 04 and 131,073 bytes FF, as another program gives it.
+const LONG: &str = "a6fbf288f451d32eed35a02ae60449517063baf0acb55f36b0c9798f51977dfc";
+
 #[test]
 fn checksums(rt: HostRuntime) -> Result<(), Fail> {
     let alloc = rt.alloc();
-    let table: [(&str, u64, &str, &str, &str); 7] = [
+    let table: [(&str, u64, &str, &str, &str); 10] = [
         (FOUR, 4, "SUM-16", "000a", "1000:01020304 C1 true "),
         (FOUR, 4, "SUM-16", "000b", "differs C1 000b 000a"),
         (FOUR, 5, "SUM-16", "0109", "1000:01020304 C1 true "),
+        (FOUR, 65_541, "SUM-16", "0109", "1000:01020304 C1 true "),
+        (FOUR, 131_077, "SHA-256", LONG, "1000:01020304 C1 true "),
+        (FOUR, 131_077, "SUM-16", "0109", "1000:01020304 C1 true "),
         (FOUR, 4, "CRC32", "00", "1000:01020304 C1 false "),
         (FOUR, 0x0100_0001, "CRC32", "00", "too large"),
         (LETTERS, 3, "SHA-256", ABC, "1000:616263 C1 true "),

@@ -41,7 +41,7 @@ pub enum ImageFault {
     BinarySize { block: Text, said: u64, seen: u64 },
     /// The segment has no byte at this source address, and the task no fill byte.
     Hole { segment: u32, at: u64 },
-    /// The segment leaves the range from 0 to 2^32.
+    /// The segment leaves the range from 0 to 2^40.
     OutOfRange { segment: u32 },
     /// Two segments have this target address, and none a lower one.
     Overlap { at: u64 },

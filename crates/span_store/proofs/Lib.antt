@@ -6,4 +6,7 @@ pub mod Laying
 pub mod Free
 pub mod Settled
 pub mod Maps
+pub mod Fronts
+pub mod Extracting
 pub mod Merged
+pub mod Walking

@@ -14,7 +14,7 @@ use Rattle.flash_base.specs.Lists.{Each}
 use Rattle.span_store.specs.Runs.{before_runs, runs_of, runs, IsRun}
 use Rattle.span_store.proofs.Order.{split, ascending, back, front, front_ends, high_cut, EndBy-append, EndBy_more, high_all, high_are, high_from}
 
-abbrev pairs : ℕ → List ℕ → List (ℕ × ℕ)
+abbrev pub pairs : ℕ → List ℕ → List (ℕ × ℕ)
 pairs at [] = []
 pairs at (b ∷ bs) = (at, b) ∷ pairs (at + 1) bs
 
@@ -23,7 +23,7 @@ flat [] = []
 flat (e ∷ es) = pairs e.0 e.1 ++ flat es
 
 -- each address is one from n on
-abbrev From : ℕ → List (ℕ × ℕ) → Type 0
+abbrev pub From : ℕ → List (ℕ × ℕ) → Type 0
 From n [] = Unit {0}
 From n (p ∷ ps) = (n ≤ p.0) × From n ps
 
@@ -47,7 +47,7 @@ put_first : (at b : ℕ) (ps : List (ℕ × ℕ)) → From (at + 1) ps → put n
 put_first at b [] f = refl
 put_first at b (p ∷ ps) f = ap (λ o. by_order o ((at, b) ∷ p ∷ ps) ((p.0, b) ∷ ps) (p ∷ put nat_cmp at b ps)) (sym (nat_cmp_is at p.0 Less (let l = f.0 in omega arith)))
 
-entries-over : (m : ByteMap) (at : ℕ) (bs : List ℕ) → From (at + length bs) (entries m) → entries (over m at bs) ≡ pairs at bs ++ entries m
+pub entries-over : (m : ByteMap) (at : ℕ) (bs : List ℕ) → From (at + length bs) (entries m) → entries (over m at bs) ≡ pairs at bs ++ entries m
 entries-over m at [] f = refl
 entries-over m at (b ∷ bs) f =
     let more : at + 1 + length bs ≡ at + suc (length bs) = omega arith in
@@ -86,7 +86,7 @@ join at m n (r ∷ rs) =
           rw (is_not, eq-eqb (at + m) (at + m) refl, ne) refl
     ]
 
-runs_of_pairs : (at : ℕ) (bs : List ℕ) (ps : List (ℕ × ℕ)) → 0 < length bs → runs_of (pairs at bs ++ ps) ≡ before_runs (at, length bs) (runs_of ps)
+pub runs_of_pairs : (at : ℕ) (bs : List ℕ) (ps : List (ℕ × ℕ)) → 0 < length bs → runs_of (pairs at bs ++ ps) ≡ before_runs (at, length bs) (runs_of ps)
 runs_of_pairs at [] ps h = absurd (omega arith)
 runs_of_pairs at (b ∷ []) ps h = refl
 runs_of_pairs at (b ∷ c ∷ cs) ps h =
@@ -106,7 +106,7 @@ tally n [] = 0
 tally n (e ∷ es) = cond (eqb e.0 n) 0 1 + tally (end_of e) es
 
 -- the first of merged runs begins where the extents do
-head_is : (at n : ℕ) (rs : List (ℕ × ℕ)) → (size : ℕ) × (more : List (ℕ × ℕ)) × (before_runs (at, n) rs ≡ (at, size) ∷ more)
+pub head_is : (at n : ℕ) (rs : List (ℕ × ℕ)) → (size : ℕ) × (more : List (ℕ × ℕ)) × (before_runs (at, n) rs ≡ (at, size) ∷ more)
 head_is at n [] = (n, [], refl)
 head_is at n (r ∷ rs) =
     elim (cases_Bool (eqb r.0 (at + n))) [
@@ -180,7 +180,7 @@ run_longer es at end e rest s le h is =
     ∙ ap (λ n. before_runs (at, n) (merged rest)) size
     ∙ ap (λ r. before_runs (at, end_of e - at) (merged r)) (sym (high_next es end e rest s h))
 
-run_apart : (at n : ℕ) (rs : List (ℕ × ℕ)) (start size : ℕ) (more : List (ℕ × ℕ)) → rs ≡ (start, size) ∷ more → (start ≡ at + n → ⊥) → before_runs (at, n) rs ≡ (at, n) ∷ rs
+pub run_apart : (at n : ℕ) (rs : List (ℕ × ℕ)) (start size : ℕ) (more : List (ℕ × ℕ)) → rs ≡ (start, size) ∷ more → (start ≡ at + n → ⊥) → before_runs (at, n) rs ≡ (at, n) ∷ rs
 run_apart at n rs start size more e ne = rw (e, ne_eqb start (at + n) ne) refl
 
 pub run_next : (es : List Extent) (at end : ℕ) (e : Extent) (rest : List Extent) → AreExtents es → at ≤ end → high end es ≡ e ∷ rest → (e.0 ≡ end → ⊥)

@@ -10,7 +10,7 @@ ByteMap = FinMap nat_cmp ℕ
 
 -- every address is below this
 abbrev pub top : ℕ
-top = 2 ^ 32
+top = 2 ^ 40
 
 -- the map with these bytes from an address on
 abbrev pub over : ByteMap → ℕ → List ℕ → ByteMap

@@ -4,3 +4,4 @@ pub mod Lowest
 pub mod Place
 pub mod Putting
 pub mod Runs
+pub mod Walks

@@ -6,18 +6,19 @@ ghost use Rattle.span_store.specs.ByteMap.{top, part, Holds};
 ghost use Rattle.span_store.specs.Extents.{IsPiece};
 ghost use Rattle.span_store.specs.Lowest.{IsLowest, IsHole, IsShared};
 ghost use Rattle.span_store.specs.Runs.{runs, IsRun};
-ghost use Rattle.span_store.specs.Putting.{Puts};
+ghost use Rattle.span_store.specs.Putting.{Puts, Extracts};
 
 use crate::fault::PutFault;
 use crate::runs::{all_runs, run_at, run_count};
-use crate::store::{byte_at, piece, put_into};
+use crate::store::{byte_at, piece, put_into, take_from};
+use crate::walk::Walk;
 use flash_base::{Bytes, NoMemory};
 use std::alloc::Global;
 use std::collections::BTreeMap;
 use std::marker::Model;
 
 /// Every address is below this.
-pub const TOP: u64 = 0x1_0000_0000;
+pub const TOP: u64 = 0x100_0000_0000;
 
 /// Bytes by address, which contracts see as a finite map: the ascending list of addresses with their bytes.
 ///
@@ -152,6 +153,30 @@ impl Spans {
         Ok(cut)
     }
 
+    /// The bytes of a range, piece by piece in ascending order; together they are `cut` of the range.
+    pub fn walk(&self, from: u64, size: u64) -> Walk<'_>
+        requires { from + size ≤ top }
+        ensures { result ≡ part self.now from size }
+    {
+        Walk::new(self, from, from + size)
+    }
+
+    /// All bytes, piece by piece in ascending order.
+    pub fn pieces(&self) -> Walk<'_>
+        ensures { result ≡ self.now }
+    {
+        let _ = &self.store;
+        Walk::new(self, 0, TOP)
+    }
+
+    /// Takes the bytes of a range out, where one extent has them and no others. Else the answer is None, and
+    /// nothing has changed: then they want a copy.
+    pub fn take(&mut self, from: u64, size: u64) -> Option<Bytes>
+        ensures { Extracts self.old from size result self.new }
+    {
+        take_from(&mut self.store, from, size)
+    }
+
     /// The lowest address that both have.
     pub fn overlap(&self, other: &Spans) -> Option<u64>
         ensures { IsLowest (IsShared self.now other.now) result }
@@ -195,7 +220,7 @@ impl Spans {
 }
 
 /// At most the first `n` bytes.
-fn first_of_bytes(bytes: &[u8], n: u64) -> &[u8]
+pub(crate) fn first_of_bytes(bytes: &[u8], n: u64) -> &[u8]
     ensures { result.now ≡ take n bytes.now }
 {
     if bytes.len() as u64 <= n {

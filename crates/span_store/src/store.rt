@@ -7,7 +7,7 @@ ghost use Rattle.std.specs.BTreeMap.{is_at};
 ghost use Rattle.std.specs.Map.{set_value};
 ghost use Rattle.std.specs.Ordering.{nat_cmp};
 ghost use Rattle.span_store.specs.ByteMap.{over, clash, top};
-ghost use Rattle.span_store.specs.Putting.{Puts};
+ghost use Rattle.span_store.specs.Putting.{Puts, Extracts};
 ghost use Rattle.span_store.specs.Place.{IsPlace};
 ghost use Rattle.span_store.specs.declared.place.Place.{Place};
 ghost use Rattle.span_store.specs.Extents.{map_of, low, high, end_of, EndBy, AreExtents, EndsWith, StartsWith, IsPiece};
@@ -365,5 +365,17 @@ pub(crate) fn put_into(
             Ok(())
         }
         Place::Meets => meet(store, alloc, at, bytes),
+    }
+}
+
+/// Takes an extent out, where it begins at an address and has so many bytes.
+pub(crate) fn take_from(store: &mut BTreeMap<u64, Bytes>, from: u64, size: u64) -> Option<Bytes>
+    requires { AreExtents store.old.entries }
+    ensures takes { Extracts (map_of store.old.entries) from size result (map_of store.new.entries) }
+    ensures extents { AreExtents store.new.entries }
+{
+    match store.get(&from) {
+        Some(bytes) if bytes.len() as u64 == size => store.remove(&from),
+        _ => None,
     }
 }

@@ -72,3 +72,74 @@ fn each_call_once(rt: HostRuntime) {
         None => panic!(rt; "no piece"),
     }
 }
+
+/// Three runs, the last at the end of the addresses.
+fn three_runs(alloc: Global) -> Spans {
+    let mut spans = Spans::new(alloc);
+    for (at, bytes) in [
+        (0x1000, [1, 2]),
+        (0x1002, [3, 4]),
+        (0x1008, [7, 8]),
+        (TOP - 2, [9, 10]),
+    ] {
+        if at <= TOP - 2 && spans.put(at, &bytes).is_err() {
+            return Spans::new(alloc);
+        }
+    }
+    spans
+}
+
+/// The pieces of a range, by start and size, are the runs of its cut.
+#[test]
+fn pieces_of_ranges(rt: HostRuntime) {
+    let alloc = rt.alloc();
+    let spans = three_runs(alloc);
+    let table: [(u64, u64, &[(u64, usize)]); 7] = [
+        (0, TOP, &[(0x1000, 4), (0x1008, 2), (TOP - 2, 2)]),
+        (0x1001, 8, &[(0x1001, 3), (0x1008, 1)]),
+        (0x1003, 1, &[(0x1003, 1)]),
+        (0x1004, 4, &[]),
+        (0x1000, 0, &[]),
+        (0x1009, TOP - 0x100A, &[(0x1009, 1), (TOP - 2, 1)]),
+        (TOP - 1, 1, &[(TOP - 1, 1)]),
+    ];
+    for (from, size, wanted) in table {
+        if TOP < from || TOP - from < size {
+            continue;
+        }
+        let mut walk = spans.walk(from, size);
+        for (at, length) in wanted {
+            match walk.next() {
+                Some((start, bytes)) => {
+                    assert_eq!(rt; (start, bytes.len()), (*at, *length));
+                    assert_eq!(rt; spans.get(start), bytes.first().copied());
+                }
+                None => panic!(rt; "no piece at {at:x}"),
+            }
+        }
+        assert!(rt; walk.next().is_none());
+    }
+    let mut pieces = spans.pieces();
+    for _ in 0..3 {
+        assert!(rt; pieces.next().is_some());
+    }
+    assert!(rt; pieces.next().is_none());
+}
+
+/// A whole extent is taken out; a part of one stays, and so does all else.
+#[test]
+fn extents_taken_out(rt: HostRuntime) {
+    let mut spans = three_runs(rt.alloc());
+    assert!(rt; spans.take(0x1008, 1).is_none());
+    assert!(rt; spans.take(0x1001, 3).is_none());
+    assert!(rt; spans.take(0x1004, 4).is_none());
+    assert_eq!(rt; spans.extents(), 3);
+    match spans.take(0x1000, 4) {
+        Some(bytes) => assert!(rt; bytes.as_slice() == [1, 2, 3, 4].as_slice()),
+        None => panic!(rt; "not taken"),
+    }
+    assert_eq!(rt; spans.extents(), 2);
+    assert_eq!(rt; spans.get(0x1001), None);
+    assert_eq!(rt; spans.get(0x1008), Some(7));
+    assert!(rt; spans.take(0x1000, 4).is_none());
+}

@@ -119,7 +119,7 @@ follow done (e ∷ es) c n m rest s cut small =
       next.0,
       next.1,
       ap (λ t. read_from (at_count c (map_of done)) n (lines t)) (append_assoc (data_line e) (lines_of es) rest)
-          ∙ data_read n c (map_of done) e later small.0 cut.0.short own.1 own.0 (behind_free done e.0 e.1 below)
+          ∙ data_read n c (map_of done) e later small.0 cut.0.short cut.0.below own.0 (behind_free done e.0 e.1 below)
           ∙ ap (λ t. read_from (at_count (c + 1) t) (n + 1) (lines later)) map
           ∙ next.2
           ∙ ap (λ t. read_from (at_count next.0 (map_of t)) next.1 (lines rest)) more,

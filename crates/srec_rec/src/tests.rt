@@ -78,6 +78,9 @@ fn texts_that_are_refused(rt: HostRuntime) {
 fn text_that_is_written(rt: HostRuntime) {
     let mut spans = Spans::new(rt.alloc());
     assert!(rt; spans.put(0x1000, &[1, 2, 3, 4]).is_ok());
+    let None = spans.piece(0x1_0000_0000) else {
+        panic!(rt; "above");
+    };
     match write(rt.alloc(), &spans) {
         Ok(text) => {
             let want = "S0030000FC\nS3090000100001020304DC\nS70500000000FA\n";

@@ -1,12 +1,13 @@
 ghost use Rattle.std.specs.Prelude.{◌≡◌, ℕ, List, Some, Ok, ◌+◌, ◌-◌, ◌/◌, ◌%◌, ◌^◌, ◌≤◌, ◌<◌, ◌++◌, ◌∷◌, [], length, All, OnOk, IfOk};
 ghost use Rattle.std.specs.FinMap as map;
 ghost use Rattle.span_store.specs.ByteMap.{ByteMap};
+ghost use Rattle.rec_text.specs.Cutting.{IsLow};
 ghost use Rattle.srec_rec.specs.SrecText.{IsSrecText};
 ghost use Rattle.srec_rec.specs.Reading.{reading_of};
 ghost use Rattle.srec_rec.specs.Writing.{line_of, checksum, IsWritten};
 
 use flash_base::{Bytes, NoMemory};
-use rec_text::{DATA, cut_front, push_both, push_digits, sum_both};
+use rec_text::{DATA, cut_front, next_in, push_both, push_digits, sum_both};
 use span_store::Spans;
 use std::alloc::Global;
 
@@ -53,8 +54,10 @@ fn push_data(text: &mut Bytes, at: u64, bytes: &[u8]) -> Result<(), NoMemory>
 /// The S-records of bytes.
 ///
 /// A header without text, S3 lines of at most 16 bytes for each maximal run in ascending order, and an
-/// S7 line; upper case, LF.
+/// S7 line; upper case, LF. The format has no address from 2^32 on: `spans.piece(1 << 32)` says whether a
+/// map has one.
 pub fn write(alloc: Global, spans: &Spans) -> Result<Bytes, NoMemory>
+    requires { IsLow spans.now }
     ensures written { IfOk result (λ text. IsWritten spans.now text) }
     ensures read_back { IfOk result (λ text. reading_of text ≡ Ok spans.now) }
     ensures whole { IfOk result (λ text. IsSrecText text spans.now) }
@@ -63,7 +66,7 @@ pub fn write(alloc: Global, spans: &Spans) -> Result<Bytes, NoMemory>
     push_line(&mut text, 0, &[3, 0, 0], &[])?;
     let mut line = [0u8; DATA];
     let mut here = 0;
-    while let Some((at, _)) = spans.piece(here) {
+    while let Some(at) = next_in(spans, here) {
         let n = cut_front(spans, at, 0x1_0000_0000 - at, &mut line);
         push_data(&mut text, at, &line[..n])?;
         here = at + n as u64;

@@ -12,6 +12,3 @@ pub use bytes::{hex_byte, hex_bytes};
 pub use file_name::is_file_name;
 pub use numbers::{decimal_number, hex_number};
 pub use trim::trimmed;
-
-#[cfg(test)]
-mod tests;

@@ -1,6 +1,6 @@
 -- What the disk records once both entries were recorded.
-use Rattle.std.proofs.Common.{◌≡◌, ℕ, ◌<◌, List, refl, sym, ◌∙◌, ap, subst}
-use Rattle.std.specs.Prelude.{Bool, ◌==◌, ◌&&◌, ◌||◌}
+use Rattle.std.proofs.Common.{◌≡◌, ℕ, List, length, refl, sym, ◌∙◌}
+use Rattle.std.specs.Prelude.{Bool, nat_lt, ◌==◌, ◌&&◌, ◌||◌}
 use Rattle.std.proofs.Math.Bool.{or-false}
 use Rattle.disk_model.specs.Disk.{DiskState, IsCrashImage}
 use Rattle.flash_plan.specs.Outcomes.{same_entry, with_entry}
@@ -29,7 +29,7 @@ more_is R Q e same x = λ i. same_entry x e || same x i
 -- a journal in which the unit is begun and not complete
 pub may_complete_next : (j j2 : Journal) → IsUnbegun j → HasOneMore j j2 (Begun 0) → MayAppend j2 (Complete 0)
 may_complete_next j j2 was more = record {
-  named = subst (λ (n : ℕ). 0 < n) (sym (ap (λ (l : Label). l.units) more.label)) was.may.named;
+  named = (λ i. nat_lt 0 (length (more.label i).segments)) ∙ was.may.named;
   fresh = more.entries (Complete 0) ∙ was.fresh;
   prepared = more.entries (Begun 0);
 }

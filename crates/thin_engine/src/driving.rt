@@ -181,7 +181,7 @@ fn open_empty<S: Shop>(alloc: Global, shop: &mut S, plan: &Plan) -> Result<Journ
     ensures starved { IfErr result (λ e. IsTrue S.tells_disk → e ≡ Ended.NoMemory → (disk_now (S.history shop.new)).bytes ≡ []) }
     ensures later { IsDiskLater (S.history shop.old) (S.history shop.new) }
 {
-    match Journal::open(alloc, shop, &plan.digest(), 1) {
+    match Journal::open(alloc, shop, plan) {
         Ok(journal) => {
             if journal.may_append(Entry::Begun(0)) && !journal.has(Entry::Complete(0)) {
                 Ok(journal)

@@ -53,6 +53,3 @@ mod view;
 pub use logged::Logged;
 pub use pass::Pass;
 pub use turn::Turn;
-
-#[cfg(test)]
-mod tests;

@@ -9,8 +9,6 @@ mod read;
 mod reading;
 mod request;
 pub mod service;
-#[cfg(test)]
-mod tests;
 pub mod write;
 
 pub use code::is_listed_code;

@@ -26,6 +26,15 @@ pub const REQUEST_TRANSFER_EXIT: u8 = 0x37;
 
 pub const CONTROL_DTC_SETTING: u8 = 0x85;
 
+/// The session in which a unit is programmed (programmingSession).
+pub const PROGRAMMING_SESSION: u8 = 0x02;
+
+/// The routine that erases a range (eraseMemory).
+pub const ERASE_MEMORY: u16 = 0xff00;
+
+/// The routine that checks the whole (checkProgrammingDependencies).
+pub const CHECK_PROGRAMMING_DEPENDENCIES: u16 = 0xff01;
+
 /// A positive answer begins with the request's service and this more.
 pub const POSITIVE_RESPONSE: u8 = 0x40;
 /// A negative answer begins with this byte.

@@ -5,7 +5,10 @@ pub mod RegionMaps
 pub mod Regions
 pub mod RegionTests
 pub mod Rows
+pub mod Rules
+pub mod Saving
 pub mod Running
 pub mod Step
+pub mod Troubles
 pub mod Unit
 pub mod Vehicle

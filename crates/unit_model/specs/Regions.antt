@@ -1,6 +1,7 @@
 -- The byte map of regions.
 use Rattle.std.specs.Prelude.{◌≡◌, ℕ, ◌+◌, ◌-◌, ◌≤◌, slice_range, List, [], ◌∷◌, ◌++◌, length, replicate, true}
 use Rattle.flash_base.specs.ByteMaps.{MemoryMap, put, bytes_of, has_each}
+use Rattle.unit_model.specs.RegionTests.{LIMIT}
 use Rattle.unit_model.specs.declared.spec.RegionSpec.{RegionSpec}
 use Rattle.unit_model.specs.declared.spec.PatchSpec.{PatchSpec}
 
@@ -24,6 +25,7 @@ pub record IsPart (at most : ℕ) (memory : MemoryMap) (part : List ℕ) : Type 
   pub few : length part ≤ most
   pub has : has_each at (length part) memory ≡ true
   pub bytes : part ≡ bytes_of at (length part) memory
+  pub limit : at + length part ≤ LIMIT
 
 -- the next bytes of a range in one region
 pub record IsPartIn (first : ℕ) (bytes : List ℕ) (at most : ℕ) (part : List ℕ) : Type 0 where

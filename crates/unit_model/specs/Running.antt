@@ -1,5 +1,6 @@
 -- What a running unit stands for, and what a unit is made of.
-use Rattle.std.specs.Prelude.{◌≤◌, false, IsTrue, length, Option, None, Some}
+use Rattle.std.specs.Prelude.{◌≡◌, [], IsTrue, Option, None, Some}
+use Rattle.flash_base.specs.ByteMaps.{MemoryMap}
 use Rattle.unit_model.specs.declared.unit.Unit.{Unit as RunningUnit}
 use Rattle.unit_model.specs.declared.unit.Transfer.{Transfer}
 use Rattle.unit_model.specs.declared.spec.UnitSpec.{UnitSpec}
@@ -7,6 +8,8 @@ use Rattle.unit_model.specs.Unit.{ControlUnit, OpenTransfer, Counts}
 use Rattle.unit_model.specs.Regions.{filled, patched}
 use Rattle.unit_model.specs.RegionTests.{all_apart, spec_extents}
 use Rattle.unit_model.specs.Idents.{all_short}
+use Rattle.unit_model.specs.Rules.{is_kind, is_seed, is_rule, all_ranges, transfer_in, all_inside}
+use Rattle.unit_model.specs.Troubles.{all_troubles}
 
 -- no trouble so far
 abbrev pub calm : Counts
@@ -39,22 +42,32 @@ control_unit u = record {
   counts = calm;
 }
 
+-- the memory of a spec
+abbrev pub memory_in : UnitSpec → MemoryMap
+memory_in spec = patched spec.bytes (filled spec.regions)
+
 -- what a unit may be made of
 pub record IsUnitSpec (spec : UnitSpec) : Type 0 where
   pub regions : IsTrue (all_apart (spec_extents spec.regions))
+  pub bytes : IsTrue (all_inside (filled spec.regions) spec.bytes)
   pub idents : IsTrue (all_short spec.idents)
-  pub seed : length spec.seed ≤ 64
+  pub seed : IsTrue (is_seed spec.seed)
+  pub key : IsTrue (is_rule spec.key)
+  pub checked : IsTrue (all_ranges spec.checked)
+  pub kind : IsTrue (is_kind spec.kind)
+  pub transfer : IsTrue (transfer_in (filled spec.regions) spec.transfer)
+  pub troubles : IsTrue (all_troubles spec.troubles)
 
--- the unit of a spec: in the default session, locked, without a seed asked or a transfer open
+-- the unit of a spec, which had no trouble and was not woken so far
 abbrev pub unit_of : UnitSpec → ControlUnit
 unit_of spec = record {
   address = spec.address;
-  session = 1;
-  unlocked = false;
+  session = spec.kind;
+  unlocked = spec.unlocked;
   seed = spec.seed;
-  last_seed = None;
-  memory = patched spec.bytes (filled spec.regions);
-  transfer = None;
+  last_seed = spec.last_seed;
+  memory = memory_in spec;
+  transfer = open_of spec.transfer;
   checked = spec.checked;
   passed = spec.passed;
   heard = spec.heard;
@@ -67,3 +80,9 @@ unit_of spec = record {
   check = spec.check;
   counts = calm;
 }
+
+-- the spec of a unit, with no trouble
+pub record IsSpecOf (u : RunningUnit) (spec : UnitSpec) : Type 0 where
+  pub is : IsUnitSpec spec
+  pub unit : unit_of spec ≡ record (control_unit u) { woken = 0 }
+  pub untroubled : spec.troubles ≡ []

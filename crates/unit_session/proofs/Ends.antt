@@ -149,13 +149,13 @@ module _ (u : UnitPlan) (marks : ℕ → Bool) (body rest : List ℕ) (o : Outco
 module _ (u : UnitPlan) (tick : ℕ) (body : List ℕ) (t : Talk) (o : Outcome) (open_place : is_ended t.place ≡ false) where
   later_ends : body ≡ 127 ∷ sid_at u t ∷ 120 ∷ [] → (talk_judged u tick Pending t).place ≡ AtEnd o → AnswerEnds u t body o
   later_ends is e = elim (cases_Bool (t.pendings == 200)) [
-    | inl full ↦ (let other : PendingLimit (sid_at u t) ≡ o = ap end_of (rw full at e) in subst (AnswerEnds u t body) other (is, eqb-true t.pendings 200 full))
+    | inl full ↦ (let other : PendingLimit (sid_at u t) ≡ o = ap end_of (rw full at e) in subst (AnswerEnds u t body) other (is, refl, eqb-true t.pendings 200 full))
     | inr room ↦ ended_not t.place o open_place (rw room at e)
   ]
 
   again_ends : body ≡ 127 ∷ sid_at u t ∷ 33 ∷ [] → (talk_judged u tick Busy t).place ≡ AtEnd o → AnswerEnds u t body o
   again_ends is e = elim (cases_Bool (t.busies == 20)) [
-    | inl full ↦ (let other : BusyLimit (sid_at u t) ≡ o = ap end_of (rw full at e) in subst (AnswerEnds u t body) other (is, eqb-true t.busies 20 full))
+    | inl full ↦ (let other : BusyLimit (sid_at u t) ≡ o = ap end_of (rw full at e) in subst (AnswerEnds u t body) other (is, refl, eqb-true t.busies 20 full))
     | inr room ↦ ended_not t.place o open_place (rw room at e)
   ]
 
@@ -166,7 +166,7 @@ module _ (u : UnitPlan) (tick : ℕ) (body : List ℕ) (t : Talk) (o : Outcome) 
         (let e2 : (talk_judged u tick (if nrc == 33 then Busy else Refusal nrc) t).place ≡ AtEnd o = rw a at e in
         elim (cases_Bool (nrc == 33)) [
           | inl b ↦ again_ends (is ∙ ap (λ (k : ℕ). 127 ∷ sid_at u t ∷ k ∷ []) (eqb-true nrc 33 b)) (rw b at e2)
-          | inr b ↦ (let other : Refused (sid_at u t) nrc ≡ o = ap end_of (rw b at e2) in subst (AnswerEnds u t body) other is)
+          | inr b ↦ (let other : Refused (sid_at u t) nrc ≡ o = ap end_of (rw b at e2) in subst (AnswerEnds u t body) other (is, refl))
         ])
   ]
 

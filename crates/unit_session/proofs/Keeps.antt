@@ -1,5 +1,5 @@
 -- What a session keeps, and how an answer is heard.
-use Rattle.std.proofs.Common.{◌≡◌, inl, inr, ℕ, zero, suc, ◌+◌, ◌-◌, ◌*◌, ◌<◌, ◌≤◌, true, false, List, [], ◌∷◌, ◌++◌, length, take, drop, refl, sym, ◌∙◌, ap, subst, arith, length-drop, add-one, drop-cons}
+use Rattle.std.proofs.Common.{◌≡◌, inl, inr, ℕ, zero, suc, ◌+◌, ◌-◌, ◌*◌, ◌<◌, ◌≤◌, true, false, List, [], ◌∷◌, ◌++◌, length, take, drop, refl, sym, ◌∙◌, ap, subst, arith, length-drop, add-one, drop-cons, slice_get}
 use Rattle.std.specs.Prelude.{Bool, Option, Some, None, ◌==◌, ◌||◌, min}
 use Rattle.std.proofs.lemmas.Bool.{cases_Bool, false≢true, ne_eqb}
 use Rattle.std.proofs.lemmas.List.{take-append-drop}
@@ -13,26 +13,27 @@ use Rattle.flash_plan.specs.declared.outcome.Outcome.TheVariants.{Refused, BadAn
 use Rattle.flash_plan.specs.declared.unit.Segment.{Segment}
 use Rattle.flash_plan.specs.declared.unit.UnitPlan.{UnitPlan}
 use Rattle.flash_plan.specs.declared.unit.Wanted.{Wanted}
-use Rattle.run_model.proofs.Along.{IsGoodPlace, says}
+use Rattle.run_model.proofs.Along.{IsGoodPlace, says, idents_good, good_form, seed_rest, number_rest}
 use Rattle.run_model.specs.Entries.{with_mark}
 use Rattle.run_model.specs.Places.{needs_request}
 use Rattle.run_model.specs.Script as script
 use Rattle.run_model.specs.Script.{Cursor, Blocks, Place, AtIdent, AtBegin, AtProgram, AtSeed, AtKey, AtErase, AtDownload, AtBlock, AtExit, AtCheck, AtMark, AtFinish, AtReset, AtDone, AtEnd, request_at, bytes_at, place_judged, place_next, place_marked, routine_at, idents_from, segments_from, after_program, start_place, more_blocks, after_block, is_empty, has_value, ask_at}
-use Rattle.run_model.specs.Talk.{Talk, talk_hears, talk_judged}
-use Rattle.run_model.specs.Ways.{Reply}
-use Rattle.uds_codec.specs.Answer.{Verdict, Pending, Busy, Refusal, Accepted, BadStatus, Malformed, judge, form_in}
+use Rattle.run_model.specs.Talk.{Talk}
+use Rattle.uds_codec.specs.Answer.{Verdict, Pending, Busy, Refusal, Accepted, BadStatus, Malformed, judge}
+use Rattle.uds_codec.specs.Awaited.{IsJudged, awaited_by}
 use Rattle.uds_codec.specs.Key.{all_zero}
 use Rattle.uds_codec.specs.Request.{sid_of}
-use Rattle.unit_session.specs.Judging.{judged, verdict_of, IsFront}
+use Rattle.uds_codec.specs.declared.judging.Awaited.{Awaited}
+use Rattle.uds_codec.specs.declared.judging.Awaited.TheVariants as awaited
+use Rattle.uds_codec.specs.declared.request.Request.{Request}
+use Rattle.uds_codec.specs.declared.request.Request.TheVariants.{ReadId}
 use Rattle.unit_session.specs.Left.{left_for, requests_left}
-use Rattle.unit_session.specs.Onward.{IsFinalForm, sid_at, erase_next}
-use Rattle.unit_session.specs.Session.{place_at, IsStage, KnowsNext, cursor_at, open_from, asked, settled, IsFewer}
-use Rattle.unit_session.specs.declared.judging.Front.{Front}
+use Rattle.unit_session.specs.Onward.{IsAwaitedAt, HasRecord, sid_at, erase_next}
+use Rattle.unit_session.specs.Session.{place_at, IsStage, KnowsNext, cursor_at, open_from, asked, IsFewer}
 use Rattle.unit_session.specs.declared.session.Ask.TheVariants as ask
 use Rattle.unit_session.specs.declared.stage.Stage.{Stage}
 use Rattle.unit_session.specs.declared.stage.Stage.TheVariants.{Ident, Program, Seed, Key, Erase, Download, Block, Exit, Check, Mark, Finish, Reset, Done, Ended}
-use Rattle.unit_session.proofs.Forms.{judged_by}
-use Rattle.unit_session.proofs.Leads.{take_here, done_count, leaves_open, open_stage, open_same}
+use Rattle.unit_session.proofs.Leads.{ident_place, take_here, done_count, leaves_open, open_stage, open_same}
 
 -- ------ each stage is a place of the script
 each_drop : {T : Type 0} (P : T → Type 0) (xs : List T) (n : ℕ) → Each P xs → Each P (drop n xs)
@@ -40,17 +41,13 @@ each_drop P xs zero all = all
 each_drop P [] (suc n) all = all
 each_drop P (x ∷ xs) (suc n) all = each_drop P xs n all.1
 
-ident_good : (u : UnitPlan) (ws : List Wanted) → Each IsWanted ws → IsGoodPlace u (idents_from ws)
-ident_good u [] all = record { place_is = tt; asked = tt }
-ident_good u (w ∷ ws) all = record { place_is = tt; asked = all }
-
 cursor_is : (u : UnitPlan) (n : ℕ) → n < length u.segments → take n u.segments ++ (segment_of u n ∷ drop (n + 1) u.segments) ≡ u.segments
 cursor_is u n lt =
     let e : drop n u.segments ≡ segment_of u n ∷ drop (suc n) u.segments = drop-cons u.segments n no_segment lt in
     ap (λ (xs : List Segment). take n u.segments ++ xs) (sym (e ∙ ap (λ (k : ℕ). segment_of u n ∷ drop k u.segments) (sym (add-one n)))) ∙ take-append-drop n u.segments
 
 pub stage_good : (u : UnitPlan) (stage : Stage) → IsAcceptedUnit u → IsStage u stage → IsGoodPlace u (place_at u stage)
-stage_good u (Ident n) ok is = ident_good u (drop n u.idents) (each_drop IsWanted u.idents n ok.idents)
+stage_good u (Ident n) ok is = idents_good u (drop n u.idents) (each_drop IsWanted u.idents n ok.idents)
 stage_good u Program ok is = record { place_is = tt; asked = tt }
 stage_good u Seed ok is = record { place_is = tt; asked = is }
 stage_good u (Key seed) ok is = record { place_is = tt; asked = (is.keyed, is.some, is.few) }
@@ -97,26 +94,68 @@ sid_is u Done needs = absurd (false≢true needs)
 sid_is u (Ended outcome) needs = absurd (false≢true needs)
 
 -- ------ how an answer is heard
-pub heard_front : (u : UnitPlan) (stage : Stage) (reply : List ℕ) (said : Front) (sid : ℕ) → IsAcceptedUnit u → IsStage u stage → needs_request (place_at u stage) ≡ true → sid ≡ sid_at stage → IsFront sid reply said
-    → judge (bytes_at u (place_at u stage)) reply ≡ verdict_of said (form_in (request_at u (place_at u stage))) reply
-heard_front u stage reply said sid ok is needs at front =
+some_request : (u : UnitPlan) (place : Place) → needs_request place ≡ true → (r : Request) × (request_at u place ≡ Some r)
+some_request u (AtIdent w ws) needs = (_, refl)
+some_request u AtBegin needs = absurd (false≢true needs)
+some_request u AtProgram needs = (_, refl)
+some_request u (AtSeed level) needs = (_, refl)
+some_request u (AtKey level seed) needs = (_, refl)
+some_request u (AtErase c) needs = (_, refl)
+some_request u (AtDownload c) needs = (_, refl)
+some_request u (AtBlock c b) needs = (_, refl)
+some_request u (AtExit c) needs = (_, refl)
+some_request u (AtCheck c) needs = (_, refl)
+some_request u (AtMark c) needs = absurd (false≢true needs)
+some_request u AtFinish needs = (_, refl)
+some_request u AtReset needs = (_, refl)
+some_request u AtDone needs = absurd (false≢true needs)
+some_request u (AtEnd outcome) needs = absurd (false≢true needs)
+
+pub ident_awaited : (u : UnitPlan) (n : ℕ) (w : Wanted) → slice_get u.idents n ≡ Some w → IsAwaitedAt u (Ident n) (awaited.ReadId w.did)
+ident_awaited u n w is r e =
+    let whole : Some (ReadId w.did) ≡ Some r = ap (request_at u) (sym (ident_place u n w is)) ∙ e in
+    let same : ReadId w.did ≡ r = cc in
+    sym (ap awaited_by same)
+
+-- what was judged of an answer by what is awaited is the verdict on it
+pub heard_by : (u : UnitPlan) (stage : Stage) (reply : List ℕ) (a : Awaited) (v : Verdict) → IsAcceptedUnit u → IsStage u stage → needs_request (place_at u stage) ≡ true → IsAwaitedAt u stage a → IsJudged a reply v
+    → judge (bytes_at u (place_at u stage)) reply ≡ v
+heard_by u stage reply a v ok is needs at judged =
     let good = stage_good u stage ok is in
-    judged_by u (place_at u stage) reply (says u (place_at u stage) ok good.place_is good.asked needs).reads
-    ∙ ap (λ (k : ℕ). judged k (form_in (request_at u (place_at u stage))) reply) (sid_is u stage needs ∙ sym at)
-    ∙ front (form_in (request_at u (place_at u stage)))
+    let r = some_request u (place_at u stage) needs in
+    judged (bytes_at u (place_at u stage)) r.0 ((says u (place_at u stage) ok good.place_is good.asked needs).reads ∙ r.1) (at r.0 r.1)
 
-settled_judged : (u : UnitPlan) (tick : ℕ) (t : Talk) (v : Verdict) → IsFinalForm v → talk_judged u tick v t ≡ settled (place_judged u t.marks t.place v) t
-settled_judged u tick t Pending final = absurd final
-settled_judged u tick t Busy final = absurd final
-settled_judged u tick t (Refusal nrc) final = refl
-settled_judged u tick t (Accepted rest) final = refl
-settled_judged u tick t (BadStatus status) final = refl
-settled_judged u tick t Malformed final = refl
+-- a positive answer is in the form of its request
+pub has_record : (u : UnitPlan) (stage : Stage) (reply rest : List ℕ) → IsAcceptedUnit u → IsStage u stage → needs_request (place_at u stage) ≡ true → judge (bytes_at u (place_at u stage)) reply ≡ Accepted rest → HasRecord stage rest
+has_record u (Ident n) reply rest ok is needs good = tt
+has_record u Program reply rest ok is needs good = tt
+has_record u Seed reply rest ok is needs good =
+    let at = stage_good u Seed ok is in
+    let f = good_form u ok reply rest (bytes_at u (place_at u Seed)) reply _ (says u (place_at u Seed) ok at.place_is at.asked needs).reads good in
+    seed_rest u ok reply rest _ f.0 f.1
+has_record u (Key seed) reply rest ok is needs good = tt
+has_record u (Erase n) reply rest ok is needs good = tt
+has_record u (Download n) reply rest ok is needs good =
+    let at = stage_good u (Download n) ok is in
+    let f = good_form u ok reply rest (bytes_at u (place_at u (Download n))) reply _ (says u (place_at u (Download n)) ok at.place_is at.asked needs).reads good in
+    number_rest u ok reply rest f.0 f.1
+has_record u (Block n sent counter limit) reply rest ok is needs good = tt
+has_record u (Exit n) reply rest ok is needs good = tt
+has_record u (Check n) reply rest ok is needs good = tt
+has_record u (Mark n next) reply rest ok is needs good = tt
+has_record u Finish reply rest ok is needs good = tt
+has_record u Reset reply rest ok is needs good = tt
+has_record u Done reply rest ok is needs good = tt
+has_record u (Ended outcome) reply rest ok is needs good = tt
 
--- a final answer
-pub heard_final : (u : UnitPlan) (tick : ℕ) (t : Talk) (reply : List ℕ) (v : Verdict) (place : Place) → judge (bytes_at u t.place) reply ≡ v → IsFinalForm v → place ≡ place_judged u t.marks t.place v → talk_hears u tick (Reply reply) t ≡ settled place t
-heard_final u tick t reply v place is final to =
-    ap (λ (w : Verdict). talk_judged u tick w t) is ∙ settled_judged u tick t v final ∙ ap (λ (p : Place). settled p t) (sym to)
+-- neither a response pending nor a busy answer
+abbrev pub IsFinalForm : Verdict → Type 0
+IsFinalForm Pending = ⊥
+IsFinalForm Busy = ⊥
+IsFinalForm (Refusal nrc) = Unit {0}
+IsFinalForm (Accepted rest) = Unit {0}
+IsFinalForm (BadStatus status) = Unit {0}
+IsFinalForm Malformed = Unit {0}
 
 -- ------ fewer requests are left behind each
 left_segments : (u : UnitPlan) (marks : ℕ → Bool) (done ss : List Segment) → requests_left u (segments_from marks done ss) ≤ left_for ss

@@ -1,27 +1,23 @@
--- What each answer leads to, by the numbers of a session.
+-- What each positive answer leads to, by the numbers of a session.
 use Rattle.std.proofs.Common.{◌≡◌, inl, inr, ℕ, zero, suc, ◌+◌, ◌-◌, ◌<◌, ◌≤◌, true, false, List, [], ◌∷◌, ◌++◌, length, take, drop, Some, None, refl, sym, ◌∙◌, ap, subst, arith, slice_get, length-take, add-one, take-suc, drop-cons}
-use Rattle.std.specs.Prelude.{Bool, Option, ◌==◌, ◌&&◌, nat_le, nat_lt, if◌then◌else◌, slice_index_or}
+use Rattle.std.specs.Prelude.{Bool, Option, ◌==◌, nat_lt, min, slice_index_or}
 use Rattle.std.proofs.lemmas.Bool.{cases_Bool, cases_lt, lt-ltb, le-ltb, false≢true}
 use Rattle.std.proofs.lemmas.List.{drop_all}
-use Rattle.flash_base.specs.Numbers.{big_endian}
+use Rattle.flash_base.specs.Numbers.{number_of}
 use Rattle.flash_base.specs.declared.unit.KeyRule.TheVariants.{Free}
 use Rattle.flash_plan.specs.Plan.{IsAcceptedUnit, size_of, no_segment, segment_of}
-use Rattle.flash_plan.specs.declared.outcome.Outcome.TheVariants.{IdentMismatch, BadAnswer, CheckFailed}
+use Rattle.flash_plan.specs.declared.outcome.Outcome.TheVariants.{IdentMismatch}
 use Rattle.flash_plan.specs.declared.unit.Segment.{Segment}
 use Rattle.flash_plan.specs.declared.unit.UnitPlan.{UnitPlan}
 use Rattle.flash_plan.specs.declared.unit.Wanted.{Wanted}
-use Rattle.run_model.specs.Script.{Blocks, Place, AtIdent, AtEnd, request_at, bytes_at, place_judged, place_next, routine_at, idents_from, segments_from, after_program, more_blocks, is_empty, has_value}
-use Rattle.uds_codec.specs.Answer.{Verdict, Accepted, BadStatus, Malformed, form_in, routine_form, seed_form}
-use Rattle.uds_codec.specs.Key.{level_of, all_zero}
-use Rattle.uds_codec.specs.Request.{sid_of}
+use Rattle.run_model.specs.Script.{Blocks, Place, AtIdent, AtEnd, place_next, idents_from, segments_from, after_program, more_blocks, is_empty, has_value}
+use Rattle.uds_codec.specs.Key.{all_zero}
 use Rattle.unit_model.specs.Unit.{next_counter}
-use Rattle.unit_session.specs.Judging.{starts_with, names_id, status_in}
-use Rattle.unit_session.specs.Onward.{IsFinalForm, LeadsTo, routine_next, blocks_from, erase_next}
-use Rattle.unit_session.specs.Session.{place_at, IsStage, IsBlockStage, KnowsNext, cursor_at, seed_bytes, level_or_none, first_open, open_from}
+use Rattle.unit_session.specs.Onward.{LeadsTo, blocks_from, erase_next}
+use Rattle.unit_session.specs.Session.{place_at, IsStage, IsBlockStage, KnowsNext, cursor_at, seed_bytes, first_open, open_from}
 use Rattle.unit_session.specs.declared.stage.KeptSeed.{KeptSeed}
 use Rattle.unit_session.specs.declared.stage.Stage.{Stage}
-use Rattle.unit_session.specs.declared.stage.Stage.TheVariants.{Ident, Program, Seed, Key, Erase, Download, Block, Check, Mark, Finish, Reset, Ended}
-use Rattle.unit_session.proofs.Forms.{after_true, named_true, named_false, status_verdict, routine_by}
+use Rattle.unit_session.specs.declared.stage.Stage.TheVariants.{Ident, Program, Seed, Key, Download, Block, Check, Mark, Ended}
 
 drop_from : {T : Type 0} (xs : List T) (n : ℕ) (x : T) → slice_get xs n ≡ Some x → drop n xs ≡ x ∷ drop (suc n) xs
 drop_from [] n x is = cc
@@ -145,86 +141,41 @@ pub body_small : (u : UnitPlan) (n : ℕ) → IsAcceptedUnit u → length (segme
 body_small u n ok = omega (arith, size_within u.segments n, ok.bytes)
 
 -- ------ identifiers
-pub ident_bytes : (u : UnitPlan) (n : ℕ) (w : Wanted) → slice_get u.idents n ≡ Some w → bytes_at u (place_at u (Ident n)) ≡ 34 ∷ big_endian 2 w.did
-ident_bytes u n w is = ap (bytes_at u) (ap idents_from (drop_at u.idents n w is))
+pub ident_place : (u : UnitPlan) (n : ℕ) (w : Wanted) → slice_get u.idents n ≡ Some w → place_at u (Ident n) ≡ AtIdent w (drop (n + 1) u.idents)
+ident_place u n w is = ap idents_from (drop_at u.idents n w is)
 
 module _ (u : UnitPlan) (marks : ℕ → Bool) where
-  led : (stage : Stage) (rest : List ℕ) (next : Stage) (place : Place) (v : Verdict) → IsFinalForm v → place_at u stage ≡ place → form_in (request_at u place) rest ≡ v
-      → place_at u next ≡ place_judged u marks place v → IsStage u next → KnowsNext u marks next → LeadsTo u marks stage rest next
-  led stage rest next place v final at form to is known = record {
-    place = to ∙ ap (place_judged u marks place) (sym form) ∙ (λ i. place_judged u marks (sym at i) (form_in (request_at u (sym at i)) rest));
-    final = subst IsFinalForm (sym form ∙ (λ i. form_in (request_at u (sym at i)) rest)) final;
-    fits = is;
-    known = known;
-  }
-
   erase_knows : (next : Option ℕ) → KnowsNext u marks (erase_next next)
   erase_knows None = tt
   erase_knows (Some n) = tt
 
   -- ------ the unit is open
   -- a positive answer behind which the first segment follows that is not marked
-  open_leads : (stage : Stage) (rest more : List ℕ) → form_in (request_at u (place_at u stage)) rest ≡ Accepted more → place_next u marks (place_at u stage) more ≡ segments_from marks [] u.segments
-      → LeadsTo u marks stage rest (erase_next (open_from u marks 0))
-  open_leads stage rest more form to =
-      led stage rest (erase_next (open_from u marks 0)) (place_at u stage) (Accepted more) tt refl form (sym (to ∙ leaves_open u marks 0 (omega arith))) (open_stage u marks 0 (omega arith)) (erase_knows (open_from u marks 0))
+  open_leads : (stage : Stage) (rest : List ℕ) → place_next u marks (place_at u stage) rest ≡ segments_from marks [] u.segments → LeadsTo u marks stage rest (erase_next (open_from u marks 0))
+  open_leads stage rest to = record { place = sym (to ∙ leaves_open u marks 0 (omega arith)); fits = open_stage u marks 0 (omega arith); known = erase_knows (open_from u marks 0) }
 
-  pub program_opens : (rest : List ℕ) → u.key ≡ Free → starts_with 2 rest ≡ true → LeadsTo u marks Program rest (erase_next (open_from u marks 0))
-  program_opens rest free is = open_leads Program rest (drop 1 rest) (after_true 2 rest Accepted is) (ap (after_program u marks) free)
+  pub program_opens : (rest : List ℕ) → u.key ≡ Free → LeadsTo u marks Program rest (erase_next (open_from u marks 0))
+  program_opens rest free = open_leads Program rest (ap (after_program u marks) free)
 
-  pub key_opens : (seed : KeptSeed) (rest : List ℕ) (level : ℕ) → level ≡ level_or_none (level_of u.key) → starts_with (level + 1) rest ≡ true → LeadsTo u marks (Key seed) rest (erase_next (open_from u marks 0))
-  key_opens seed rest level at is = open_leads (Key seed) rest (drop 1 rest) (after_true _ rest Accepted (ap (λ (k : ℕ). starts_with (k + 1) rest) (sym at) ∙ is)) refl
+  pub key_opens : (seed : KeptSeed) (rest : List ℕ) → LeadsTo u marks (Key seed) rest (erase_next (open_from u marks 0))
+  key_opens seed rest = open_leads (Key seed) rest refl
 
-  -- ------ routines
-  routine_leads : (stage : Stage) (place : Place) (rest : List ℕ) (id n : ℕ) (next : Stage) → place_at u stage ≡ place → ((xs : List ℕ) → form_in (request_at u place) xs ≡ routine_form id xs) → sid_of (bytes_at u place) ≡ 49 → routine_at u place ≡ (id, n)
-      → ((more : List ℕ) → place_next u marks place more ≡ place_at u next) → IsStage u next → KnowsNext u marks next → (o : Option ℕ) → status_in id rest ≡ o → LeadsTo u marks stage rest (routine_next o id n next)
-  routine_leads stage place rest id n next at form sid routine to is known None said =
-      led stage rest _ place Malformed tt at (form rest ∙ routine_by id rest ∙ ap (λ (o : Option ℕ). status_verdict o (drop 4 rest)) said) (ap (λ (k : ℕ). AtEnd (BadAnswer k)) (sym sid)) tt tt
-  routine_leads stage place rest id n next at form sid routine to is known (Some status) said = elim (cases_Bool (status == 0)) [
-    | inl e ↦
-        let v : form_in (request_at u place) rest ≡ Accepted (drop 4 rest) = form rest ∙ routine_by id rest ∙ ap (λ (o : Option ℕ). status_verdict o (drop 4 rest)) said ∙ ap (λ (b : Bool). if b then Accepted (drop 4 rest) else BadStatus status) e in
-        rw e (led stage rest next place (Accepted (drop 4 rest)) tt at v (sym (to (drop 4 rest))) is known)
-    | inr e ↦
-        let v : form_in (request_at u place) rest ≡ BadStatus status = form rest ∙ routine_by id rest ∙ ap (λ (o : Option ℕ). status_verdict o (drop 4 rest)) said ∙ ap (λ (b : Bool). if b then Accepted (drop 4 rest) else BadStatus status) e in
-        rw e (led stage rest (Ended (CheckFailed id n status)) place (BadStatus status) tt at v (ap (λ (x : ℕ × ℕ). AtEnd (CheckFailed x.0 x.1 status)) (sym routine)) tt tt)
-  ]
+  pub seed_opens : (seed : List ℕ) → all_zero seed ≡ true → LeadsTo u marks Seed seed (erase_next (open_from u marks 0))
+  seed_opens seed nil = open_leads Seed seed (rw nil refl)
 
-  pub erase_leads : (n : ℕ) (rest : List ℕ) → n < length u.segments → LeadsTo u marks (Erase n) rest (routine_next (status_in 65280 rest) 65280 n (Download n))
-  erase_leads n rest lt = routine_leads (Erase n) _ rest 65280 n (Download n) refl (λ xs. refl) refl (λ i. (65280, done_count u marks n (omega (arith, lt)) i)) (λ more. refl) lt tt _ refl
-
-  pub check_leads : (n : ℕ) (rest : List ℕ) → n < length u.segments → LeadsTo u marks (Check n) rest (routine_next (status_in u.check rest) u.check n (Mark n (open_from u marks (n + 1))))
-  check_leads n rest lt =
-      routine_leads (Check n) _ rest u.check n (Mark n (open_from u marks (n + 1))) refl (λ xs. refl) refl (λ i. (u.check, done_count u marks n (omega (arith, lt)) i)) (λ more. refl) lt refl _ refl
-
-  pub finish_leads : (rest : List ℕ) → LeadsTo u marks Finish rest (routine_next (status_in 65281 rest) 65281 (length u.segments) Reset)
-  finish_leads rest = routine_leads Finish _ rest 65281 (length u.segments) Reset refl (λ xs. refl) refl refl (λ more. refl) tt tt _ refl
-
-  -- ------ session, seed and key
-  seed_form_at : (rest : List ℕ) (level : ℕ) → level ≡ level_or_none (level_of u.key) → starts_with level rest ≡ true → form_in (request_at u (place_at u Seed)) rest ≡ seed_form (drop 1 rest)
-  seed_form_at rest level at is = after_true _ rest seed_form (ap (λ (k : ℕ). starts_with k rest) (sym at) ∙ is)
-
-  pub seed_opens : (rest seed : List ℕ) (level : ℕ) → level ≡ level_or_none (level_of u.key) → starts_with level rest ≡ true → seed ≡ drop 1 rest → (nat_le 1 (length seed) && nat_le (length seed) 32) ≡ true → all_zero seed ≡ true
-      → LeadsTo u marks Seed rest (erase_next (open_from u marks 0))
-  seed_opens rest seed level at is eq good z =
-      open_leads Seed rest seed (seed_form_at rest level at is ∙ ap seed_form (sym eq) ∙ ap (λ (b : Bool). if b then Accepted seed else Malformed) good) (rw z refl)
-
-  pub seed_kept : (rest seed : List ℕ) (kept : KeptSeed) (level : ℕ) → level ≡ level_or_none (level_of u.key) → starts_with level rest ≡ true → seed ≡ drop 1 rest → (nat_le 1 (length seed) && nat_le (length seed) 32) ≡ true → all_zero seed ≡ false → seed_bytes kept ≡ seed
-      → IsStage u (Key kept) → LeadsTo u marks Seed rest (Key kept)
-  seed_kept rest seed kept level at is eq good z bytes stage =
-      led Seed rest (Key kept) _ (Accepted seed) tt refl (seed_form_at rest level at is ∙ ap seed_form (sym eq) ∙ ap (λ (b : Bool). if b then Accepted seed else Malformed) good) (rw (z, bytes) refl) stage tt
+  pub seed_kept : (seed : List ℕ) (kept : KeptSeed) → all_zero seed ≡ false → seed_bytes kept ≡ seed → IsStage u (Key kept) → LeadsTo u marks Seed seed (Key kept)
+  seed_kept seed kept other bytes stage = record { place = rw (other, bytes) refl; fits = stage; known = tt }
 
   -- ------ identifiers
-  ident_place : (n : ℕ) (w : Wanted) → slice_get u.idents n ≡ Some w → place_at u (Ident n) ≡ AtIdent w (drop (n + 1) u.idents)
-  ident_place n w is = ap idents_from (drop_at u.idents n w is)
+  pub ident_expected : (n : ℕ) (w : Wanted) (value : List ℕ) → slice_get u.idents n ≡ Some w → has_value w.values value ≡ true → n + 1 ≤ length u.idents → LeadsTo u marks (Ident n) value (Ident (n + 1))
+  ident_expected n w value is has le =
+      let next : place_next u marks (AtIdent w (drop (n + 1) u.idents)) value ≡ idents_from (drop (n + 1) u.idents) = rw has refl in
+      record { place = sym (ap (λ (p : Place). place_next u marks p value) (ident_place u n w is) ∙ next); fits = le; known = tt }
 
-  pub ident_bad : (n : ℕ) (w : Wanted) (rest : List ℕ) → slice_get u.idents n ≡ Some w → names_id w.did rest ≡ false → LeadsTo u marks (Ident n) rest (Ended (BadAnswer 34))
-  ident_bad n w rest is bad = led (Ident n) rest _ _ Malformed tt (ident_place n w is) (named_false w.did rest bad) refl tt tt
-
-  pub ident_expected : (n : ℕ) (w : Wanted) (rest : List ℕ) → slice_get u.idents n ≡ Some w → names_id w.did rest ≡ true → has_value w.values (drop 2 rest) ≡ true → n + 1 ≤ length u.idents → LeadsTo u marks (Ident n) rest (Ident (n + 1))
-  ident_expected n w rest is good has le = led (Ident n) rest _ _ (Accepted (drop 2 rest)) tt (ident_place n w is) (named_true w.did rest good) (rw has refl) le tt
-
-  pub ident_other : (n : ℕ) (w : Wanted) (rest : List ℕ) → slice_get u.idents n ≡ Some w → names_id w.did rest ≡ true → has_value w.values (drop 2 rest) ≡ false → LeadsTo u marks (Ident n) rest (Ended (IdentMismatch w.did))
-  ident_other n w rest is good has = led (Ident n) rest _ _ (Accepted (drop 2 rest)) tt (ident_place n w is) (named_true w.did rest good) (rw has refl) tt tt
+  pub ident_other : (n : ℕ) (w : Wanted) (value : List ℕ) → slice_get u.idents n ≡ Some w → has_value w.values value ≡ false → LeadsTo u marks (Ident n) value (Ended (IdentMismatch w.did))
+  ident_other n w value is has =
+      let next : place_next u marks (AtIdent w (drop (n + 1) u.idents)) value ≡ AtEnd (IdentMismatch w.did) = rw has refl in
+      record { place = sym (ap (λ (p : Place). place_next u marks p value) (ident_place u n w is) ∙ next); fits = tt; known = tt }
 
   -- ------ blocks
   abbrev blocks_at : ℕ → ℕ → ℕ → ℕ → Blocks
@@ -245,11 +196,22 @@ module _ (u : UnitPlan) (marks : ℕ → Bool) where
   blocks_know : (n k counter limit : ℕ) → KnowsNext u marks (blocks_from (length (segment_of u n).body) n k counter limit)
   blocks_know n k counter limit = elim (cases_Bool (nat_lt k (length (segment_of u n).body))) [ inl e ↦ rw e tt | inr e ↦ rw e tt ]
 
-  pub block_leads : (n sent counter limit : ℕ) (rest : List ℕ) → IsBlockStage u n sent limit → starts_with counter rest ≡ true
+  pub block_leads : (n sent counter limit : ℕ) (rest : List ℕ) → IsBlockStage u n sent limit
       → LeadsTo u marks (Block n sent counter limit) rest (blocks_from (length (segment_of u n).body) n (sent + (limit - 2)) (next_counter counter) limit)
-  block_leads n sent counter limit rest is good =
-      led (Block n sent counter limit) rest _ _ (Accepted (drop 1 rest)) tt refl (after_true counter rest Accepted good)
-      (sym ((λ i. more_blocks (cursor_at u n) (record { sent = take_more sent (limit - 2) (segment_of u n).body i; rest = drop_more sent (limit - 2) (segment_of u n).body i; counter = next_counter counter; limit = limit }))
-      ∙ from_there n (sent + (limit - 2)) (next_counter counter) limit))
-      (blocks_stage n (sent + (limit - 2)) (next_counter counter) limit is.segment is.low is.high)
-      (blocks_know n (sent + (limit - 2)) (next_counter counter) limit)
+  block_leads n sent counter limit rest is = record {
+    place = sym ((λ i. more_blocks (cursor_at u n) (record { sent = take_more sent (limit - 2) (segment_of u n).body i; rest = drop_more sent (limit - 2) (segment_of u n).body i; counter = next_counter counter; limit = limit }))
+        ∙ from_there n (sent + (limit - 2)) (next_counter counter) limit);
+    fits = blocks_stage n (sent + (limit - 2)) (next_counter counter) limit is.segment is.low is.high;
+    known = blocks_know n (sent + (limit - 2)) (next_counter counter) limit;
+  }
+
+  pub download_leads : (n limit : ℕ) (number : List ℕ) → n < length u.segments → 3 ≤ number_of number → limit ≡ min (number_of number) 65535
+      → LeadsTo u marks (Download n) number (blocks_from (length (segment_of u n).body) n 0 1 limit)
+  download_leads n limit number lt some is = record {
+    place = sym (ap (λ (k : ℕ). more_blocks (cursor_at u n) (record { sent = []; rest = (segment_of u n).body; counter = 1; limit = k })) (sym is) ∙ from_there n 0 1 limit);
+    fits = blocks_stage n 0 1 limit lt (omega (arith, is, some)) (omega (arith, is));
+    known = blocks_know n 0 1 limit;
+  }
+
+  pub check_leads : (n : ℕ) (next : Option ℕ) (rest : List ℕ) → n < length u.segments → next ≡ open_from u marks (n + 1) → LeadsTo u marks (Check n) rest (Mark n next)
+  check_leads n next rest lt is = record { place = refl; fits = lt; known = is }

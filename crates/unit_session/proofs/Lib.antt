@@ -3,3 +3,4 @@ pub mod Forms
 pub mod Keeps
 pub mod Leads
 pub mod Wholes
+pub mod Spotting

@@ -21,14 +21,15 @@ pub record IsOther (u : UnitPlan) (t : Talk) (body : List ℕ) (did : ℕ) : Typ
   pub other : has_value wanted.values value ≡ false
 
 -- An answer ends a conversation so: a refusal with its code; a routine's status; a value that is not expected; a form that is
--- not the request's; the 201st response pending (code 78) to a sending, the 21st busy answer (code 21) to a request.
+-- not the request's; the 201st response pending (code 78) to a sending, the 21st busy answer (code 21) to a request. The service
+-- is always that of the request whose answer was awaited.
 abbrev pub AnswerEnds : UnitPlan → Talk → List ℕ → Outcome → Type 0
-AnswerEnds u t body (Refused sid nrc) = body ≡ 127 ∷ sid ∷ nrc ∷ []
+AnswerEnds u t body (Refused sid nrc) = (body ≡ 127 ∷ sid ∷ nrc ∷ []) × (sid ≡ sid_at u t)
 AnswerEnds u t body (CheckFailed routine segment status) = (judge (bytes_at u t.place) body ≡ BadStatus status) × (routine ≡ (routine_at u t.place).0) × (segment ≡ (routine_at u t.place).1)
 AnswerEnds u t body (IdentMismatch did) = IsOther u t body did
 AnswerEnds u t body (BadAnswer sid) = (judge (bytes_at u t.place) body ≡ Malformed) × (sid ≡ sid_at u t)
-AnswerEnds u t body (PendingLimit sid) = (body ≡ 127 ∷ sid ∷ 120 ∷ []) × (t.pendings ≡ 200)
-AnswerEnds u t body (BusyLimit sid) = (body ≡ 127 ∷ sid ∷ 33 ∷ []) × (t.busies ≡ 20)
+AnswerEnds u t body (PendingLimit sid) = (body ≡ 127 ∷ sid ∷ 120 ∷ []) × (sid ≡ sid_at u t) × (t.pendings ≡ 200)
+AnswerEnds u t body (BusyLimit sid) = (body ≡ 127 ∷ sid ∷ 33 ∷ []) × (sid ≡ sid_at u t) × (t.busies ≡ 20)
 AnswerEnds u t body outcome = ⊥
 
 -- Each end of a conversation has its cause: an answer, a refusal to deliver with its code, or 1,000 ticks without an answer.

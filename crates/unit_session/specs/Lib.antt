@@ -1,6 +1,7 @@
 pub mod Ends
-pub mod Judging
 pub mod Left
 pub mod Onward
+pub mod Prepared
 pub mod Session
+pub mod Spots
 pub mod Whole

@@ -1,9 +1,11 @@
 -- What each answer leads to, by the numbers of a session.
-use Rattle.std.specs.Prelude.{◌≡◌, ℕ, ◌==◌, Bool, List, Option, Some, None, nat_lt, if◌then◌else◌}
-use Rattle.flash_plan.specs.declared.outcome.Outcome.TheVariants.{BadAnswer, CheckFailed}
+use Rattle.std.specs.Prelude.{◌≡◌, ℕ, ◌+◌, ◌*◌, ◌≤◌, min, Bool, List, [], ◌∷◌, length, Option, Some, None, nat_lt, if◌then◌else◌}
+use Rattle.flash_base.specs.Numbers.{number_of}
 use Rattle.flash_plan.specs.declared.unit.UnitPlan.{UnitPlan}
-use Rattle.run_model.specs.Script.{place_judged, request_at}
-use Rattle.uds_codec.specs.Answer.{Verdict, Pending, Busy, Refusal, Accepted, BadStatus, Malformed, form_in}
+use Rattle.run_model.specs.Script.{place_next, request_at}
+use Rattle.uds_codec.specs.Awaited.{awaited_by}
+use Rattle.uds_codec.specs.declared.judging.Awaited.{Awaited}
+use Rattle.uds_codec.specs.declared.request.Request.{Request}
 use Rattle.unit_session.specs.Session.{place_at, IsStage, KnowsNext}
 use Rattle.unit_session.specs.declared.stage.Stage.{Stage}
 use Rattle.unit_session.specs.declared.stage.Stage.TheVariants.{Ident, Program, Seed, Key, Erase, Download, Block, Exit, Check, Mark, Finish, Reset, Done, Ended}
@@ -25,25 +27,21 @@ sid_at Reset = 17
 sid_at Done = 0
 sid_at (Ended outcome) = 0
 
--- neither a response pending nor a busy answer
-abbrev pub IsFinalForm : Verdict → Type 0
-IsFinalForm Pending = ⊥
-IsFinalForm Busy = ⊥
-IsFinalForm (Refusal nrc) = Unit {0}
-IsFinalForm (Accepted rest) = Unit {0}
-IsFinalForm (BadStatus status) = Unit {0}
-IsFinalForm Malformed = Unit {0}
+-- this is awaited behind the request at a stage
+abbrev pub IsAwaitedAt : UnitPlan → Stage → Awaited → Type 0
+IsAwaitedAt u stage a = (r : Request) → request_at u (place_at u stage) ≡ Some r → awaited_by r ≡ a
 
--- An answer with the first byte of a positive one, and these bytes behind it, leads from one stage to the other.
+-- What a positive answer says behind the beginning of its form: a seed has 1 to 32 bytes, a length limit is 3 at least.
+abbrev pub HasRecord : Stage → List ℕ → Type 0
+HasRecord Seed rest = (1 ≤ length rest) × (length rest ≤ 32)
+HasRecord (Download n) rest = 3 ≤ number_of rest
+HasRecord stage rest = Unit {0}
+
+-- A positive answer with these bytes behind the beginning of its form leads from one stage to the other.
 pub record LeadsTo (u : UnitPlan) (marks : ℕ → Bool) (stage : Stage) (rest : List ℕ) (next : Stage) : Type 0 where
-  pub place : place_at u next ≡ place_judged u marks (place_at u stage) (form_in (request_at u (place_at u stage)) rest)
-  pub final : IsFinalForm (form_in (request_at u (place_at u stage)) rest)
+  pub place : place_at u next ≡ place_next u marks (place_at u stage) rest
   pub fits : IsStage u next
   pub known : KnowsNext u marks next
-
-abbrev pub routine_next : Option ℕ → ℕ → ℕ → Stage → Stage
-routine_next None id segment next = Ended (BadAnswer 49)
-routine_next (Some status) id segment next = if status == 0 then next else Ended (CheckFailed id segment status)
 
 -- the stage once so many of a segment's size bytes were accepted
 abbrev pub blocks_from : ℕ → ℕ → ℕ → ℕ → ℕ → Stage
@@ -53,3 +51,11 @@ blocks_from size segment sent counter limit = if nat_lt sent size then Block seg
 abbrev pub erase_next : Option ℕ → Stage
 erase_next None = Finish
 erase_next (Some n) = Erase n
+
+abbrev pub cap_after : ℕ → List ℕ → ℕ
+cap_after n [] = n
+cap_after n (x ∷ xs) = cap_after (min (n * 256 + x) 65535) xs
+
+-- the number of the bytes, or 65,535 if that is less
+abbrev pub cap_of : List ℕ → ℕ
+cap_of xs = cap_after 0 xs

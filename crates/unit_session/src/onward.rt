@@ -1,43 +1,105 @@
-ghost use Rattle.std.specs.Prelude.{◌≡◌, ◌<◌, ◌≤◌, ℕ, Bool, true, length};
+ghost use Rattle.std.specs.Prelude.{◌≡◌, ◌<◌, ◌≤◌, ℕ, Bool, true, List, length};
 ghost use Rattle.flash_base.specs.Lists.{same_bytes};
 ghost use Rattle.flash_plan.specs.Plan.{IsAcceptedUnit, segment_of};
 ghost use Rattle.run_model.specs.Places.{needs_request};
-ghost use Rattle.run_model.specs.Script.{has_value};
-ghost use Rattle.unit_session.specs.Judging.{status_in};
+ghost use Rattle.run_model.specs.Script.{has_value, routine_at};
 ghost use Rattle.unit_model.specs.Unit.{next_counter};
 ghost use Rattle.unit_session.specs.Session.{place_at, IsStage, has_mark, open_from};
-ghost use Rattle.unit_session.specs.Onward.{LeadsTo, sid_at, routine_next, blocks_from, erase_next};
+ghost use Rattle.unit_session.specs.Onward.{LeadsTo, IsAwaitedAt, HasRecord, sid_at, blocks_from, erase_next, cap_of};
 
-use crate::judging::{limit, names, starts, status};
 use crate::keys::{is_zero, kept, level};
 use crate::marks::Marks;
 use crate::stage::{KeptSeed, Stage};
 use flash_base::{Bytes, Items, KeyRule};
 use flash_plan::{Outcome, UnitPlan};
+use uds_codec::Awaited;
+use uds_codec::service::{
+    CHECK_PROGRAMMING_DEPENDENCIES, DIAGNOSTIC_SESSION_CONTROL, ECU_RESET, ERASE_MEMORY,
+    PROGRAMMING_SESSION, READ_DATA_BY_IDENTIFIER, REQUEST_DOWNLOAD, REQUEST_TRANSFER_EXIT,
+    ROUTINE_CONTROL, SECURITY_ACCESS, TRANSFER_DATA,
+};
 
 /// The service of the request at a stage.
 pub fn sid(stage: Stage) -> u8
-    ensures is { result ≡ sid_at stage }
-    ensures few { result ≤ 63 }
+    ensures { result ≡ sid_at stage }
 {
     match stage {
-        Stage::Ident { .. } => 0x22,
-        Stage::Program => 0x10,
-        Stage::Seed | Stage::Key { .. } => 0x27,
-        Stage::Erase { .. } | Stage::Check { .. } | Stage::Finish => 0x31,
-        Stage::Download { .. } => 0x34,
-        Stage::Block { .. } => 0x36,
-        Stage::Exit { .. } => 0x37,
-        Stage::Reset => 0x11,
+        Stage::Ident { .. } => READ_DATA_BY_IDENTIFIER,
+        Stage::Program => DIAGNOSTIC_SESSION_CONTROL,
+        Stage::Seed | Stage::Key { .. } => SECURITY_ACCESS,
+        Stage::Erase { .. } | Stage::Check { .. } | Stage::Finish => ROUTINE_CONTROL,
+        Stage::Download { .. } => REQUEST_DOWNLOAD,
+        Stage::Block { .. } => TRANSFER_DATA,
+        Stage::Exit { .. } => REQUEST_TRANSFER_EXIT,
+        Stage::Reset => ECU_RESET,
         Stage::Mark { .. } | Stage::Done | Stage::Ended { .. } => 0,
     }
 }
 
-fn bad(sid: u8) -> Stage
-    ensures { result ≡ Stage.Ended (Outcome.BadAnswer sid) }
+/// The identifier that a stage asks for.
+fn wanted(unit: &UnitPlan, number: u16) -> Awaited
+    requires { number < length unit.now.idents }
+    ensures { IsAwaitedAt unit.now (Stage.Ident number) result }
 {
-    Stage::Ended {
-        outcome: Outcome::BadAnswer { sid },
+    Awaited::ReadId {
+        did: unit.idents.at(number as usize).did,
+    }
+}
+
+/// What is awaited behind the request at a stage.
+pub fn awaited(unit: &UnitPlan, stage: Stage) -> Awaited
+    requires stage { IsStage unit.now stage }
+    requires needs { needs_request (place_at unit.now stage) ≡ true }
+    ensures { IsAwaitedAt unit.now stage result }
+{
+    match stage {
+        Stage::Ident { number } => wanted(unit, number),
+        Stage::Program => Awaited::Session {
+            kind: PROGRAMMING_SESSION,
+        },
+        Stage::Seed => Awaited::Seed {
+            level: level(&unit.key),
+        },
+        Stage::Key { .. } => Awaited::Key {
+            level: level(&unit.key),
+        },
+        Stage::Erase { .. } => Awaited::Routine { id: ERASE_MEMORY },
+        Stage::Download { .. } => Awaited::Download,
+        Stage::Block { counter, .. } => Awaited::Transfer { counter },
+        Stage::Check { .. } => Awaited::Routine { id: unit.check },
+        Stage::Finish => Awaited::Routine {
+            id: CHECK_PROGRAMMING_DEPENDENCIES,
+        },
+        Stage::Reset => Awaited::Reset,
+        Stage::Exit { .. } | Stage::Mark { .. } | Stage::Done | Stage::Ended { .. } => {
+            Awaited::Exit
+        }
+    }
+}
+
+/// A conversation that ended so.
+pub fn ended(outcome: Outcome) -> Stage
+    ensures { result ≡ Stage.Ended outcome }
+{
+    Stage::Ended { outcome }
+}
+
+/// A routine that ended with this status: which, and of which segment.
+pub fn failed(unit: &UnitPlan, stage: Stage, status: u8) -> Outcome
+    requires accepted { IsAcceptedUnit unit.now }
+    requires stage { IsStage unit.now stage }
+    ensures { result ≡ Outcome.CheckFailed (routine_at unit.now (place_at unit.now stage)).0
+        (routine_at unit.now (place_at unit.now stage)).1 status }
+{
+    let (routine, segment) = match stage {
+        Stage::Erase { segment } => (ERASE_MEMORY, segment),
+        Stage::Check { segment } => (unit.check, segment),
+        _ => (CHECK_PROGRAMMING_DEPENDENCIES, unit.segments.len() as u16),
+    };
+    Outcome::CheckFailed {
+        routine,
+        segment,
+        status,
     }
 }
 
@@ -59,21 +121,16 @@ fn is_expected(values: &Items<Bytes>, value: &[u8]) -> bool
     false
 }
 
-fn ident(unit: &UnitPlan, number: u16, rest: &[u8]) -> Stage
-    requires accepted { IsAcceptedUnit unit.now }
+fn ident(unit: &UnitPlan, number: u16, value: &[u8]) -> Stage
     requires within { number < length unit.now.idents }
-    ensures { (marks : ℕ → Bool) → LeadsTo unit.now marks (Stage.Ident number) rest.now result }
+    requires few { length unit.now.idents ≤ 32 }
+    ensures { (marks : ℕ → Bool) → LeadsTo unit.now marks (Stage.Ident number) value.now result }
 {
     let wanted = unit.idents.at(number as usize);
-    if !names(rest, wanted.did) {
-        return bad(0x22);
-    }
-    if is_expected(&wanted.values, &rest[2..]) {
+    if is_expected(&wanted.values, value) {
         Stage::Ident { number: number + 1 }
     } else {
-        Stage::Ended {
-            outcome: Outcome::IdentMismatch { did: wanted.did },
-        }
+        ended(Outcome::IdentMismatch { did: wanted.did })
     }
 }
 
@@ -109,13 +166,10 @@ fn opened(unit: &UnitPlan, marks: Marks) -> Stage
     erase(first_open(unit, marks, 0))
 }
 
-fn program(unit: &UnitPlan, marks: Marks, rest: &[u8]) -> Stage
+fn program(unit: &UnitPlan, marks: Marks) -> Stage
     requires { IsAcceptedUnit unit.now }
-    ensures { LeadsTo unit.now (has_mark marks) Stage.Program rest.now result }
+    ensures { (rest : List ℕ) → LeadsTo unit.now (has_mark marks) Stage.Program rest result }
 {
-    if !starts(rest, 2) {
-        return bad(0x10);
-    }
     match unit.key {
         KeyRule::Free => opened(unit, marks),
         KeyRule::Xor { .. } => Stage::Seed,
@@ -123,18 +177,12 @@ fn program(unit: &UnitPlan, marks: Marks, rest: &[u8]) -> Stage
     }
 }
 
-fn seed(unit: &UnitPlan, marks: Marks, rest: &[u8]) -> Stage
+fn seed(unit: &UnitPlan, marks: Marks, seed: &[u8]) -> Stage
     requires accepted { IsAcceptedUnit unit.now }
     requires stage { IsStage unit.now Stage.Seed }
-    ensures { LeadsTo unit.now (has_mark marks) Stage.Seed rest.now result }
+    requires form { HasRecord Stage.Seed seed.now }
+    ensures { LeadsTo unit.now (has_mark marks) Stage.Seed seed.now result }
 {
-    if !starts(rest, level(&unit.key)) {
-        return bad(0x27);
-    }
-    let seed = &rest[1..];
-    if seed.is_empty() || seed.len() > 32 {
-        return bad(0x27);
-    }
     if is_zero(seed) {
         opened(unit, marks)
     } else {
@@ -142,40 +190,22 @@ fn seed(unit: &UnitPlan, marks: Marks, rest: &[u8]) -> Stage
     }
 }
 
-fn key(unit: &UnitPlan, marks: Marks, seed: KeptSeed, rest: &[u8]) -> Stage
-    requires accepted { IsAcceptedUnit unit.now }
-    requires stage { IsStage unit.now (Stage.Key seed) }
-    ensures { LeadsTo unit.now (has_mark marks) (Stage.Key seed) rest.now result }
+fn key(unit: &UnitPlan, marks: Marks, seed: KeptSeed) -> Stage
+    requires { IsAcceptedUnit unit.now }
+    ensures { (rest : List ℕ) → LeadsTo unit.now (has_mark marks) (Stage.Key seed) rest result }
 {
-    if starts(rest, level(&unit.key) + 1) {
-        opened(unit, marks)
-    } else {
-        bad(0x27)
-    }
+    opened(unit, marks)
 }
 
-/// Behind a routine: the next stage, a routine that failed at this segment, or an answer that is not in the form.
-fn routine(rest: &[u8], routine: u16, segment: u16, next: Stage) -> Stage
-    ensures { result ≡ routine_next (status_in routine rest.now) routine segment next }
+/// The number of the bytes, or 65,535 if that is less.
+fn capped(bytes: &[u8]) -> u16
+    ensures { result ≡ cap_of bytes.now }
 {
-    match status(rest, routine) {
-        None => bad(0x31),
-        Some(0) => next,
-        Some(status) => Stage::Ended {
-            outcome: Outcome::CheckFailed {
-                routine,
-                segment,
-                status,
-            },
-        },
+    let mut n = 0u32;
+    for b in bytes {
+        n = (n * 256 + u32::from(*b)).min(65_535);
     }
-}
-
-fn erased(unit: &UnitPlan, segment: u16, rest: &[u8]) -> Stage
-    requires { segment < length unit.now.segments }
-    ensures { (marks : ℕ → Bool) → LeadsTo unit.now marks (Stage.Erase segment) rest.now result }
-{
-    routine(rest, 0xFF00, segment, Stage::Download { segment })
+    n as u16
 }
 
 /// The blocks of a segment once so many of its bytes were accepted.
@@ -195,15 +225,13 @@ fn blocks(unit: &UnitPlan, segment: u16, sent: usize, counter: u8, limit: u16) -
     }
 }
 
-fn download(unit: &UnitPlan, segment: u16, rest: &[u8]) -> Stage
-    requires accepted { IsAcceptedUnit unit.now }
+/// Behind a download whose answer says so many bytes (maxNumberOfBlockLength).
+fn download(unit: &UnitPlan, segment: u16, number: &[u8]) -> Stage
     requires within { segment < length unit.now.segments }
-    ensures { (marks : ℕ → Bool) → LeadsTo unit.now marks (Stage.Download segment) rest.now result }
+    requires form { HasRecord (Stage.Download segment) number.now }
+    ensures { (marks : ℕ → Bool) → LeadsTo unit.now marks (Stage.Download segment) number.now result }
 {
-    match limit(rest) {
-        Some(limit) => blocks(unit, segment, 0, 1, limit),
-        None => bad(0x34),
-    }
+    blocks(unit, segment, 0, 1, capped(number))
 }
 
 /// The counter of the next block.
@@ -213,69 +241,50 @@ fn counted(counter: u8) -> u8
     if counter == 255 { 0 } else { counter + 1 }
 }
 
-fn block(unit: &UnitPlan, segment: u16, sent: usize, counter: u8, limit: u16, rest: &[u8]) -> Stage
+fn block(unit: &UnitPlan, segment: u16, sent: usize, counter: u8, limit: u16) -> Stage
     requires accepted { IsAcceptedUnit unit.now }
     requires stage { IsStage unit.now (Stage.Block segment sent counter limit) }
-    ensures { (marks : ℕ → Bool) → LeadsTo unit.now marks (Stage.Block segment sent counter limit) rest.now result }
+    ensures { (marks : ℕ → Bool) (rest : List ℕ)
+        → LeadsTo unit.now marks (Stage.Block segment sent counter limit) rest result }
 {
-    if starts(rest, counter) {
-        let more = usize::from(limit) - 2;
-        blocks(unit, segment, sent + more, counted(counter), limit)
-    } else {
-        bad(0x36)
-    }
+    let more = usize::from(limit) - 2;
+    blocks(unit, segment, sent + more, counted(counter), limit)
 }
 
-fn check(unit: &UnitPlan, marks: Marks, segment: u16, rest: &[u8]) -> Stage
+fn check(unit: &UnitPlan, marks: Marks, segment: u16) -> Stage
     requires accepted { IsAcceptedUnit unit.now }
     requires within { segment < length unit.now.segments }
-    ensures { LeadsTo unit.now (has_mark marks) (Stage.Check segment) rest.now result }
+    ensures { (rest : List ℕ) → LeadsTo unit.now (has_mark marks) (Stage.Check segment) rest result }
 {
     let next = first_open(unit, marks, segment + 1);
-    routine(rest, unit.check, segment, Stage::Mark { segment, next })
+    Stage::Mark { segment, next }
 }
 
-fn finish(unit: &UnitPlan, rest: &[u8]) -> Stage
-    requires accepted { IsAcceptedUnit unit.now }
-    ensures { (marks : ℕ → Bool) → LeadsTo unit.now marks Stage.Finish rest.now result }
-{
-    routine(rest, 0xFF01, unit.segments.len() as u16, Stage::Reset)
-}
-
-fn reset(unit: &UnitPlan, rest: &[u8]) -> Stage
-    ensures { (marks : ℕ → Bool) → LeadsTo unit.now marks Stage.Reset rest.now result }
-{
-    if starts(rest, 1) {
-        Stage::Done
-    } else {
-        bad(0x11)
-    }
-}
-
-/// The stage behind an answer with the first byte of a positive one; `rest` is what stands behind that byte.
+/// The stage behind a positive answer; `rest` is what stands behind the beginning of its form.
 pub fn onward(unit: &UnitPlan, marks: Marks, stage: Stage, rest: &[u8]) -> Stage
     requires accepted { IsAcceptedUnit unit.now }
     requires stage { IsStage unit.now stage }
     requires needs { needs_request (place_at unit.now stage) ≡ true }
+    requires form { HasRecord stage rest.now }
     ensures { LeadsTo unit.now (has_mark marks) stage rest.now result }
 {
     match stage {
         Stage::Ident { number } => ident(unit, number, rest),
-        Stage::Program => program(unit, marks, rest),
+        Stage::Program => program(unit, marks),
         Stage::Seed => seed(unit, marks, rest),
-        Stage::Key { seed } => key(unit, marks, seed, rest),
-        Stage::Erase { segment } => erased(unit, segment, rest),
+        Stage::Key { seed } => key(unit, marks, seed),
+        Stage::Erase { segment } => Stage::Download { segment },
         Stage::Download { segment } => download(unit, segment, rest),
         Stage::Block {
             segment,
             sent,
             counter,
             limit,
-        } => block(unit, segment, sent, counter, limit, rest),
+        } => block(unit, segment, sent, counter, limit),
         Stage::Exit { segment } => Stage::Check { segment },
-        Stage::Check { segment } => check(unit, marks, segment, rest),
-        Stage::Finish => finish(unit, rest),
-        Stage::Reset => reset(unit, rest),
+        Stage::Check { segment } => check(unit, marks, segment),
+        Stage::Finish => Stage::Reset,
+        Stage::Reset => Stage::Done,
         Stage::Mark { .. } | Stage::Done | Stage::Ended { .. } => stage,
     }
 }

@@ -1,11 +1,13 @@
-use crate::judging::{Front, front_of};
 use crate::marks::Marks;
-use crate::onward::{erase, onward, sid};
+use crate::onward::{awaited, ended, erase, failed, onward, sid};
 use crate::requests::request;
+use crate::spot::{Spot, spot_at};
 use crate::stage::Stage;
 use flash_base::{Bytes, NoMemory};
 use flash_plan::{Outcome, UnitPlan};
+use run_model::PATIENCE;
 use std::alloc::Global;
+use uds_codec::{Verdict, judge};
 
 /// What a conversation waits for.
 #[derive(Clone, Copy, Debug, PartialEq, Eq)]
@@ -44,18 +46,18 @@ const PENDINGS: u8 = 200;
 /// The repeats of one request.
 const BUSIES: u8 = 20;
 
-/// The quiet ticks after which no answer is awaited any more.
-const PATIENCE: u64 = 1000;
-
 impl UnitSession {
-    ghost use Rattle.std.specs.Prelude.{◌≡◌, ◌<◌, ◌≤◌, ℕ, true, IfOk};
+    ghost use Rattle.std.specs.Prelude.{◌≡◌, ◌<◌, ◌≤◌, ℕ, List, true, IfOk};
     ghost use Rattle.flash_plan.specs.Plan.{IsAcceptedUnit};
     ghost use Rattle.flash_plan.specs.declared.unit.UnitPlan.{UnitPlan};
     ghost use Rattle.run_model.specs.Places.{needs_request};
     ghost use Rattle.run_model.specs.Script.{bytes_at};
     ghost use Rattle.run_model.specs.Talk.{talk_start, talk_lost, talk_marked, talk_sent, talk_hears, talk_quiet, talk_judged, end_talk, sid_at};
     ghost use Rattle.run_model.specs.Ways.{Reply, Nacked};
-    ghost use Rattle.uds_codec.specs.Answer.{Pending, Busy};
+    ghost use Rattle.uds_codec.specs.Answer.{Pending, Busy, Accepted};
+    ghost use Rattle.uds_codec.specs.Awaited.{verdict_of};
+    ghost use Rattle.unit_session.specs.Onward.{HasRecord};
+    ghost use Rattle.unit_session.specs.Spots.{IsSpotOf};
     ghost use Rattle.unit_session.specs.Session.{talk_of, talk_of_any, has_mark, is_begun, ask_of, place_at, settled, IsStage, KnowsNext, IsOf, IsFewer};
 
     /// The conversation at its first request; `begun` says whether it is recorded that the unit is
@@ -120,6 +122,13 @@ impl UnitSession {
         self.number
     }
 
+    /// Where it stands, by numbers.
+    pub fn spot(&self) -> Spot
+        ensures { (u : UnitPlan) → IsAcceptedUnit u → IsOf u self.now → IsSpotOf u (talk_of u self.now).place result }
+    {
+        spot_at(self.stage)
+    }
+
     /// The bytes of the next request (ISO 14229-1).
     pub fn request(&self, alloc: Global, unit: &UnitPlan) -> Result<Bytes, NoMemory>
         requires accepted { IsAcceptedUnit unit.now }
@@ -152,7 +161,7 @@ impl UnitSession {
     }
 
     /// A response pending: the 201st to one sending ends the conversation.
-    fn later(&mut self, sid: u8, tick: u64)
+    fn pending(&mut self, sid: u8, tick: u64)
         requires { (talk_of_any self.old).pendings ≤ 200 }
         ensures talk { (u : UnitPlan) → sid ≡ sid_at u (talk_of u self.old) → talk_of u self.new ≡ talk_judged u tick Pending (talk_of u self.old) }
         ensures begun { is_begun self.new ≡ is_begun self.old }
@@ -167,7 +176,7 @@ impl UnitSession {
     }
 
     /// A busy answer: the request is sent again, and the 21st ends the conversation.
-    fn again(&mut self, sid: u8)
+    fn busy(&mut self, sid: u8)
         requires { (talk_of_any self.old).busies ≤ 20 }
         ensures talk { (u : UnitPlan) (tick : ℕ) → sid ≡ sid_at u (talk_of u self.old) → talk_of u self.new ≡ talk_judged u tick Busy (talk_of u self.old) }
         ensures begun { is_begun self.new ≡ is_begun self.old }
@@ -197,6 +206,36 @@ impl UnitSession {
         self.busies = 0;
     }
 
+    /// An answer with this verdict.
+    fn judged(&mut self, unit: &UnitPlan, verdict: Verdict<'_>, tick: u64)
+        requires accepted { IsAcceptedUnit unit.now }
+        requires of { IsOf unit.now self.old }
+        requires needs { needs_request (talk_of unit.now self.old).place ≡ true }
+        requires form { (rest : List ℕ) → verdict_of verdict ≡ Accepted rest → HasRecord self.old.stage rest }
+        ensures talk { talk_of unit.now self.new ≡ talk_judged unit.now tick (verdict_of verdict.entry)
+            (talk_of unit.now self.old) }
+        ensures begun { is_begun self.new ≡ is_begun self.old }
+        ensures of { IsOf unit.now self.new }
+    {
+        let sid = sid(self.stage);
+        match verdict {
+            Verdict::Pending => self.pending(sid, tick),
+            Verdict::Busy => self.busy(sid),
+            Verdict::Refusal { code } => {
+                self.settle(ended(Outcome::Refused { sid, nrc: code }));
+            }
+            Verdict::BadStatus { status } => {
+                let outcome = failed(unit, self.stage, status);
+                self.settle(ended(outcome));
+            }
+            Verdict::Malformed => self.settle(ended(Outcome::BadAnswer { sid })),
+            Verdict::Accepted { record } => {
+                let stage = onward(unit, self.marks, self.stage, record);
+                self.settle(stage);
+            }
+        }
+    }
+
     /// An answer came (ISO 14229-1): a response pending waits on, a busy answer has the request sent again, and any
     /// other is final.
     pub fn hear(&mut self, unit: &UnitPlan, reply: &[u8], tick: u64)
@@ -207,21 +246,8 @@ impl UnitSession {
         ensures begun { is_begun self.new ≡ is_begun self.old }
         ensures of { IsOf unit.now self.new }
     {
-        let sid = sid(self.stage);
-        match front_of(sid, reply) {
-            Front::Later => self.later(sid, tick),
-            Front::Again => self.again(sid),
-            Front::Refusal(nrc) => self.settle(Stage::Ended {
-                outcome: Outcome::Refused { sid, nrc },
-            }),
-            Front::Positive => {
-                let stage = onward(unit, self.marks, self.stage, &reply[1..]);
-                self.settle(stage);
-            }
-            Front::Strange => self.settle(Stage::Ended {
-                outcome: Outcome::BadAnswer { sid },
-            }),
-        }
+        let verdict = judge(awaited(unit, self.stage), reply);
+        self.judged(unit, verdict, tick);
     }
 
     /// The gateway could not deliver the request (ISO 13400-2, payload type 0x8003).

@@ -3,7 +3,7 @@ ghost use Rattle.bay_core.specs.Legal.{is_allowed, may_claim, may_begin, may_sen
 ghost use Rattle.flash_plan.specs.Plan.{count_of, plan_of};
 ghost use Rattle.unit_session.specs.Session.{IsOf, talk_of};
 ghost use Rattle.bay_replay.specs.Bytes.{brings_bytes, tends_bytes, has_bytes};
-ghost use Rattle.bay_replay.specs.Hears.{KeepsSession, told_heard};
+ghost use Rattle.bay_replay.specs.Hears.{told_heard};
 ghost use Rattle.bay_replay.specs.Held.{Told, Holds, HoldsBody, told_own, told_emptied};
 ghost use Rattle.bay_replay.specs.Units.{unit_of};
 
@@ -13,21 +13,10 @@ use crate::sessions;
 use bay_core::{Event, Heard, Tend};
 use flash_base::{Bytes, NoMemory};
 use flash_plan::{Entry, Outcome, Plan};
-use unit_session::UnitSession;
 
 /// What each allowed event does to its own unit, to the link and to the board, before a loss and the stop are
 /// looked at. Nothing is tested again here.
 impl Core {
-    /// Keeps this conversation of a unit.
-    fn keep(&mut self, unit: u16, session: UnitSession)
-        requires { unit < length self.old.units }
-        ensures { KeepsSession unit session self.old self.new }
-    {
-        let mut kept = self.units.at(unit);
-        kept.session = session;
-        self.units.put(unit, kept);
-    }
-
     /// Takes up a unit. Its conversation stands at its first request already.
     pub(super) fn take_up(&mut self, plan: &Plan, unit: u16)
         ghost told: { Told }
@@ -37,9 +26,7 @@ impl Core {
     {
         plan.is_accepted();
         self.board.take_up(unit);
-        let mut kept = self.units.at(unit);
-        kept.claimed = true;
-        self.units.put(unit, kept);
+        self.units.at_mut(unit).claimed = true;
     }
 
     fn begin(&mut self, plan: &Plan, unit: u16)
@@ -49,10 +36,9 @@ impl Core {
         ensures { HoldsBody plan.now self.new (told_own plan.now (Event.Began unit) told) }
     {
         plan.is_accepted();
-        let mut kept = self.units.at(unit);
+        let kept = self.units.at_mut(unit);
         kept.begun = true;
         kept.session.begun();
-        self.units.put(unit, kept);
     }
 
     fn send(&mut self, plan: &Plan, unit: u16, _place: u32, lost: bool)
@@ -61,10 +47,9 @@ impl Core {
         requires allowed { may_send plan.now told.core unit _place ≡ true }
         ensures { HoldsBody plan.now self.new (told_own plan.now (Event.Sent unit _place lost) told) }
     {
-        let mut session = self.units.at(unit).session;
-        session.sent(self.link.ticks());
+        let tick = self.link.ticks();
+        self.units.at_mut(unit).session.sent(tick);
         lose(&mut self.link, lost);
-        self.keep(unit, session);
     }
 
     /// Takes the oldest message of a unit that waits, if there is one, and the unit hears it.
@@ -82,9 +67,8 @@ impl Core {
             return;
         };
         let tick = self.link.ticks();
-        let session = self.units.at(unit).session;
-        let session = sessions::heard(session, plan.unit(unit), &message, tick);
-        self.keep(unit, session);
+        let kept = self.units.at_mut(unit);
+        sessions::hear(&mut kept.session, plan.unit(unit), &message, tick);
     }
 
     fn collect_kept(&mut self, plan: &Plan, unit: u16)
@@ -104,9 +88,8 @@ impl Core {
         ensures { HoldsBody plan.now self.new (told_own plan.now (Event.Collected unit Heard.Quiet) told) }
     {
         self.link.quiet();
-        let mut session = self.units.at(unit).session;
-        session.quiet(self.link.ticks());
-        self.keep(unit, session);
+        let tick = self.link.ticks();
+        self.units.at_mut(unit).session.quiet(tick);
     }
 
     fn collect_piece(&mut self, plan: &Plan, unit: u16, bytes: &Bytes) -> Result<(), NoMemory>
@@ -196,9 +179,7 @@ impl Core {
         ensures { HoldsBody plan.now self.new (told_own plan.now (Event.Marked unit _segment) told) }
     {
         plan.is_accepted();
-        let mut kept = self.units.at(unit);
-        kept.session.marked();
-        self.units.put(unit, kept);
+        self.units.at_mut(unit).session.marked();
     }
 
     fn finish(&mut self, plan: &Plan, unit: u16)
@@ -216,9 +197,7 @@ impl Core {
         requires allowed { may_record plan.now told.core unit _entry ≡ true }
         ensures { HoldsBody plan.now self.new (told_own plan.now (Event.DiskFailed unit _entry) told) }
     {
-        let mut kept = self.units.at(unit);
-        kept.faulted = true;
-        self.units.put(unit, kept);
+        self.units.at_mut(unit).faulted = true;
     }
 
     fn end(&mut self, plan: &Plan, unit: u16, outcome: Outcome)

@@ -9,7 +9,7 @@ use Rattle.flash_journal.proofs.making.clear_first.Goals as goal
 
 pub returns-clause-zeroed : goal.returns-clause-zeroed
 returns-clause-zeroed g c = λ told short.
-    let P : Label = record { digest = []; units = 0 } in
+    let P : Label = record { digest = []; segments = [] } in
     let d0 = disk_now (g.S.Shop.history c.args.shop.now) in
     let d1 = disk_now (g.S.Shop.history c.write_at.new.self) in
     let d2 = disk_now (g.S.Shop.history c.sync.new.self) in (

@@ -1,6 +1,5 @@
 use Rattle.std.proofs.Common.{◌%◌, ◌/◌, ◌++◌, ◌∷◌, [], ◌∙◌, ℕ, List, length, take, nat_eq, ap, arith, append_assoc}
 use Rattle.std.specs.Prelude.{if◌then◌else◌}
-use Rattle.span_store.proofs.Maps.{held_some}
 use Rattle.hex_rec.specs.Writing.{line_of, base_line}
 use Rattle.hex_rec.proofs.Cuts.{begun, advanced, finished}
 use Rattle.rec_text.proofs.Smalls.{small_of}
@@ -10,12 +9,6 @@ use Rattle.hex_rec.proofs.writing.write.Goals as goal
 
 pub loop-at-init : goal.loop-at-init
 loop-at-init c = begun c.args.spans.now c.new-text.result c.new-text.ensures
-
-pub cut_front-n-requires-clause-first : goal.cut_front-n-requires-clause-first
-cut_front-n-requires-clause-first c =
-    let p = c.in-Some.ensures in
-    let some = p.1 in
-    held_some c.args.spans.now c.in-Some.at c.in-Some.field-0-1.now p.4 c.in-Some.at (omega arith) (omega arith)
 
 pub loop-at-preserved : goal.loop-at-preserved
 loop-at-preserved c =

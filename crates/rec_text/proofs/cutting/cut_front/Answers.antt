@@ -10,7 +10,7 @@ returns-in_default-clause-cut c =
     let none = c.in_default.ensures in
     let most = c.min-most.ensures in
     let small = c.loop-n.invariant.small in
-    cut_here c.args.room c.args.spans.now c.args.at c.loop-n.n c.loop-n.line c.loop-n.invariant.stored (some_here c.args.spans.now c.args.at c.loop-n.n c.requires.first none) (omega arith) (omega arith) (inr (inr none))
+    cut_here c.args.room c.args.spans.now c.args.at c.loop-n.n c.loop-n.line c.loop-n.invariant.stored (some_here c.args.spans.now c.args.at c.loop-n.n c.requires.first none) (omega arith) (omega arith) c.loop-n.invariant.within (inr (inr none))
 
 pub loop-n-preserved : goal.loop-n-preserved
 loop-n-preserved c =
@@ -42,5 +42,5 @@ returns-clause-cut c =
       | inl l ↦ inr (omega arith)
       | inr l ↦ inl (omega arith)
     ] in
-    cut_here c.args.room c.args.spans.now c.args.at c.loop-n.n c.loop-n.line c.loop-n.invariant.stored (omega arith) (omega arith) (omega arith)
+    cut_here c.args.room c.args.spans.now c.args.at c.loop-n.n c.loop-n.line c.loop-n.invariant.stored (omega arith) (omega arith) (omega arith) c.loop-n.invariant.within
     (elim which [ inl a ↦ inl a | inr b ↦ inr (inl b) ])

@@ -1,19 +1,32 @@
-use Rattle.std.proofs.Common.{◌≡◌, ◌∙◌, inl, inr, ap, Ok, length, rules}
-use Rattle.std.specs.FinMap.{retain_keys, empty}
+use Rattle.std.proofs.Common.{◌≡◌, ◌∙◌, inl, inr, ap, arith}
+use Rattle.std.specs.Ordering.{nat_cmp}
+use Rattle.std.specs.FinMap.{empty, get, get-empty, retain_keys}
 use Rattle.span_store.specs.ByteMap.{ByteMap, over}
 use Rattle.session_image.specs.Content.{is_kept}
-use Rattle.session_image.proofs.Plain.{without_filters, behind_filters}
+use Rattle.session_image.specs.Keeping.{left_of}
+use Rattle.session_image.specs.Pieces.{filled}
+use Rattle.session_image.proofs.Plain.{bytes_away, bytes_look}
 use Rattle.session_image.proofs.filling.of_bytes.Goals as goal
 
-pub returns-then-is_empty-clause-bytes : goal.returns-then-is_empty-clause-bytes
-returns-then-is_empty-clause-bytes c =
-    let none : length c.args.filters.now ≡ 0 = search rules in
-    inr (ap Ok c.in_ok-from_slice.ensures ∙ without_filters c.args.number c.args.filters.now c.args.fill c.args.range.0 c.args.range.1 c.args.bytes.now none c.requires.size)
+pub new-pieces-requires-clause-behind : goal.new-pieces-requires-clause-behind
+new-pieces-requires-clause-behind c = λ a l. ap (λ m. get m a) (c.pieces.ensures ∙ c.new-none.ensures) ∙ get-empty nat_cmp a
 
-pub returns-clause-bytes : goal.returns-clause-bytes
-returns-clause-bytes c =
-    let is : c.in_ok-spans.spans ≡ retain_keys (over empty c.args.range.0 c.args.bytes.now) (is_kept c.args.filters.now) = c.in_ok-spans.ensures ∙ ap (λ (m : ByteMap). retain_keys m (is_kept c.args.filters.now)) c.in_ok-map_at.ensures in
-    elim c.of_map.ensures.bytes [
+pub of_pieces-requires-clause-low : goal.of_pieces-requires-clause-low
+of_pieces-requires-clause-low c = λ a l.
+    ap (λ m. get m a) (c.new-pieces.ensures.left ∙ ap (λ (w : ByteMap). retain_keys (over w c.args.range.0 c.args.bytes.now) (is_kept c.args.filters.now)) (c.pieces.ensures ∙ c.new-none.ensures))
+    ∙ bytes_away c.args.filters.now c.args.range.0 a c.args.bytes.now (inl l)
+
+pub of_pieces-requires-clause-high : goal.of_pieces-requires-clause-high
+of_pieces-requires-clause-high c = λ a l.
+    ap (λ m. get m a) (c.new-pieces.ensures.left ∙ ap (λ (w : ByteMap). retain_keys (over w c.args.range.0 c.args.bytes.now) (is_kept c.args.filters.now)) (c.pieces.ensures ∙ c.new-none.ensures))
+    ∙ bytes_away c.args.filters.now c.args.range.0 a c.args.bytes.now (inr (omega (arith, c.requires.size, l)))
+
+pub returns : goal.returns
+returns c =
+    let fs = c.args.filters.now in
+    let left : left_of c.new-pieces.result ≡ retain_keys (over empty c.args.range.0 c.args.bytes.now) (is_kept fs) =
+    c.new-pieces.ensures.left ∙ ap (λ (w : ByteMap). retain_keys (over w c.args.range.0 c.args.bytes.now) (is_kept fs)) (c.pieces.ensures ∙ c.new-none.ensures) in
+    elim c.of_pieces.ensures [
       | inl e ↦ inl e
-      | inr e ↦ inr (e ∙ behind_filters c.args.number c.args.filters.now c.args.fill c.args.range.0 c.args.range.1 c.args.bytes.now c.in_ok-spans.spans c.requires.size is)
+      | inr e ↦ inr (e ∙ ap (λ (k : ByteMap). filled c.args.number (get k) c.args.fill c.args.range.0 c.args.range.1) left ∙ bytes_look c.args.number c.args.fill fs c.args.range.0 c.args.range.1 c.args.bytes.now c.requires.size)
     ]

@@ -1,7 +1,6 @@
 use Rattle.std.proofs.Common.{◌≡◌, ◌∙◌, inl, inr, sym, ap, Ok}
 use Rattle.session_image.specs.Content.{content}
 use Rattle.session_image.specs.Files.{flash_of}
-use Rattle.session_image.specs.Kept.{dropped}
 use Rattle.session_image.proofs.Joins.{given}
 use Rattle.session_image.proofs.Outcomes.{of_block}
 use Rattle.session_image.proofs.pieces.block_pieces.Goals as goal
@@ -12,8 +11,7 @@ returns-clause-pieces c =
     let files = c.args.files.now in
     let b = c.args.block.now in
     let read : content files (flash_of m b) ≡ Ok c.in_ok-content.content = ap (content files) (sym c.flash_of.ensures) ∙ given c.in_ok-content.ensures in
-    let kept : c.in_ok-content-2.content ≡ dropped c.in_ok-content.content b = c.in_ok-content-2.ensures in
-    elim c.kept_pieces.ensures.pieces [
+    elim c.own_pieces.ensures.pieces [
       | inl e ↦ inl e
-      | inr e ↦ inr (e ∙ sym (of_block m files c.args.fill c.args.number c.args.size b c.in_ok-content.content c.in_ok-content-2.content read kept))
+      | inr e ↦ inr (e ∙ sym (of_block m files c.args.fill c.args.number c.args.size b c.in_ok-content.content read))
     ]

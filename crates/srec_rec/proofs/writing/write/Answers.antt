@@ -1,5 +1,4 @@
 use Rattle.std.proofs.Common.{◌++◌, ◌∙◌, ℕ, List, take, ap, arith}
-use Rattle.span_store.proofs.Maps.{held_some}
 use Rattle.srec_rec.proofs.Lines.{head, begun, advanced, finished}
 use Rattle.rec_text.proofs.Smalls.{small_of}
 use Rattle.srec_rec.proofs.Round.{round_small}
@@ -8,12 +7,6 @@ use Rattle.srec_rec.proofs.writing.write.Goals as goal
 
 pub loop-at-init : goal.loop-at-init
 loop-at-init c = begun c.args.spans.now c.push_line.new.text (c.in_ok-push_line.ensures ∙ ap (λ t. t ++ head) c.new-text.ensures)
-
-pub cut_front-n-requires-clause-first : goal.cut_front-n-requires-clause-first
-cut_front-n-requires-clause-first c =
-    let p = c.in-Some.ensures in
-    let some = p.1 in
-    held_some c.args.spans.now c.in-Some.at c.in-Some.field-0-1.now p.4 c.in-Some.at (omega arith) (omega arith)
 
 pub loop-at-preserved : goal.loop-at-preserved
 loop-at-preserved c =

@@ -1,10 +1,8 @@
-use Rattle.std.proofs.Common.{ℕ, List, [], ◌∷◌, ◌++◌, sym, ap, ◌∙◌, get_or, ◌≡◌}
-use Rattle.flash_base.specs.Numbers.{big_endian}
+use Rattle.std.proofs.Common.{sym, ap}
+use Rattle.run_model.specs.Script.{bytes_at}
 use Rattle.unit_session.proofs.Forms.{ok_is}
-use Rattle.unit_session.proofs.Leads.{ident_bytes}
+use Rattle.unit_session.proofs.Leads.{ident_place}
 use Rattle.unit_session.proofs.requests.ident.Goals as goal
 
 pub returns : goal.returns
-returns c =
-    let two : c.to_be_bytes.result ≡ big_endian 2 c.at.result.now.did = c.to_be_bytes.ensures in
-    ok_is c.joined.result _ _ c.joined.ensures (ap (λ (xs : List ℕ). (34 ∷ get_or xs 0 0 ∷ get_or xs 1 0 ∷ []) ++ []) two ∙ sym (ident_bytes c.args.unit.now c.args.number c.at.result.now c.at.ensures))
+returns c = ok_is c.read_id.result _ _ c.read_id.ensures (sym (ap (bytes_at c.args.unit.now) (ident_place c.args.unit.now c.args.number c.at.result.now c.at.ensures)))

@@ -14,7 +14,7 @@ returns g c =
     let P : List UnitPlan = c.args.plan.now in
     let u : ℕ = c.args.unit in
     let f : BeginFacts P g.told.core u = begin_facts P g.told.core u c.requires.1 in
-    begun_body P c.args.self.now g.told u c.put.new.self c.begun.new.self f.below c.requires.0.body (open_claimed P g.told.core u f.opened)
-    (c.put.ensures ∙ ap (λ (x : Kept). set c.args.self.now.units u (record x { begun = true; session = c.begun.new.self })) c.at-kept.ensures) c.begun.ensures.begun
-    (c.begun.ensures.talk (plan_of P u) ∙ ap (λ (x : Kept). talk_start (plan_of P u) true (talk_of (plan_of P u) x.session).marks) c.at-kept.ensures)
+    begun_body P c.args.self.now g.told u (set c.args.self.now.units u (record c.at_mut-kept.result.now { begun = true; session = c.begun.new.self })) c.begun.new.self f.below c.requires.0.body (open_claimed P g.told.core u f.opened)
+    (ap (λ (x : Kept). set c.args.self.now.units u (record x { begun = true; session = c.begun.new.self })) c.at_mut-kept.ensures.value) c.begun.ensures.begun
+    (c.begun.ensures.talk (plan_of P u) ∙ ap (λ (x : Kept). talk_start (plan_of P u) true (talk_of (plan_of P u) x.session).marks) c.at_mut-kept.ensures.value)
     (c.begun.ensures.of (plan_of P u) (c.is_accepted.ensures.each u f.below))

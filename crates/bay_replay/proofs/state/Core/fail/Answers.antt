@@ -9,5 +9,5 @@ pub returns : goal.returns
 returns g c =
     let P : List UnitPlan = c.args.plan.now in
     let u : ℕ = c.args.unit in
-    failed_body P c.args.self.now g.told u c.args._entry c.put.new.self (recorder_below P g.told.core u c.args._entry c.requires.1) c.requires.0.body
-    (c.put.ensures ∙ ap (λ (x : Kept). set c.args.self.now.units u (record x { faulted = true })) c.at-kept.ensures)
+    failed_body P c.args.self.now g.told u c.args._entry (set c.args.self.now.units u (record c.at_mut.result.now { faulted = true })) (recorder_below P g.told.core u c.args._entry c.requires.1) c.requires.0.body
+    (ap (λ (x : Kept). set c.args.self.now.units u (record x { faulted = true })) c.at_mut.ensures.value)

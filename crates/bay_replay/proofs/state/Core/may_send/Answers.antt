@@ -16,7 +16,7 @@ returns-then-place-number g c =
     let P : List UnitPlan = c.args.plan.now in
     let u : ℕ = c.args.unit in
     let plan : UnitPlan = c.unit.result.now in
-    let t : Talk = talk_of plan c.at-kept.result.session in
+    let t : Talk = talk_of plan c.at-kept.result.now.session in
     let opened : is_open_unit P g.told.core u ≡ true = sym c.is_open.ensures ∙ c.if-not-is_open.false in
     let is : t ≡ kept_talk (g.told.core.slots u).talk = (λ i. talk_of (c.unit.ensures i) (c.at-kept.ensures i).session) ∙ (c.requires.body.slots u (below_count P g.told.core u opened)).talk in
     let other : (c.args.place == t.number) ≡ false = ne_eqb c.args.place t.number (λ e. c.if-place-number.true (e ∙ sym (c.number.ensures plan))) in
@@ -27,7 +27,7 @@ returns g c =
     let P : List UnitPlan = c.args.plan.now in
     let u : ℕ = c.args.unit in
     let plan : UnitPlan = c.unit.result.now in
-    let t : Talk = talk_of plan c.at-kept.result.session in
+    let t : Talk = talk_of plan c.at-kept.result.now.session in
     let opened : is_open_unit P g.told.core u ≡ true = sym c.is_open.ensures ∙ c.if-not-is_open.false in
     let is : t ≡ kept_talk (g.told.core.slots u).talk = (λ i. talk_of (c.unit.ensures i) (c.at-kept.ensures i).session) ∙ (c.requires.body.slots u (below_count P g.told.core u opened)).talk in
     let next : (c.args.place == t.number) ≡ true = eq-eqb c.args.place t.number (c.if-place-number.false ∙ c.number.ensures plan) in

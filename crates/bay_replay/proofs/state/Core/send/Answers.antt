@@ -1,4 +1,5 @@
 use Rattle.std.proofs.Common.{◌≡◌, ℕ, List, true, ap, sym, refl, subst, ◌∙◌}
+use Rattle.std.specs.Prelude.{set}
 use Rattle.bay_core.proofs.Allowed.{SentFacts, sent_facts, asks_needs}
 use Rattle.bay_core.specs.Core.{addresses_of}
 use Rattle.flash_plan.specs.declared.unit.UnitPlan.{UnitPlan}
@@ -24,12 +25,12 @@ returns g c =
     let plan : UnitPlan = plan_of P u in
     let f : SentFacts P g.told.core u c.args._place = sent_facts P g.told.core u c.args._place c.args.lost c.requires.1 in
     let slot : HoldsSlot plan _ _ g.told.core.recorded u (g.told.core.slots u) = c.requires.0.body.slots u f.below in
-    let needs : needs_request (talk_of plan c.at.result.session).place ≡ true =
-    ap (λ (x : Kept). needs_request (talk_of plan x.session).place) c.at.ensures ∙ ap (λ (t : Talk). needs_request t.place) slot.talk ∙ asks_needs plan (g.told.core.slots u).talk.place f.request in
-    let tick : c.ticks.result ≡ g.told.core.link.ticks = c.ticks.ensures.shows g.told.core.link c.requires.0.body.link in
-    talked_body P c.args.self.now c.keep.new.self g.told u c.sent.new.self (talk_sent g.told.core.link.ticks) c.lose.new.link (lost_or c.args.lost g.told.core.link) f.below c.requires.0.body
+    let needs : needs_request (talk_of plan c.at_mut.result.now.session).place ≡ true =
+    ap (λ (x : Kept). needs_request (talk_of plan x.session).place) c.at_mut.ensures.value ∙ ap (λ (t : Talk). needs_request t.place) slot.talk ∙ asks_needs plan (g.told.core.slots u).talk.place f.request in
+    let tick : c.ticks-tick.result ≡ g.told.core.link.ticks = c.ticks-tick.ensures.shows g.told.core.link c.requires.0.body.link in
+    talked_body P c.args.self.now g.told u c.sent.new.self (talk_sent g.told.core.link.ticks) c.lose.new.link (lost_or c.args.lost g.told.core.link) (set c.args.self.now.units u (record c.at_mut.result.now { session = c.sent.new.self })) f.below c.requires.0.body
     (c.lose.ensures.shows g.told.core.link c.requires.0.body.link)
-    (labels_kept g.told.rules.tester (addresses_of P) c.args.self.now.link c.lose.new.link c.lose.ensures.labels c.requires.0.body.labels) c.keep.ensures f.claimed
-    (c.sent.ensures.begun ∙ ap (λ (x : Kept). is_begun x.session) c.at.ensures)
-    (c.sent.ensures.talk plan ∙ (λ i. talk_sent (tick i) (talk_of plan (c.at.ensures i).session)) ∙ ap (talk_sent g.told.core.link.ticks) slot.talk) (λ n. refl)
-    (c.sent.ensures.of plan needs (subst (λ (x : Kept). IsOf plan x.session) (sym c.at.ensures) slot.fits)) slot.ends
+    (labels_kept g.told.rules.tester (addresses_of P) c.args.self.now.link c.lose.new.link c.lose.ensures.labels c.requires.0.body.labels) (ap (λ (x : Kept). set c.args.self.now.units u (record x { session = c.sent.new.self })) c.at_mut.ensures.value) f.claimed
+    (c.sent.ensures.begun ∙ ap (λ (x : Kept). is_begun x.session) c.at_mut.ensures.value)
+    (c.sent.ensures.talk plan ∙ (λ i. talk_sent (tick i) (talk_of plan (c.at_mut.ensures.value i).session)) ∙ ap (talk_sent g.told.core.link.ticks) slot.talk) (λ n. refl)
+    (c.sent.ensures.of plan needs (subst (λ (x : Kept). IsOf plan x.session) (sym c.at_mut.ensures.value) slot.fits)) slot.ends

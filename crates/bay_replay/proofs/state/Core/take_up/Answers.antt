@@ -16,5 +16,5 @@ returns g c =
     let P : List UnitPlan = c.args.plan.now in
     let u : ℕ = c.args.unit in
     let f : ClaimFacts P g.told.core u = claim_facts P g.told.core u (and_parts _ _ (and_parts _ _ c.requires.1).0).1 in
-    claimed_body P c.args.self.now g.told u c.take_up.new.self c.put.new.self f.below c.requires.0.body f.unclaimed c.take_up.ensures
-    (c.put.ensures ∙ ap (λ (x : Kept). set c.args.self.now.units u (record x { claimed = true })) c.at-kept.ensures)
+    claimed_body P c.args.self.now g.told u c.take_up.new.self (set c.args.self.now.units u (record c.at_mut.result.now { claimed = true })) f.below c.requires.0.body f.unclaimed c.take_up.ensures
+    (ap (λ (x : Kept). set c.args.self.now.units u (record x { claimed = true })) c.at_mut.ensures.value)

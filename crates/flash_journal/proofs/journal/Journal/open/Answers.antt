@@ -1,16 +1,16 @@
 use Rattle.shop_model.specs.History.{disk_now}
+use Rattle.journal_model.specs.Records.{label_of}
 use Rattle.journal_steps.specs.Later.{HoldsOnDisk, SameDisk}
 use Rattle.journal_steps.specs.Make.{AllFollow}
 use Rattle.journal_steps.proofs.Moments.{joins, one_call}
 use Rattle.journal_steps.proofs.Opening.{follows_itself, follows_synced}
 use Rattle.flash_journal.specs.Opened.{HasBytes}
-use Rattle.flash_journal.specs.Seen.{label}
 use Rattle.flash_journal.proofs.Opens.{synced_follows, synced_same, answer_synced, on_refusal}
 use Rattle.flash_journal.proofs.journal.Journal.open.Goals as goal
 
 pub returns-in-Ok-clause-any_moment : goal.returns-in-Ok-clause-any_moment
 returns-in-Ok-clause-any_moment g c = λ told.
-    let P = label c.args.digest.now c.args.units in
+    let P = label_of c.args.plan.now in
     let history = g.S.Shop.history in
     let h0 = history c.args.shop.now in
     let h1 = history c.sync.new.self in
@@ -33,5 +33,5 @@ returns-in-Ok-clause-untouched g c = λ told.
 pub returns-in-Ok-clause-answer : goal.returns-in-Ok-clause-answer
 returns-in-Ok-clause-answer g c = λ told.
     let history = g.S.Shop.history in
-    answer_synced (label c.args.digest.now c.args.units) (disk_now (history c.args.shop.now)) (disk_now (history c.sync.new.self)) c.open_synced.result (disk_now (history c.open_synced.new.shop))
+    answer_synced (label_of c.args.plan.now) (disk_now (history c.args.shop.now)) (disk_now (history c.sync.new.self)) c.open_synced.result (disk_now (history c.open_synced.new.shop))
     (c.in-Ok.ensures.disk told).ok.bytes (c.open_synced.ensures.answer told)

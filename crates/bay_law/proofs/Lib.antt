@@ -1,0 +1,13 @@
+pub mod Closing
+pub mod Committing
+pub mod Driving
+pub mod Groups
+pub mod Idle
+pub mod Keeping
+pub mod Links
+pub mod Opening
+pub mod Parts
+pub mod Quiet
+pub mod Starving
+pub mod Steps
+pub mod Units

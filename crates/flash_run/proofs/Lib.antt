@@ -1,0 +1,9 @@
+pub mod Lists
+pub mod Rooms
+pub mod Settled
+pub mod Shut
+pub mod Taking
+pub mod Needs
+pub mod Dues
+pub mod Grouping
+pub mod Looping

@@ -1,0 +1,18 @@
+use Rattle.std.proofs.Common.{◌≡◌, refl, sym, ap, ◌∙◌}
+use Rattle.flash_run.specs.Run.{RunState}
+use Rattle.flash_run.proofs.Taking.{taken_logged, few_ticks_of, note_holds, note_seen, note_may, note_room, on_ok}
+use Rattle.flash_run.proofs.run.Run.note.Goals as goal
+
+pub take_in-ok-requires : goal.take_in-ok-requires
+take_in-ok-requires c =
+    let same : c.args.plan.now ≡ c.self.inside.plan.value = c.requires.plan ∙ sym (ap (λ (r : RunState). r.plan) c.self.view_is) in (
+      note_holds c.args.self.now c.args.plan.now c.self.inside.plan.value c.self.inside.rules c.self.inside.found c.self.inside.notes c.self.inside.starved same c.self.view_is c.self.inside.core c.self.invariant.holds,
+      (refl, (few_ticks_of c.args.plan.now c.self.inside.rules c.self.inside.found c.self.inside.notes.events c.self.inside.starved c.count-few.ensures.few, note_seen c.args.self.now c.args.plan.now c.self.inside.plan.value c.self.inside.rules c.self.inside.found c.self.inside.notes c.self.inside.starved same c.self.view_is c.args.event c.requires.allowed)),
+    )
+
+pub invariant_of-self : goal.invariant_of-self
+invariant_of-self c =
+    let same : c.args.plan.now ≡ c.self.inside.plan.value = c.requires.plan ∙ sym (ap (λ (r : RunState). r.plan) c.self.view_is) in
+    let may = note_may c.args.self.now c.args.plan.now c.self.inside.plan.value c.self.inside.rules c.self.inside.found c.self.inside.notes c.self.inside.starved same c.self.view_is c.args.event c.requires.allowed in
+    taken_logged c.args.plan.now c.self.inside.plan.value c.self.inside.rules c.self.inside.found c.self.inside.notes c.note.new.self c.self.inside.starved c.self.inside.core c.take_in-ok.new.core c.args.event same c.note.ensures c.self.invariant may.0 may.1
+    (on_ok c.take_in-ok.result _ (c.take_in-ok.ensures.free c.requires.free) c.take_in-ok.ensures.holds) (note_room c.args.self.now c.args.plan.now c.self.inside.plan.value c.self.inside.rules c.self.inside.found c.self.inside.notes c.self.inside.starved same c.self.view_is c.args.event c.requires.room)

@@ -1,0 +1,4 @@
+pub mod Group
+pub mod Need
+pub mod Notes
+pub mod Run

@@ -1,0 +1,6 @@
+use Rattle.std.proofs.Common.{◌≡◌, ◌++◌, map, take, drop}
+use Rattle.gateway_sim.specs.Acting.{lowered_message}
+use Rattle.gateway_sim.proofs.trouble.count_message.Given as goal
+
+abbrev pub invariant-loop-i : goal.invariant-loop-i
+invariant-loop-i l = l.troubles.items ≡ map (lowered_message l.target) (take l.i l.initial.troubles.items) ++ drop l.i l.initial.troubles.items

@@ -1,5 +1,0 @@
-use Rattle.unit_session.specs.Session.{IsOf}
-use Rattle.unit_session.proofs.tests.counters.Given as goal
-
-abbrev pub invariant-loop-i : goal.invariant-loop-i
-invariant-loop-i g l = IsOf l.unit l.s

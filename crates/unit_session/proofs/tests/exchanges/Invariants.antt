@@ -1,5 +1,0 @@
-use Rattle.unit_session.specs.Session.{IsOf}
-use Rattle.unit_session.proofs.tests.exchanges.Given as goal
-
-abbrev pub invariant-loop-request : goal.invariant-loop-request
-invariant-loop-request g l = IsOf l.unit l.session

@@ -1,0 +1,14 @@
+pub mod Counted
+pub mod Counts
+pub mod Forms
+pub mod Judging
+pub mod Lists
+pub mod Options
+pub mod Ranges
+pub mod Turns
+pub mod Sizes
+pub mod Rows
+pub mod Remaining
+pub mod Committing
+pub mod Held
+pub mod Numbered

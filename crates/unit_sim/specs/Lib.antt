@@ -1,0 +1,12 @@
+pub mod Acting
+pub mod Answers
+pub mod Asking
+pub mod Changes
+pub mod Done
+pub mod Hearing
+pub mod Laws
+pub mod Outcomes
+pub mod Places
+pub mod Sims
+pub mod Tallies
+pub mod Transfers
