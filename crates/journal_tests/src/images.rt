@@ -98,6 +98,15 @@ const CASES: [(Base, &[(usize, u8)], Found); 66] = [
     (Base::Moved, &[(163, 0), (164, 0)], BEGUN),
 ];
 
+// Puts each byte at its place.
+fn change(file: &mut [u8], changes: &[(usize, u8)]) {
+    for (at, byte) in changes {
+        if *at < file.len() {
+            file[*at] = *byte;
+        }
+    }
+}
+
 // What a look at the file, a look at its bytes and an opening find.
 #[test]
 fn changed_bytes(rt: HostRuntime) -> Result<(), Fail> {
@@ -105,11 +114,7 @@ fn changed_bytes(rt: HostRuntime) -> Result<(), Fail> {
     let plan = one(alloc)?;
     for (base, changes, want) in CASES {
         let mut file = file_of(alloc, base)?;
-        for (at, byte) in changes {
-            if *at < file.len() {
-                file[*at] = *byte;
-            }
-        }
+        change(&mut file, changes);
         let found = opened(alloc, &file, &plan)?;
         assert_eq!(rt; found, want, "{base:?} {changes:?}");
         let found = looked(alloc, &file, &plan)?;
