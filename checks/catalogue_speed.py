@@ -1,9 +1,9 @@
 #!/usr/bin/env python3
 """Reads and resolves two generated catalogues beside Python's json, in the same run.
 
-Usage: checks/catalogue_speed.py, after `rt run` in crates/catalogue_bench has built the program. Prints, for a catalogue with
-long inside texts and one of 200,000 small elements: its size; the time of catalogue_bench (tree and document) and of Python's
-json.loads, each by the clock and by the processor, the latter with the reading of the file; the peak memory of catalogue_bench,
+Usage: checks/catalogue_speed.py, after `rt run` in crates/bench has built the program. Prints, for a catalogue with
+long inside texts and one of 200,000 small elements: its size; the time of `bench catalogue` (tree and document) and of Python's
+json.loads, each by the clock and by the processor, the latter with the reading of the file; the peak memory of `bench catalogue`,
 and of the same program that only has serde_json parse the file; and how much the first is above the second, in sizes of the
 file. Then the times of both kinds at half and at full size. It measures and judges nothing: figures compare only within one run.
 """
@@ -15,18 +15,18 @@ import sys
 import tempfile
 import time
 
-program = pathlib.Path(__file__).resolve().parent.parent / "crates/catalogue_bench/out/catalogue_bench"
+program = pathlib.Path(__file__).resolve().parent.parent / "crates/bench/out/bench"
 
 
 def run(words, folder):
     """Its output, the peak of its memory in bytes, and its processor time in milliseconds."""
     with tempfile.TemporaryFile() as out:
-        child = subprocess.Popen([str(program), *words], cwd=folder, stdout=out)
+        child = subprocess.Popen([str(program), "catalogue", *words], cwd=folder, stdout=out)
         _, status, usage = os.wait4(child.pid, 0)
         child.returncode = status
         out.seek(0)
         if status != 0:
-            sys.exit(f"catalogue_bench {' '.join(words)}: status {status}")
+            sys.exit(f"bench catalogue {' '.join(words)}: status {status}")
         return out.read().decode(), usage.ru_maxrss * 1024, (usage.ru_utime + usage.ru_stime) * 1000
 
 
@@ -36,7 +36,7 @@ def milliseconds(text):
 
 def main():
     if not program.exists():
-        sys.exit(f"{program} is not there: run `rt run` in crates/catalogue_bench first")
+        sys.exit(f"{program} is not there: run `rt run` in crates/bench first")
     with tempfile.TemporaryDirectory() as folder:
         run(["make"], folder)
         for name, kind in [("long.json", "long inside texts"), ("small.json", "200,000 small elements")]:

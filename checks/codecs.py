@@ -1,4 +1,4 @@
-"""Other programs on the bytes that codec_dump prints (crates/codec_dump/stdout, which the gate compares with the program).
+"""Other programs on the bytes that `bench codecs` prints (crates/bench/stdout, which the gate compares with the program).
 
 tshark dissects the bytes, as TCP segments of a pcap file, and has to find the parts that the line says. scapy's automotive
 layers build the message from the parts and have to come to the bytes, and take the bytes apart again. Each of the two is
@@ -12,7 +12,7 @@ import subprocess
 import sys
 import tempfile
 
-DUMP = os.path.join(os.path.dirname(os.path.abspath(__file__)), "..", "crates", "codec_dump", "stdout")
+DUMP = os.path.join(os.path.dirname(os.path.abspath(__file__)), "..", "crates", "bench", "stdout")
 TESTER, UNIT = 0x0E80, 0x1001
 
 
@@ -42,7 +42,8 @@ class Line:
 
 def dump():
     with open(DUMP, encoding="ascii") as file:
-        return [Line(text) for text in file.read().splitlines()]
+        lines = file.read().splitlines()
+    return [Line(text) for text in lines if text.split(" ")[0] in ("request", "answer", "frame")]
 
 
 # ------ pcap files, by the libpcap file format

@@ -43,7 +43,14 @@ WANTED = {
     "image vehicle.json ENGINE": (0, f"segment 0 0000010000 4 {sha(engine)}\n"),
     "image vehicle.json GEARBOX": (0, f"segment 0 0000008000 8 {sha(gearbox)}\n"),
     "image vehicle.json BRAKE": (2, "input vehicle.json no task BRAKE\n"),
-    "run vehicle.json 1": (2, "input vehicle.json not yet\n"),
+    # The vehicle that the program runs over has one unit, 1001, and that has no identifiers.
+    "run vehicle.json 1": (
+        3,
+        f"plan {sha(plan)}\n"
+        "unit ENGINE 1001 refused 22 31\n"
+        "unit GEARBOX 1002 blocked by ENGINE\n"
+        "complete 0 of 2\n",
+    ),
 }
 
 wrong = 0

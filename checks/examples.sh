@@ -1,5 +1,5 @@
 #!/bin/bash
-# The example vehicle: what `check` and `image` print of it is compared with texts whose digests a Python script makes of
+# The example vehicle: what `check`, `image` and `run` print of it is compared with texts whose digests a Python script makes of
 # the plan's bytes, spelled one by one. Skipped where the program or python3 is missing.
 #
 # Usage: checks/examples.sh [PATH_OF_flash_top]

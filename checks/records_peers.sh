@@ -5,11 +5,11 @@
 # - A text with one flipped digit is refused by us wherever srec_cat refuses it.
 # What wants a program that is missing is skipped.
 #
-# Usage: checks/records_peers.sh [PATH_OF_record_bench [FLIPS]]
-# The program lies at crates/record_bench/out/record_bench after `rt run` in that folder.
+# Usage: checks/records_peers.sh [PATH_OF_bench [FLIPS]]
+# The program lies at crates/bench/out/bench after `rt run` in that folder.
 set -u
 here=$(cd "$(dirname "$0")/.." && pwd)
-bench=${1:-$here/crates/record_bench/out/record_bench}
+bench=${1:-$here/crates/bench/out/bench}
 flips=${2:-200}
 [ -x "$bench" ] || { echo "skipped: no $bench"; exit 0; }
 bench=$(cd "$(dirname "$bench")" && pwd)/$(basename "$bench")
@@ -46,9 +46,9 @@ same_map() {
 one() {
     checked=$((checked + 1))
     rm -f out.bin out.hex out.srec
-    "$bench" binary "$2" > said || fail "$4, status"
+    "$bench" records binary "$2" > said || fail "$4, status"
     cmp -s "$1" out.bin || fail "$4, read ($(cat said))"
-    "$bench" texts "$2" > said
+    "$bench" records texts "$2" > said
     read_back "$1" "$4"
     same_map "$2" "$3" "$4"
 }
@@ -57,7 +57,7 @@ one() {
 gaps() {
     checked=$((checked + 1))
     rm -f out.hex out.srec
-    "$bench" texts "$1" > said
+    "$bench" records texts "$1" > said
     same_map "$1" "$2" "$3"
 }
 
@@ -147,7 +147,7 @@ flipped() {
         for format in intel motorola; do
             srec_cat image.bin -binary -offset 0x1FF00 -o peer.txt -$format -obs=$((1 + i % 40)) -execution-start-address=0
             flip peer.txt > flipped.txt
-            "$bench" binary flipped.txt > said
+            "$bench" records binary flipped.txt > said
             checked=$((checked + 1))
             ours=no
             grep -q '^refused' said && ours=yes && by_us=$((by_us + 1))

@@ -1,12 +1,12 @@
 -- What a run over a shop says at its end.
-use Rattle.std.proofs.Common.{◌≡◌, ◌≢◌, ◌⊎◌, inl, inr, ℕ, ◌+◌, ◌<◌, ◌≤◌, true, false, List, [], ◌++◌, None, Some, refl, sym, ◌∙◌, ap, subst, arith}
+use Rattle.std.proofs.Common.{◌≡◌, inl, inr, ℕ, ◌<◌, true, false, List, [], ◌++◌, None, Some, refl, sym, ◌∙◌, ap, subst, arith}
 use Rattle.std.specs.Prelude.{Bool, Option, IsTrue, MatchBool, MatchOption}
 use Rattle.std.proofs.lemmas.Bool.{cases_Bool, false≢true}
 use Rattle.barrier_board.specs.Board.{has_entry, says_complete}
-use Rattle.bay_core.specs.Core.{Core, core_start, core_of}
-use Rattle.bay_core.specs.Joint.{IsVehicleJoint, IsDone}
+use Rattle.bay_core.specs.Core.{Core, core_start}
+use Rattle.bay_core.specs.Joint.{IsDone}
 use Rattle.bay_core.specs.Stops.{has_failure}
-use Rattle.disk_model.specs.Disk.{DiskState, IsCrashImage}
+use Rattle.disk_model.specs.Disk.{DiskState}
 use Rattle.flash_plan.specs.Plan.{plan_of, count_of}
 use Rattle.flash_plan.specs.declared.outcome.Entry.{Entry}
 use Rattle.flash_plan.specs.declared.outcome.Entry.TheVariants.{Complete}
@@ -15,25 +15,21 @@ use Rattle.flash_plan.specs.declared.outcome.Outcome.TheVariants as outcome
 use Rattle.flash_plan.specs.declared.unit.LinkRules.{LinkRules}
 use Rattle.flash_plan.specs.declared.unit.UnitPlan.{UnitPlan}
 use Rattle.flash_run.specs.Run.{RunState, IsKept, core_of_run}
-use Rattle.journal_model.specs.Records.{records, label_of}
 use Rattle.outcome_law.proofs.Blocking.{complete_law}
 use Rattle.outcome_law.proofs.Faulting.{disk_fault_law, failed_law}
 use Rattle.outcome_law.proofs.Recorded.{outcome_law}
 use Rattle.outcome_law.specs.Law.{last_vehicle}
-use Rattle.outcome_law.specs.LinkCounting.{faults_of}
-use Rattle.outcome_law.specs.Outcomes.{IsOutcomeCaused, AllMatch, LacksMemory}
+use Rattle.outcome_law.specs.Outcomes.{IsOutcomeCaused}
 use Rattle.outcome_law.specs.Rising.{RoseBy}
 use Rattle.run_model.specs.Entries.{marks_of}
 use Rattle.run_model.specs.Troubles.{IsVehicleCalm}
 use Rattle.shop_model.specs.History.{History, disk_now, vehicle_now}
-use Rattle.shop_model.specs.Through.{AreShown}
-use Rattle.unit_model.specs.Poll.{Carries}
 use Rattle.flash_base.specs.Counts.{LAST_COUNT}
 use Rattle.unit_model.specs.Unit.{ControlUnit}
 use Rattle.unit_model.specs.Vehicle.{Vehicle, unit_at, heard_of, heard_in}
 use Rattle.bay_law.specs.Bay.{JournalState, IsBay}
-use Rattle.bay_law.specs.Closed.{HasOutcome, AreRecorded, AreCaused, HoldImages, IsCalmRun, AreCompleted, Says}
-use Rattle.bay_law.specs.Driven.{IsTold, IsDriven, Strays}
+use Rattle.bay_law.specs.Closed.{HasOutcome, AreRecorded, AreCaused, HoldImages, AreCompleted, Says}
+use Rattle.bay_law.specs.Driven.{IsTold, Strays}
 use Rattle.bay_law.proofs.Driving.{driven_run, driven_joint, driven_start}
 use Rattle.bay_law.proofs.Idle.{idle_along}
 use Rattle.bay_law.proofs.Units.{strays_units}

@@ -1,11 +1,9 @@
 -- What a group of records keeps of a run over a shop, and what one that failed keeps.
-use Rattle.std.proofs.Common.{◌≡◌, ◌⊎◌, inl, inr, ℕ, ◌+◌, ◌<◌, ◌≤◌, true, false, List, [], ◌∷◌, ◌++◌, refl, sym, ◌∙◌, ap, subst, arith}
+use Rattle.std.proofs.Common.{◌≡◌, ℕ, ◌+◌, true, false, List, [], ◌∷◌, ◌++◌, refl, sym, ◌∙◌, ap, subst, arith}
 use Rattle.std.specs.Prelude.{Bool, IsTrue, not, map, ◌||◌, MatchBool}
-use Rattle.std.proofs.lemmas.Bool.{cases_Bool, false≢true}
+use Rattle.std.proofs.lemmas.Bool.{false≢true}
 use Rattle.barrier_board.specs.Board.{has_entry as is_found}
-use Rattle.bay_core.specs.Core.{Core, core_start, core_after, core_of, is_disk_failure}
-use Rattle.bay_core.specs.Joint.{IsVehicleJoint}
-use Rattle.bay_core.specs.Legal.{is_legal}
+use Rattle.bay_core.specs.Core.{Core, core_start, core_after, core_of}
 use Rattle.bay_core.specs.Moves.{MovesVehicle}
 use Rattle.bay_core.specs.declared.event.Event.{Event}
 use Rattle.disk_model.specs.Disk.{DiskState, IsCrashImage}
@@ -22,15 +20,12 @@ use Rattle.journal_steps.specs.Append.{AddsSomeOf, with_entries}
 use Rattle.journal_steps.specs.Later.{IsDiskLater, HoldsOnDisk}
 use Rattle.journal_steps.specs.Read.{is_among}
 use Rattle.outcome_law.specs.LinkCounting.{is_fault, fault_of}
-use Rattle.outcome_law.specs.Rising.{RoseBy}
 use Rattle.run_model.specs.Link.{Link, is_live as lives}
-use Rattle.run_model.specs.Sound.{IsSound}
 use Rattle.shop_model.specs.History.{History, disk_now, vehicle_now}
-use Rattle.shop_model.specs.Through.{AreShown}
 use Rattle.unit_model.specs.Vehicle.{Vehicle}
-use Rattle.bay_law.specs.Bay.{JournalState, IsReadOn, HasMore, IsClosed, IsBay, IsJournalOf, IsSmallEvent, AreOrdered}
+use Rattle.bay_law.specs.Bay.{JournalState, IsReadOn, HasMore, IsClosed, IsBay, IsJournalOf, IsSmallEvent}
 use Rattle.bay_law.specs.Driven.{IsDriven, IsTold, Strays}
-use Rattle.flash_run.specs.Group.{recorded_as, failed_as, unit_in}
+use Rattle.flash_run.specs.Group.{recorded_as, failed_as}
 use Rattle.bay_law.specs.Sentence.{KeepsSound}
 use Rattle.bay_law.proofs.Driving.{driven_more}
 use Rattle.bay_law.proofs.Groups.{MayAll, entry_sym}

@@ -1,7 +1,6 @@
 -- A vehicle that moves with one event more.
-use Rattle.std.proofs.Common.{◌≡◌, inl, inr, ℕ, ◌+◌, true, false, List, [], ◌∷◌, ◌++◌, refl, sym, ◌∙◌, ap, subst, arith}
-use Rattle.std.specs.Prelude.{Bool, IsTrue}
-use Rattle.std.proofs.lemmas.Bool.{false≢true}
+use Rattle.std.proofs.Common.{◌≡◌, ℕ, ◌+◌, true, List, [], ◌∷◌, ◌++◌, refl, sym, ap, subst, arith}
+use Rattle.std.specs.Prelude.{Bool}
 use Rattle.bay_core.proofs.OneStep.{core_law}
 use Rattle.bay_core.specs.Core.{Core, core_start, core_after, core_of}
 use Rattle.bay_core.specs.Joint.{IsVehicleJoint}

@@ -1,22 +1,20 @@
 -- Entries that are recorded in one group, or whose append fails: each of its own, whatever the others are.
-use Rattle.std.proofs.Common.{◌≡◌, ◌⊎◌, inl, inr, ℕ, ◌<◌, true, false, List, [], ◌∷◌, ◌++◌, None, Some, refl, sym, ◌∙◌, ap, subst, arith}
-use Rattle.std.specs.Prelude.{Bool, Option, IsTrue, map, ◌||◌, ◌&&◌, ◌==◌, nat_lt, not, is_none, if◌then◌else◌}
-use Rattle.std.proofs.lemmas.Bool.{cases_Bool, false≢true, le-ltb, and_parts, and_from, eqb-true, eq-eqb}
+use Rattle.std.proofs.Common.{◌≡◌, ◌⊎◌, inl, inr, ℕ, true, false, List, [], ◌∷◌, refl, sym, ◌∙◌, ap, subst}
+use Rattle.std.specs.Prelude.{Bool, map, ◌||◌, ◌&&◌, ◌==◌}
+use Rattle.std.proofs.lemmas.Bool.{cases_Bool, false≢true, and_parts, and_from, eqb-true, eq-eqb}
 use Rattle.bay_core.proofs.OneStep.{step_law}
-use Rattle.bay_core.specs.Core.{Core, Slot, core_after, core_of, with_slot, slots_lost, slots_own, recorded_after}
+use Rattle.bay_core.specs.Core.{Core, core_after, core_of}
 use Rattle.bay_core.specs.Joint.{IsVehicleJoint, IsRecordJoint, RecordsAgree}
-use Rattle.bay_core.specs.Legal.{is_allowed, is_legal, may_record, may_begin, may_mark, may_finish, is_open_unit, is_begin, is_mark, is_done, is_clear, is_running}
-use Rattle.bay_core.specs.declared.event.Event.{Event}
+use Rattle.bay_core.specs.Legal.{is_legal, may_record}
 use Rattle.bay_core.specs.declared.event.Event.TheVariants.{DiskFailed}
 use Rattle.flash_base.specs.Lists.{Each}
 use Rattle.flash_plan.specs.Outcomes.{same_entry, with_entry}
-use Rattle.flash_plan.specs.Plan.{IsAccepted, count_of}
+use Rattle.flash_plan.specs.Plan.{IsAccepted}
 use Rattle.flash_plan.specs.declared.outcome.Entry.{Entry}
 use Rattle.flash_plan.specs.declared.outcome.Entry.TheVariants.{Begun, Marked, Complete}
 use Rattle.flash_plan.specs.declared.unit.LinkRules.{LinkRules}
 use Rattle.flash_plan.specs.declared.unit.UnitPlan.{UnitPlan}
 use Rattle.journal_steps.specs.Read.{is_among}
-use Rattle.run_model.specs.Link.{is_up}
 use Rattle.run_model.specs.Sound.{IsSound}
 use Rattle.unit_model.specs.Vehicle.{Vehicle}
 use Rattle.flash_run.proofs.Grouping.{record_same}

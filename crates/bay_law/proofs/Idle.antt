@@ -1,5 +1,5 @@
 -- A unit that was found complete hears nothing.
-use Rattle.std.proofs.Common.{◌≡◌, inl, inr, ℕ, ◌<◌, true, false, List, [], ◌∷◌, None, Some, refl, sym, ◌∙◌, ap, subst}
+use Rattle.std.proofs.Common.{◌≡◌, inl, inr, ℕ, ◌<◌, true, false, List, [], ◌∷◌, None, Some, refl, ◌∙◌, ap, subst}
 use Rattle.std.specs.Prelude.{Bool, Option, ◌||◌}
 use Rattle.std.proofs.lemmas.Bool.{both_ways, and_parts}
 use Rattle.bay_core.proofs.Allowed.{sent_facts}

@@ -1,12 +1,11 @@
 -- What one step keeps of a run over a shop: once for both kinds of shop, whatever call of the shop the step stands for.
-use Rattle.std.proofs.Common.{◌≡◌, ◌⊎◌, inl, inr, ℕ, ◌+◌, ◌<◌, ◌≤◌, true, false, List, [], ◌∷◌, ◌++◌, None, refl, sym, ◌∙◌, ap, subst, arith, Result}
+use Rattle.std.proofs.Common.{◌≡◌, inl, inr, ℕ, ◌+◌, ◌<◌, ◌≤◌, true, false, List, [], ◌∷◌, refl, sym, ◌∙◌, ap, subst, arith, Result}
 use Rattle.std.specs.Prelude.{Bool, IsTrue, not, map, ◌||◌}
 use Rattle.std.proofs.lemmas.Bool.{false≢true}
-use Rattle.barrier_board.specs.Board.{has_entry as is_found}
 use Rattle.bay_core.proofs.OneStep.{step_law}
-use Rattle.bay_core.specs.Core.{Core, core_start, core_after, core_of}
-use Rattle.bay_core.specs.Joint.{IsVehicleJoint, IsRecordJoint, RecordsAgree}
-use Rattle.bay_core.specs.Legal.{is_allowed, is_legal}
+use Rattle.bay_core.specs.Core.{Core, core_after, core_of}
+use Rattle.bay_core.specs.Joint.{IsVehicleJoint, RecordsAgree}
+use Rattle.bay_core.specs.Legal.{is_allowed}
 use Rattle.bay_core.specs.Moves.{MovesVehicle, MovesRecords}
 use Rattle.bay_core.specs.declared.event.Event.{Event}
 use Rattle.disk_model.specs.Disk.{DiskState, IsCrashImage}

@@ -1,15 +1,14 @@
 -- What a call of the link keeps: a dial, any send, any receive, and a receive for which there was no memory.
 use Rattle.std.proofs.Common.{◌≡◌, ◌⊎◌, inl, inr, ℕ, ◌+◌, ◌<◌, ◌≤◌, true, false, List, [], ◌∷◌, ◌++◌, length, take, Ok, Err, refl, sym, ◌∙◌, ap, subst, arith, Result, length-append, length-take}
-use Rattle.std.specs.Prelude.{Bool, IsTrue, IsErr, IsOk, is_err, not, min, ◌==◌, ◌-◌, ◌^◌, MatchBool}
+use Rattle.std.specs.Prelude.{Bool, IsTrue, IsErr, IsOk, is_err, not, min, ◌==◌, ◌-◌, ◌^◌}
 use Rattle.std.proofs.lemmas.Bool.{false≢true, and_from, eq-eqb}
 use Rattle.barrier_board.specs.Board.{has_entry as is_found}
-use Rattle.bay_core.specs.Core.{Core, core_start, core_after}
+use Rattle.bay_core.specs.Core.{Core, core_after}
 use Rattle.bay_core.specs.Legal.{is_allowed}
 use Rattle.bay_core.specs.Moves.{MovesVehicle, MovesRecords, Receives, FeedsOr, DialsOr, request_frame}
 use Rattle.bay_core.specs.declared.event.Event.{Event}
 use Rattle.bay_core.specs.declared.event.Event.TheVariants.{Sent, Collected, Tended}
 use Rattle.bay_core.specs.declared.event.Heard.{Heard}
-use Rattle.bay_core.specs.declared.event.Heard.TheVariants as heard
 use Rattle.bay_core.specs.declared.event.Tend.TheVariants.{Dialed, Asked, Said, Polled}
 use Rattle.disk_model.specs.declared.device.DeviceFault.{DeviceFault}
 use Rattle.doip_frame.specs.Frame.{activate_bytes, alive_say_bytes}
@@ -19,6 +18,7 @@ use Rattle.disk_model.specs.Disk.{DiskState}
 use Rattle.flash_plan.specs.declared.unit.LinkRules.{LinkRules}
 use Rattle.flash_plan.specs.declared.unit.UnitPlan.{UnitPlan}
 use Rattle.flash_run.specs.Run.{RunState, IsKept, core_of_run, with_event}
+use Rattle.gateway_link.specs.Calls.{RedialsOnce, SendsOnce}
 use Rattle.journal_steps.proofs.Laters.{later_then}
 use Rattle.outcome_law.specs.LinkCounting.{is_fault, fault_of, is_heard_fault, is_garbled}
 use Rattle.outcome_law.specs.Rising.{RoseBy}
@@ -31,8 +31,7 @@ use Rattle.unit_model.specs.Vehicle.{Vehicle}
 use Rattle.unit_model.specs.declared.reply.Got.{Got}
 use Rattle.unit_model.specs.declared.reply.Got.TheVariants.{Quiet, Bytes}
 use Rattle.bay_law.specs.Bay.{JournalState, IsBay, IsSmallEvent, IsSmall}
-use Rattle.bay_law.specs.Device.{RedialsOnce, SendsOnce, HearsOnce, StraysOnce, HeardAs}
-use Rattle.bay_law.specs.Driven.{IsTold}
+use Rattle.bay_law.specs.Device.{HearsOnce, HeardAs}
 use Rattle.bay_law.proofs.Keeping.{sentence_link, journal_still}
 use Rattle.bay_law.proofs.Parts.{shown_before, shown_call, link_later}
 use Rattle.bay_law.proofs.Steps.{event_keeps, told_more, told_joint}

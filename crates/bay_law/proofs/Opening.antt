@@ -1,15 +1,15 @@
 -- A run over a shop whose journal was opened.
-use Rattle.std.proofs.Common.{◌≡◌, ℕ, ◌+◌, true, false, List, [], refl, sym, ◌∙◌, ap, subst, arith}
+use Rattle.std.proofs.Common.{◌≡◌, true, List, sym, subst, arith}
 use Rattle.std.specs.Prelude.{Bool, IsTrue}
 use Rattle.std.proofs.lemmas.Bool.{false≢true}
 use Rattle.barrier_board.specs.Board.{has_entry as is_found}
-use Rattle.bay_core.specs.Core.{Core, core_start}
+use Rattle.bay_core.specs.Core.{core_start}
 use Rattle.bay_core.specs.Joint.{RecordsAgree}
 use Rattle.disk_model.specs.Disk.{DiskState}
 use Rattle.flash_plan.specs.declared.outcome.Entry.{Entry}
 use Rattle.flash_plan.specs.declared.unit.LinkRules.{LinkRules}
 use Rattle.flash_plan.specs.declared.unit.UnitPlan.{UnitPlan}
-use Rattle.flash_run.specs.Run.{RunState, core_of_run, run_start}
+use Rattle.flash_run.specs.Run.{run_start}
 use Rattle.journal_model.specs.Records.{Label, records, label_of}
 use Rattle.journal_steps.specs.Append.{Records}
 use Rattle.journal_steps.specs.Later.{IsDiskLater, HoldsOnDisk}
@@ -25,7 +25,7 @@ use Rattle.bay_law.proofs.Keeping.{agree_self}
 use Rattle.bay_law.proofs.Parts.{recorded}
 
 -- what the journal's opening leaves at each moment
-start_sentence : (P : List UnitPlan) (first now : History) → HoldsOnDisk first now (AllFollow (label_of P) (disk_now first)) → KeepsSound P first now
+pub start_sentence : (P : List UnitPlan) (first now : History) → HoldsOnDisk first now (AllFollow (label_of P) (disk_now first)) → KeepsSound P first now
 start_sentence P first now through v0 start = record {
   is_later = through.is_later;
   each = λ m ge le shown.

@@ -1,12 +1,10 @@
 -- Want of memory in a step that may receive: no call was made, or a receive whose bytes no event has.
-use Rattle.std.proofs.Common.{◌≡◌, ◌⊎◌, inl, inr, ℕ, ◌+◌, ◌<◌, ◌≤◌, true, false, List, [], length, take, Ok, Err, Result, refl, sym, ◌∙◌, ap, subst, arith}
+use Rattle.std.proofs.Common.{◌≡◌, inl, inr, ℕ, ◌≤◌, true, false, List, take, Ok, Result, sym, ◌∙◌, ap, subst, arith}
 use Rattle.std.specs.Prelude.{Bool, IsTrue}
-use Rattle.barrier_board.specs.Board.{has_entry as is_found}
-use Rattle.bay_core.specs.Core.{Core}
 use Rattle.disk_model.specs.Disk.{DiskState, IsCrashImage}
 use Rattle.disk_model.specs.declared.device.DeviceFault.{DeviceFault}
-use Rattle.flash_base.specs.Counts.{Rises}
 use Rattle.flash_run.specs.Run.{RunState, IsKept, core_of_run}
+use Rattle.gateway_link.specs.Calls.{StraysOnce}
 use Rattle.journal_model.specs.Records.{records, label_of}
 use Rattle.journal_steps.proofs.Laters.{later_then}
 use Rattle.shop_model.specs.History.{History, LAST, Receive, Received, disk_now, vehicle_now}
@@ -15,8 +13,7 @@ use Rattle.unit_model.specs.Poll.{Carries}
 use Rattle.unit_model.specs.Vehicle.{Vehicle}
 use Rattle.unit_model.specs.declared.reply.Got.{Got}
 use Rattle.unit_model.specs.declared.reply.Got.TheVariants.{Bytes}
-use Rattle.bay_law.specs.Bay.{JournalState, IsBay, IsJournalOf}
-use Rattle.bay_law.specs.Device.{StraysOnce}
+use Rattle.bay_law.specs.Bay.{JournalState, IsBay}
 use Rattle.bay_law.specs.Driven.{IsTold, Strays}
 use Rattle.bay_law.specs.Sentence.{IsSoundAt, KeepsSound, Covers}
 use Rattle.bay_law.proofs.Parts.{shown_before, link_later, while_then}

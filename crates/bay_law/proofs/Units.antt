@@ -1,15 +1,13 @@
 -- What speaks of units alone, whatever the gateway has carried.
-use Rattle.std.proofs.Common.{◌≡◌, inl, inr, ℕ, ◌≤◌, true, false, List, refl, sym, ◌∙◌, ap, subst}
-use Rattle.std.specs.Prelude.{Bool, Option, IsTrue, MatchBool, MatchOption}
+use Rattle.std.proofs.Common.{◌≡◌, inl, inr, true, false, List, sym, ap, subst}
+use Rattle.std.specs.Prelude.{Bool, MatchBool}
 use Rattle.flash_plan.specs.declared.outcome.Entry.{Entry}
 use Rattle.flash_plan.specs.declared.unit.UnitPlan.{UnitPlan}
-use Rattle.flash_plan.specs.Plan.{plan_of}
 use Rattle.flash_run.specs.Run.{RunState}
 use Rattle.run_model.specs.Sound.{IsSound}
 use Rattle.shop_model.specs.History.{History, vehicle_now}
-use Rattle.unit_model.specs.Poll.{Carries}
 use Rattle.unit_model.specs.Unit.{ControlUnit}
-use Rattle.unit_model.specs.Vehicle.{Vehicle, Gateway}
+use Rattle.unit_model.specs.Vehicle.{Vehicle}
 use Rattle.bay_law.specs.Driven.{IsTold, Strays}
 
 -- the records fit a vehicle by its units

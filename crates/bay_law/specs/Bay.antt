@@ -1,5 +1,5 @@
 -- What a run over a shop and its journal keeps: of the disk, of the vehicle, and of each moment since the opening.
-use Rattle.std.specs.Prelude.{◌≡◌, ℕ, ◌≤◌, Bool, true, false, not, List, [], ◌∷◌, length, IsTrue}
+use Rattle.std.specs.Prelude.{◌≡◌, ℕ, ◌≤◌, Bool, true, false, not, List, length, IsTrue}
 use Rattle.barrier_board.specs.Board.{has_entry as is_found}
 use Rattle.bay_core.specs.Core.{Core}
 use Rattle.bay_core.specs.declared.event.Event.{Event}

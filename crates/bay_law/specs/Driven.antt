@@ -1,6 +1,6 @@
 -- A vehicle that has moved with the events of a run. What link, gateway and units hold of each other, what is counted of each
 -- conversation and outcome, and which units are done, follows from this by the laws of the core.
-use Rattle.std.specs.Prelude.{◌≡◌, ◌⊎◌, ℕ, Bool, true, false, List, MatchBool}
+use Rattle.std.specs.Prelude.{◌≡◌, ◌⊎◌, ℕ, Bool, List, MatchBool}
 use Rattle.bay_core.specs.Core.{core_start}
 use Rattle.bay_core.specs.Law.{DrivesAll}
 use Rattle.bay_core.specs.declared.event.Event.{Event}

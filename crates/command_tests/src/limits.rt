@@ -2,6 +2,7 @@ use crate::support::{put, told};
 use flash_base::Files;
 use std::alloc::Global;
 use std::test::Fail;
+use std::thread::Threads;
 
 /// An order with so many tasks of one file each, at addresses from 1000 on.
 fn order_of(alloc: Global, tasks: u64, file: &str) -> Result<String, Fail> {
@@ -18,13 +19,19 @@ fn order_of(alloc: Global, tasks: u64, file: &str) -> Result<String, Fail> {
 }
 
 /// What `check` prints for such an order, up to the first line end.
-fn line_of(alloc: Global, tasks: u64, file: &str, size: usize) -> Result<String, Fail> {
+fn line_of<R: Threads + Sync>(
+    rt: &R,
+    alloc: Global,
+    tasks: u64,
+    file: &str,
+    size: usize,
+) -> Result<String, Fail> {
     let order = order_of(alloc, tasks, file)?;
     let body = Vec::from_elem(alloc, 0u8, size)?;
     let mut files = Files::new(alloc);
     put(alloc, &mut files, "o.json", order.as_bytes())?;
     put(alloc, &mut files, "b.bin", body.as_slice())?;
-    let text = told(alloc, &files, "check o.json", &[], &[])?;
+    let text = told(rt, alloc, &files, "check o.json", &[], &[])?;
     let (line, _) = text.as_str().split_once('\n').ok_or("a line end")?;
     Ok(String::from_str(alloc, line)?)
 }
@@ -34,13 +41,13 @@ fn line_of(alloc: Global, tasks: u64, file: &str, size: usize) -> Result<String,
 fn largest_order(rt: HostRuntime) -> Result<(), Fail> {
     let alloc = rt.alloc();
     assert!(rt;
-        line_of(alloc, 64, "b.bin", 1)?
+        line_of(&rt, alloc, 64, "b.bin", 1)?
             .as_str()
             .starts_with("done plan ")
     );
     for file in ["b.bin", "missing.bin"] {
         assert_eq!(rt;
-            line_of(alloc, 65, file, 1)?.as_str(),
+            line_of(&rt, alloc, 65, file, 1)?.as_str(),
             "input input o.json too many units"
         );
     }
@@ -56,7 +63,7 @@ fn most_bytes(rt: HostRuntime) -> Result<(), Fail> {
         (5, 16_777_216, "input input o.json too many total"),
         (1, 67_108_865, "shelf shelf b.bin too large"),
     ] {
-        assert_eq!(rt; line_of(alloc, tasks, "b.bin", size)?.as_str(), want);
+        assert_eq!(rt; line_of(&rt, alloc, tasks, "b.bin", size)?.as_str(), want);
     }
     Ok(())
 }
@@ -109,7 +116,7 @@ fn most_segments(rt: HostRuntime) -> Result<(), Fail> {
         )?;
         put(alloc, &mut files, "c.json", catalogue.as_bytes())?;
         put(alloc, &mut files, "b.bin", body.as_slice())?;
-        let text = told(alloc, &files, "check o.json", &[], &[])?;
+        let text = told(&rt, alloc, &files, "check o.json", &[], &[])?;
         assert!(rt; text.as_str().starts_with(want));
     }
     Ok(())

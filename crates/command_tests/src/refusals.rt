@@ -1,6 +1,7 @@
 use crate::support::{files_with, told};
 use std::alloc::Global;
 use std::test::Fail;
+use std::thread::Threads;
 
 /// A refusal: the file, the piece of it that is another, what stands in its place, and the line.
 /// Where the piece is not there, the file is missing.
@@ -216,9 +217,15 @@ const OF_THE_DATA: [(&str, &str, &str, &str); 9] = [
 ];
 
 /// The first line that `check` prints once a file is another, without its end.
-fn line_with(alloc: Global, file: &str, old: &str, new: &str) -> Result<String, Fail> {
+fn line_with<R: Threads + Sync>(
+    rt: &R,
+    alloc: Global,
+    file: &str,
+    old: &str,
+    new: &str,
+) -> Result<String, Fail> {
     let files = files_with(alloc, file, old, new)?;
-    let text = told(alloc, &files, "check o.json", &[], &[])?;
+    let text = told(rt, alloc, &files, "check o.json", &[], &[])?;
     let (status, line) = text.as_str().split_once(' ').ok_or("a blank")?;
     if status == "done" {
         return Ok(String::from_str(alloc, status)?);
@@ -234,7 +241,7 @@ fn line_with(alloc: Global, file: &str, old: &str, new: &str) -> Result<String, 
 fn refusals_of_the_order(rt: HostRuntime) -> Result<(), Fail> {
     let alloc = rt.alloc();
     for (old, new, want) in OF_THE_ORDER {
-        assert_eq!(rt; line_with(alloc, "o.json", old, new)?.as_str(), want);
+        assert_eq!(rt; line_with(&rt, alloc, "o.json", old, new)?.as_str(), want);
     }
     Ok(())
 }
@@ -243,7 +250,7 @@ fn refusals_of_the_order(rt: HostRuntime) -> Result<(), Fail> {
 fn refusals_of_the_catalogue(rt: HostRuntime) -> Result<(), Fail> {
     let alloc = rt.alloc();
     for (old, new, want) in OF_THE_CATALOGUE {
-        assert_eq!(rt; line_with(alloc, "cat.json", old, new)?.as_str(), want);
+        assert_eq!(rt; line_with(&rt, alloc, "cat.json", old, new)?.as_str(), want);
     }
     Ok(())
 }
@@ -252,7 +259,7 @@ fn refusals_of_the_catalogue(rt: HostRuntime) -> Result<(), Fail> {
 fn refusals_of_the_data(rt: HostRuntime) -> Result<(), Fail> {
     let alloc = rt.alloc();
     for (file, old, new, want) in OF_THE_DATA {
-        assert_eq!(rt; line_with(alloc, file, old, new)?.as_str(), want);
+        assert_eq!(rt; line_with(&rt, alloc, file, old, new)?.as_str(), want);
     }
     Ok(())
 }

@@ -3,6 +3,7 @@ use flash_shelf::{MemoryShelf, MemorySink};
 use plan_commands::{Status, serve};
 use std::alloc::Global;
 use std::test::Fail;
+use std::thread::Threads;
 
 /// An order of three units: two with sessions, one with a file.
 pub(crate) const ORDER: &str = r#"{"tester":"0E80","relinks":1,"catalogue":"cat.json","tasks":[
@@ -110,7 +111,8 @@ pub(crate) fn status_word(status: Status) -> &'static str {
 
 /// The status of a command as a word, a blank, and what it printed. The words stand with single
 /// blanks between them; reads and writes with the given numbers fail.
-pub(crate) fn told(
+pub(crate) fn told<R: Threads + Sync>(
+    rt: &R,
     alloc: Global,
     files: &Files,
     words: &str,
@@ -123,7 +125,7 @@ pub(crate) fn told(
     }
     let mut shelf = MemoryShelf::new(alloc, files, reads)?;
     let mut out = MemorySink::new(alloc, writes)?;
-    let status = serve(alloc, list.as_slice(), &mut shelf, &mut out);
+    let status = serve(rt, alloc, list.as_slice(), &mut shelf, &mut out);
     let mut text = String::from_str(alloc, status_word(status))?;
     text.push(' ')?;
     for byte in out.written() {

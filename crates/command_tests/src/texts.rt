@@ -54,7 +54,7 @@ fn texts(rt: HostRuntime) -> Result<(), Fail> {
         ("run o.json 1", "usage usage\n"),
     ] {
         assert_eq!(rt;
-            told(alloc, &files, words, &[], &[])?.as_str(),
+            told(&rt, alloc, &files, words, &[], &[])?.as_str(),
             want,
             "{words}"
         );
@@ -75,7 +75,7 @@ fn failures_of_shelf_and_sink(rt: HostRuntime) -> Result<(), Fail> {
         (5, CHECK),
     ] {
         assert_eq!(rt;
-            told(alloc, &files, "check o.json", &[read], &[])?.as_str(),
+            told(&rt, alloc, &files, "check o.json", &[read], &[])?.as_str(),
             want,
             "{read}"
         );
@@ -88,7 +88,7 @@ fn failures_of_shelf_and_sink(rt: HostRuntime) -> Result<(), Fail> {
         ("check", "usage "),
     ] {
         assert_eq!(rt;
-            told(alloc, &files, words, &[], &[0])?.as_str(),
+            told(&rt, alloc, &files, words, &[], &[0])?.as_str(),
             want,
             "{words}"
         );

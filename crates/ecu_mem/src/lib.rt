@@ -21,6 +21,3 @@ mod values;
 pub use fault::MemFault;
 pub use resolving::resolve;
 pub use types::{Block, Check, EcuMem, Flash, Format, Ident, Session, Source};
-
-#[cfg(test)]
-mod tests;

@@ -1,10 +1,10 @@
 -- What a look at a file answers.
-use Rattle.std.specs.Prelude.{◌≡◌, ◌⊎◌, ℕ, true, List, Result, Ok, Err}
+use Rattle.std.specs.Prelude.{◌≡◌, ◌⊎◌, ℕ, Bool, IsTrue, true, List, Result, Ok, Err}
 use Rattle.flash_base.specs.Counts.{Rises}
 use Rattle.flash_plan.specs.declared.outcome.Entry.{Entry}
 use Rattle.shop_model.specs.History.{History}
 use Rattle.journal_model.specs.Records.{Label, records, stands_at}
-use Rattle.journal_steps.specs.Read.{is_among, AreOnce}
+use Rattle.journal_steps.specs.Read.{is_among, limit_of, AreOnce, IsFront}
 use Rattle.journal_steps.specs.Tested.{tested, NotMade, NoJournal, OfOtherPlan, OfThisPlan}
 use Rattle.flash_journal.specs.declared.looking.OpenFault.{OpenFault}
 use Rattle.flash_journal.specs.declared.looking.OpenFault.TheVariants.{NotJournal, OtherPlan, DiskFault, NoMemory}
@@ -29,6 +29,16 @@ pub record Lists (P : Label) (bytes : List ℕ) (es : List Entry) : Type 0 where
 abbrev pub IsLookAnswer : Label → List ℕ → Result (List Entry) OpenFault → Type 0
 IsLookAnswer P bytes (Ok es) = Lists P bytes es
 IsLookAnswer P bytes (Err fault) = Refuses P bytes fault
+
+-- the bytes that were read decide on the answer: where the disk is told, they are the first of the image
+pub record IsAnswerOfRead (tells : Bool) (P : Label) (image : List ℕ) (r : Result (List Entry) OpenFault) : Type 0 where
+  pub bytes : List ℕ
+  pub front : IsTrue tells → IsFront (limit_of P) image bytes
+  pub answer : IsLookAnswer P bytes r
+
+-- nothing could be read, or bytes were read that decide on the answer
+abbrev pub CameOfRead : Bool → Label → List ℕ → Result (List Entry) OpenFault → Type 0
+CameOfRead tells P image r = (r ≡ Err DiskFault) ⊎ (r ≡ Err NoMemory) ⊎ IsAnswerOfRead tells P image r
 
 -- the other plan's digest is another
 abbrev pub SaysOther : List ℕ → OpenFault → Type 0

@@ -2,7 +2,7 @@ ghost use Rattle.std.specs.Prelude.{◌≡◌, [], IsTrue, IfOk, IfErr};
 ghost use Rattle.shop_model.specs.History.{disk_now};
 ghost use Rattle.journal_model.specs.Records.{label_of};
 ghost use Rattle.journal_steps.specs.Later.{IsDiskLater, SameDisk};
-ghost use Rattle.flash_journal.specs.Look.{IsLookAnswer, HasCause, SaysOther};
+ghost use Rattle.flash_journal.specs.Look.{CameOfRead, IsLookAnswer, HasCause, SaysOther};
 
 use crate::layout::limit;
 use crate::reading::{ReadFault, read_front};
@@ -33,6 +33,7 @@ pub enum OpenFault {
 pub fn look<S: Shop>(alloc: Global, shop: &mut S, plan: &Plan) -> Result<Entries, OpenFault>
     // The entries are the records of what a read gives; a refusal is answered exactly where the tests find it.
     ensures answer { IsTrue S.tells_disk → IsLookAnswer (label_of plan.now) (disk_now (S.history shop.old)).bytes result }
+    ensures read { CameOfRead S.tells_disk (label_of plan.now) (disk_now (S.history shop.old)).bytes result }
     ensures other { IfErr result (SaysOther (label_of plan.now).digest) }
     ensures cause { IfErr result (HasCause (S.history shop.old) (S.history shop.new)) }
 

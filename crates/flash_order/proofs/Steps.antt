@@ -2,6 +2,8 @@
 use Rattle.std.proofs.Common.{String, ◌≡◌, ℕ, suc, cond, length, ◌+◌, ◌≤◌, ◌&&◌, ◌==◌, List, [], ◌∷◌, ◌++◌, Bool, true, false, IsTrue, Option, Some, None, Result, Ok, Err, append_assoc, refl, ap, arith}
 use Rattle.std.specs.List.{list_all}
 use Rattle.std.specs.Str.{IsUtf8, is_utf8}
+use Rattle.std.specs.Prelude.{nat_le, nat_lt}
+use Rattle.std.proofs.lemmas.Bool.Decides.{nat_tests}
 use Rattle.std.proofs.lemmas.Str.{is_utf8-from_IsUtf8, IsUtf8-from_is_utf8}
 use Rattle.std.specs.declared.alloc.Global.{Global}
 use Rattle.serde_json.specs.Data.{Data, Items, item, Members, member}
@@ -9,6 +11,9 @@ use Rattle.serde_json.specs.Read.{read}
 use Rattle.serde_json.specs.View.{items_view, members_view}
 use Rattle.serde_json.specs.declared.value.Value.{Value}
 use Rattle.flash_base.specs.Lists.{Each}
+use Rattle.flash_plan.specs.Plan.{IsTaskName}
+use Rattle.text_forms.specs.FileNames.{may_begin}
+use Rattle.text_forms.specs.TaskNames.{task_name}
 use Rattle.flash_order.specs.declared.fault.OrderFault.TheVariants as order
 use Rattle.flash_order.specs.declared.order.Task.{Task}
 use Rattle.flash_order.specs.Fields.{◌>>=◌, ◌>=>◌, address}
@@ -25,13 +30,22 @@ second_true : (a b : Bool) → (a && b) ≡ true → b ≡ true
 second_true true b h = h
 second_true false b h = cc
 
-pub each_true : (p : ℕ → Bool) (xs : List ℕ) → list_all p xs ≡ true → Each (λ x. IsTrue (p x)) xs
+each_true : (p : ℕ → Bool) (xs : List ℕ) → list_all p xs ≡ true → Each (λ x. IsTrue (p x)) xs
 each_true p [] h = tt
 each_true p (x ∷ xs) h = (first_true (p x) (list_all p xs) h, each_true p xs (second_true (p x) (list_all p xs) h))
 
-pub some_bytes : (xs : List ℕ) → (length xs == 0) ≡ false → 1 ≤ length xs
-some_bytes [] h = cc
-some_bytes (x ∷ xs) h = omega arith
+pub task_named : (t : List ℕ) → task_name t ≡ true → IsTaskName t
+task_named t h =
+    let sized = first_true (nat_lt 0 (length t) && nat_le (length t) 32) (list_all may_begin t) h in
+    let few : nat_lt 0 (length t) ≡ true = first_true (nat_lt 0 (length t)) (nat_le (length t) 32) sized in
+    let many : nat_le (length t) 32 ≡ true = second_true (nat_lt 0 (length t)) (nat_le (length t) 32) sized in
+    let some : 1 ≤ length t = grind (arith, nat_tests, few) in
+    let short : length t ≤ 32 = grind (arith, nat_tests, many) in
+    record {
+      some = some;
+      short = short;
+      letters = each_true may_begin t (second_true (nat_lt 0 (length t) && nat_le (length t) 32) (list_all may_begin t) h);
+    }
 
 -- ------ members
 pub member_count-view : (ms : List (String Global × Value)) → member_count (members_view ms) ≡ length ms

@@ -1,16 +1,15 @@
 -- How one member of an object is read.
 use Rattle.std.specs.Prelude.{ℕ, ◌-◌, ◌&&◌, ◌||◌, ◌==◌, nat_lt, nat_le, Bool, List, [], ◌∷◌, length, Option, Some, None, Result, Ok, Err, if◌then◌else◌}
-use Rattle.std.specs.List.{list_all}
 use Rattle.serde_json.specs.Data.{Data}
 use Rattle.serde_json.specs.Find.{get, as_str, as_number, as_u64}
 use Rattle.flash_base.specs.declared.unit.Width.{Width}
 use Rattle.flash_order.specs.declared.fault.FieldFault.{FieldFault}
 use Rattle.flash_order.specs.declared.fault.FieldFault.TheVariants.{Bad}
-use Rattle.flash_plan.specs.Plan.{is_name_byte}
 use Rattle.span_store.specs.ByteMap.{top}
 use Rattle.text_forms.specs.Bytes.{byte_text}
 use Rattle.text_forms.specs.FileNames.{file_name}
 use Rattle.text_forms.specs.Numbers.{hex_text}
+use Rattle.text_forms.specs.TaskNames as form
 
 -- the second step, if the first gave a value
 infixl 10 ◌>>=◌
@@ -77,12 +76,8 @@ relinks d = whole d >=> λ n. only_if (nat_le n 8) n
 abbrev pub file : Data → Option (List ℕ)
 file d = as_str d >=> λ t. only_if (file_name t) t
 
--- 1 to 32 letters, digits and '_'
-abbrev pub is_task_name : List ℕ → Bool
-is_task_name name = nat_le 1 (length name) && nat_le (length name) 32 && list_all is_name_byte name
-
 abbrev pub task_name : Data → Option (List ℕ)
-task_name d = as_str d >=> λ t. only_if (is_task_name t) t
+task_name d = as_str d >=> λ t. only_if (form.task_name t) t
 
 -- 1 to 128 bytes of UTF-8
 abbrev pub session_id : Data → Option (List ℕ)

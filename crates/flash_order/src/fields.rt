@@ -1,19 +1,19 @@
 ghost use Rattle.std.specs.Prelude.{◌≡◌, ◌⊎◌, ◌<◌, ◌≤◌, ◌-◌, Err, IfOk, IfSome, IsTrue, codes, length, option_map};
-ghost use Rattle.std.specs.List.{list_all};
 ghost use Rattle.serde_json.specs.Find.{get};
 ghost use Rattle.serde_json.specs.View.{view};
-ghost use Rattle.flash_order.specs.Fields.{address, check, chosen, file, four_digits, is_task_name, needed, one_byte, place, relinks, session_id, task_name, whole, width, width_digit, width_text};
+ghost use Rattle.flash_order.specs.Fields.{address, check, chosen, file, four_digits, needed, one_byte, place, relinks, session_id, task_name, whole, width, width_digit, width_text};
 ghost use Rattle.flash_order.specs.Promises.{IsCheck};
-ghost use Rattle.flash_plan.specs.Plan.{is_name_byte, IsTaskName, IsWidth};
+ghost use Rattle.flash_plan.specs.Plan.{IsTaskName, IsWidth};
 ghost use Rattle.span_store.specs.ByteMap.{top};
 ghost use Rattle.text_forms.specs.FileNames.{file_name};
+ghost use Rattle.text_forms.specs.TaskNames as form;
 
 use crate::fault::FieldFault;
 use flash_base::{Text, Width};
 use serde_json::Value;
 use span_store::TOP;
 use std::alloc::Global;
-use text_forms::{hex_byte, hex_number, is_file_name};
+use text_forms::{hex_byte, hex_number, is_file_name, is_task_name};
 
 /// The refusal of a member.
 pub(crate) fn bad(alloc: Global, name: &str) -> FieldFault
@@ -127,29 +127,12 @@ pub(crate) fn file_of(value: &Value) -> Option<&str>
     if is_file_name(name) { Some(name) } else { None }
 }
 
-fn is_name_byte(b: u8) -> bool
-    ensures { result ≡ is_name_byte b }
-{
-    b.is_ascii_alphanumeric() || b == b'_'
-}
-
-fn are_name_bytes(bytes: &[u8]) -> bool
-    ensures { result ≡ list_all is_name_byte bytes.now }
-{
-    bytes.iter().all(|b| is_name_byte(*b))
-}
-
-fn is_task_name(text: &str) -> bool
-    ensures is { result ≡ is_task_name text.now }
+/// Whether a text is a task's name, as the plan asks for it.
+fn is_name(text: &str) -> bool
+    ensures is { result ≡ form.task_name text.now }
     ensures form { IsTrue result → IsTaskName text.now }
 {
-    if text.is_empty() {
-        return false;
-    }
-    if text.len() > 32 {
-        return false;
-    }
-    are_name_bytes(text.as_bytes())
+    is_task_name(text)
 }
 
 pub(crate) fn task_name_of(value: &Value) -> Option<&str>
@@ -157,7 +140,7 @@ pub(crate) fn task_name_of(value: &Value) -> Option<&str>
     ensures form { IfSome result (λ t. IsTaskName t.now) }
 {
     let name = value.as_str()?;
-    if is_task_name(name) { Some(name) } else { None }
+    if is_name(name) { Some(name) } else { None }
 }
 
 pub(crate) fn session_id_of(value: &Value) -> Option<&str>

@@ -17,6 +17,3 @@ mod task;
 pub use fault::OrderFault;
 pub use order::{Order, Source, Task};
 pub use reading::read;
-
-#[cfg(test)]
-mod tests;

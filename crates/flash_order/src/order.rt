@@ -17,13 +17,17 @@ pub struct Order {
 /// One control unit to be programmed.
 #[derive(Debug, Drop)]
 pub struct Task {
+    /// 1 to 32 letters, digits and `_`, which no other task has.
     pub name: Text,
     /// The unit's logical address (ISO 13400-2:2019).
     pub unit: u16,
+    /// How many bytes addresses and sizes take in requests (ISO 14229-1, service 0x34).
     pub width: Width,
     /// The routine that compares a digest (ISO 14229-1, service 0x31), none of the two that the script starts itself.
     pub check: u16,
+    /// How the key follows from the seed (ISO 14229-1, service 0x27).
     pub key: KeyRule,
+    /// Where its bytes come from.
     pub source: Source,
     /// The names of the tasks that have to be complete before this one begins.
     pub after: Names,

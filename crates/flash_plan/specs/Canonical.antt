@@ -13,9 +13,13 @@ use Rattle.flash_plan.specs.declared.unit.Wanted.{Wanted}
 abbrev pub counted : List ℕ → List ℕ
 counted bytes = length bytes ∷ bytes
 
--- address in eight bytes, size in four, the bytes
+-- address in eight bytes, size in four
+abbrev pub segment_head : Segment → List ℕ
+segment_head s = big_endian 8 s.at ++ big_endian 4 (length s.body)
+
+-- and the bytes
 abbrev pub segment_bytes : Segment → List ℕ
-segment_bytes s = big_endian 8 s.at ++ big_endian 4 (length s.body) ++ s.body
+segment_bytes s = segment_head s ++ s.body
 
 -- identifier in two bytes, number of values, each value with its length
 abbrev pub wanted_bytes : Wanted → List ℕ
@@ -30,16 +34,24 @@ key_bytes (Digest level size secret) = 2 ∷ level ∷ size ∷ counted secret
 abbrev pub unit_head : UnitPlan → List ℕ
 unit_head u = big_endian 2 u.address ++ counted u.name ++ ((u.width.size * 16 + u.width.at) ∷ []) ++ big_endian 2 u.check ++ key_bytes u.key
 
-abbrev pub unit_bytes : UnitPlan → List ℕ
-unit_bytes u =
+-- what stands before a unit's segments: also its expected identifiers, the units before it, and the number of segments
+abbrev pub unit_front : UnitPlan → List ℕ
+unit_front u =
     unit_head u
     ++ (length u.idents ∷ []) ++ flat_map wanted_bytes u.idents
     ++ (length u.after ∷ []) ++ flat_map (big_endian 2) u.after
-    ++ big_endian 2 (length u.segments) ++ flat_map segment_bytes u.segments
+    ++ big_endian 2 (length u.segments)
 
--- the bytes of a plan: its name, version 1, the number of units, the units
+abbrev pub unit_bytes : UnitPlan → List ℕ
+unit_bytes u = unit_front u ++ flat_map segment_bytes u.segments
+
+-- what stands before the units: the name of the form, version 1, the number of units
+abbrev pub plan_front : List UnitPlan → List ℕ
+plan_front units = codes "ODXFPLAN" ++ (1 ∷ []) ++ big_endian 2 (length units)
+
+-- the bytes of a plan
 abbrev pub canonical : List UnitPlan → List ℕ
-canonical units = codes "ODXFPLAN" ++ (1 ∷ []) ++ big_endian 2 (length units) ++ flat_map unit_bytes units
+canonical units = plan_front units ++ flat_map unit_bytes units
 
 -- the digest of a plan (FIPS 180-4)
 abbrev pub plan_digest : List UnitPlan → List ℕ

@@ -4,6 +4,7 @@
 
 mod accepting;
 mod cycle;
+mod digesting;
 mod fault;
 mod limits;
 mod naming;

@@ -2,8 +2,9 @@ ghost use Rattle.std.specs.Prelude.{◌≡◌, ◌<◌, IfOk};
 ghost use Rattle.flash_plan.specs.Canonical.{canonical, plan_digest};
 ghost use Rattle.flash_plan.specs.Plan.{plan_of, count_of, IsAccepted};
 
+use crate::digesting::digest_of;
 use crate::unit::UnitPlan;
-use crate::writing::{digest_of, plan_bytes};
+use crate::writing::plan_bytes;
 use flash_base::{Bytes, Items, NoMemory};
 use std::alloc::Global;
 use std::marker::Model;

@@ -1,12 +1,11 @@
 ghost use Rattle.std.specs.Prelude.{◌≡◌, ◌<◌, ◌≤◌, ◌++◌, IfOk, OnOk, length, flat_map};
 ghost use Rattle.flash_base.specs.Lists.{Each};
 ghost use Rattle.flash_base.specs.Numbers.{big_endian};
-ghost use Rattle.flash_plan.specs.Canonical.{canonical, counted, key_bytes, plan_digest, segment_bytes, unit_bytes, unit_head, wanted_bytes};
+ghost use Rattle.flash_plan.specs.Canonical.{canonical, counted, key_bytes, plan_front, segment_bytes, segment_head, unit_bytes, unit_front, unit_head, wanted_bytes};
 ghost use Rattle.flash_plan.specs.Plan.{IsAccepted, IsAcceptedUnit, IsKeyRule, IsWanted};
 
 use crate::unit::{Segment, UnitPlan, Wanted};
 use flash_base::{Bytes, Items, KeyRule, NoMemory};
-use sha2::{Digest, Sha256};
 use std::alloc::Global;
 
 /// Puts the last `size` bytes of a number, the greatest first.
@@ -29,11 +28,19 @@ fn put_counted(out: &mut Bytes, bytes: &[u8]) -> Result<(), NoMemory>
     out.extend(bytes)
 }
 
-fn put_segment(out: &mut Bytes, segment: &Segment) -> Result<(), NoMemory>
-    ensures { OnOk result (out.new ≡ out.old ++ segment_bytes segment.now) }
+/// What stands before a segment's bytes.
+pub(crate) fn put_segment_head(out: &mut Bytes, segment: &Segment) -> Result<(), NoMemory>
+    ensures { OnOk result (out.new ≡ out.old ++ segment_head segment.now) }
 {
     put_number(out, 8, segment.at)?;
     put_number(out, 4, segment.body.len() as u64)?;
+    Ok(())
+}
+
+fn put_segment(out: &mut Bytes, segment: &Segment) -> Result<(), NoMemory>
+    ensures { OnOk result (out.new ≡ out.old ++ segment_bytes segment.now) }
+{
+    put_segment_head(out, segment)?;
     out.extend(segment.body.as_slice())?;
     Ok(())
 }
@@ -118,9 +125,10 @@ fn put_head(out: &mut Bytes, unit: &UnitPlan) -> Result<(), NoMemory>
     put_key(out, &unit.key)
 }
 
-fn put_unit(out: &mut Bytes, unit: &UnitPlan) -> Result<(), NoMemory>
+/// What stands before a unit's segments.
+pub(crate) fn put_front(out: &mut Bytes, unit: &UnitPlan) -> Result<(), NoMemory>
     requires { IsAcceptedUnit unit.now }
-    ensures { OnOk result (out.new ≡ out.old ++ unit_bytes unit.now) }
+    ensures { OnOk result (out.new ≡ out.old ++ unit_front unit.now) }
 {
     put_head(out, unit)?;
     out.push(unit.idents.len() as u8)?;
@@ -128,6 +136,14 @@ fn put_unit(out: &mut Bytes, unit: &UnitPlan) -> Result<(), NoMemory>
     out.push(unit.after.len() as u8)?;
     put_after(out, &unit.after)?;
     put_number(out, 2, unit.segments.len() as u64)?;
+    Ok(())
+}
+
+fn put_unit(out: &mut Bytes, unit: &UnitPlan) -> Result<(), NoMemory>
+    requires { IsAcceptedUnit unit.now }
+    ensures { OnOk result (out.new ≡ out.old ++ unit_bytes unit.now) }
+{
+    put_front(out, unit)?;
     put_segments(out, &unit.segments)?;
     Ok(())
 }
@@ -142,24 +158,22 @@ fn put_units(out: &mut Bytes, units: &Items<UnitPlan>) -> Result<(), NoMemory>
     Ok(())
 }
 
+/// What stands before the units of a plan.
+pub(crate) fn plan_front(alloc: Global, units: &Items<UnitPlan>) -> Result<Bytes, NoMemory>
+    requires { IsAccepted units.now }
+    ensures { IfOk result (λ b. b ≡ plan_front units.now) }
+{
+    let mut out = Bytes::from_slice(alloc, b"ODXFPLAN\x01")?;
+    put_number(&mut out, 2, units.len() as u64)?;
+    Ok(out)
+}
+
 /// The canonical bytes of a plan.
 pub fn plan_bytes(alloc: Global, units: &Items<UnitPlan>) -> Result<Bytes, NoMemory>
     requires { IsAccepted units.now }
     ensures { IfOk result (λ b. b ≡ canonical units.now) }
 {
-    let mut out = Bytes::from_slice(alloc, b"ODXFPLAN\x01")?;
-    put_number(&mut out, 2, units.len() as u64)?;
+    let mut out = plan_front(alloc, units)?;
     put_units(&mut out, units)?;
     Ok(out)
-}
-
-/// The SHA-256 of the canonical bytes.
-pub fn digest_of(alloc: Global, units: &Items<UnitPlan>) -> Result<[u8; 32], NoMemory>
-    requires { IsAccepted units.now }
-    ensures { IfOk result (λ d. d ≡ plan_digest units.now) }
-{
-    let bytes = plan_bytes(alloc, units)?;
-    let mut hasher = Sha256::new();
-    hasher.update(bytes.as_slice());
-    Ok(hasher.finalize())
 }

@@ -113,7 +113,7 @@ module _ (u : UnitPlan) where
   done_at false AtDone e = refl
   done_at false (AtEnd outcome) e = absurd (false≢true e)
 
-same_self : (o : Outcome) → same_outcome o o ≡ true
+pub same_self : (o : Outcome) → same_outcome o o ≡ true
 same_self outcome.Complete = refl
 same_self (outcome.IdentMismatch a) = eq-eqb a a refl
 same_self (outcome.Refused a b) = and_from _ _ (eq-eqb a a refl) (eq-eqb b b refl)

@@ -1,18 +1,17 @@
 -- The entries that stand to be recorded: they are of different units, and may be recorded one after another.
 use Rattle.std.proofs.Common.{◌≡◌, ◌≢◌, inl, inr, ℕ, zero, suc, ◌+◌, ◌<◌, ◌≤◌, true, false, List, [], ◌∷◌, ◌++◌, length, length-append, take, None, Some, refl, sym, ◌∙◌, ap, subst, arith}
-use Rattle.std.specs.Prelude.{Bool, Option, map, not, ◌&&◌, ◌||◌, ◌==◌, nat_lt, is_some, is_none, if◌then◌else◌}
+use Rattle.std.specs.Prelude.{Bool, Option, map, not, ◌&&◌, ◌||◌, ◌==◌, nat_lt, is_some, is_none}
 use Rattle.std.proofs.lemmas.Bool.{cases_Bool, false≢true, le-ltb, and_parts, and_from, eqb-true, eq-eqb}
 use Rattle.barrier_board.specs.Board.{has_entry}
-use Rattle.bay_core.specs.Core.{Core, Slot, Halt, core_start, core_after, with_slot, slots_lost, slots_own, recorded_after, link_stop, stop_after, halt_after}
-use Rattle.bay_core.specs.Legal.{is_allowed, may_record, may_begin, may_mark, may_finish, is_open_unit, is_begin, is_mark, is_done, is_clear, is_running, without_failures}
+use Rattle.bay_core.specs.Core.{Core, Slot, core_start, core_after, with_slot, slots_lost, slots_own, recorded_after, link_stop, stop_after}
+use Rattle.bay_core.specs.Legal.{is_allowed, may_record, may_begin, may_mark, may_finish, is_open_unit, is_begin, is_mark, is_done, is_clear, without_failures}
 use Rattle.bay_core.specs.declared.event.Event.{Event}
-use Rattle.bay_core.specs.declared.event.Event.TheVariants.{Began, Marked as Marked_event, Completed, DiskFailed}
+use Rattle.bay_core.specs.declared.event.Event.TheVariants.{DiskFailed}
 use Rattle.flash_base.specs.Lists.{Each}
 use Rattle.flash_plan.specs.Plan.{count_of}
 use Rattle.flash_plan.specs.declared.outcome.Entry.{Entry}
 use Rattle.flash_plan.specs.declared.outcome.Entry.TheVariants.{Begun, Marked, Complete}
 use Rattle.flash_plan.specs.declared.outcome.Outcome.{Outcome}
-use Rattle.flash_plan.specs.declared.outcome.Outcome.TheVariants as outcome
 use Rattle.flash_plan.specs.declared.unit.LinkRules.{LinkRules}
 use Rattle.flash_plan.specs.declared.unit.UnitPlan.{UnitPlan}
 use Rattle.run_model.specs.Link.{Link, is_up}
@@ -20,9 +19,9 @@ use Rattle.unit_session.specs.declared.session.Ask.{Ask}
 use Rattle.unit_session.specs.declared.session.Ask.TheVariants as ask
 use Rattle.flash_run.proofs.Lists.{core_more}
 use Rattle.flash_run.proofs.Settled.{settled_kept}
-use Rattle.flash_run.specs.Group.{unit_in, recorded_as, failed_as, entries_by, entries_due, group_below, group_of, TakesAll, MayAll, AreApart, IsGroupDue}
+use Rattle.flash_run.specs.Group.{unit_in, recorded_as, failed_as, entries_by, entries_due, group_below, group_of, TakesAll, AreApart, IsGroupDue}
 use Rattle.flash_run.specs.Need.{ask_in, need_of, AreDue}
-use Rattle.flash_run.specs.Run.{RunState, IsKept, IsSettled, core_of_run, with_event, may_take, is_closing, is_complete_entry}
+use Rattle.flash_run.specs.Run.{RunState, IsKept, IsSettled, core_of_run, with_event, may_take, is_closing}
 use Rattle.flash_run.specs.declared.need.Need.{Need}
 use Rattle.flash_run.specs.declared.need.Need.TheVariants as need
 

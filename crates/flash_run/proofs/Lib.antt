@@ -7,3 +7,5 @@ pub mod Needs
 pub mod Dues
 pub mod Grouping
 pub mod Looping
+pub mod Ends
+pub mod Spotted

@@ -1,10 +1,10 @@
 -- Entries of several units that stand to be recorded, and the events of them.
-use Rattle.std.specs.Prelude.{◌≡◌, ◌≢◌, ℕ, zero, suc, ◌<◌, ◌≤◌, Bool, true, false, List, [], ◌∷◌, ◌++◌, length, map, take}
+use Rattle.std.specs.Prelude.{◌≡◌, ◌≢◌, ℕ, zero, suc, ◌≤◌, true, false, List, [], ◌∷◌, ◌++◌, length, map, take}
 use Rattle.bay_core.specs.Legal.{may_record}
 use Rattle.bay_core.specs.declared.event.Event.{Event}
 use Rattle.bay_core.specs.declared.event.Event.TheVariants.{Began, Marked as Marked_event, Completed, DiskFailed}
 use Rattle.flash_base.specs.Lists.{Each}
-use Rattle.flash_plan.specs.Plan.{plan_of, count_of}
+use Rattle.flash_plan.specs.Plan.{count_of}
 use Rattle.flash_plan.specs.declared.outcome.Entry.{Entry}
 use Rattle.flash_plan.specs.declared.outcome.Entry.TheVariants.{Begun, Marked, Complete}
 use Rattle.flash_run.specs.Need.{ask_in, need_of}

@@ -7,10 +7,12 @@
 #![tactic(auto)]
 
 mod due;
+mod ending;
 mod group;
 mod need;
 mod notes;
 mod run;
+mod spot;
 mod steps;
 
 pub use need::Need;

@@ -22,14 +22,20 @@ abbrev pub file_in : List (List ℕ × List ℕ) → List ℕ → Result (List �
 file_in files name = checked (first_of name files)
 
 abbrev pub after_read : ShelfState → ShelfState
-after_read s = record s { calls = one_more s.calls; faults = if is_listed s.failing s.calls then one_more s.faults else s.faults }
+after_read s =
+    record s {
+      calls = one_more s.calls;
+      faults = if is_listed s.failing s.calls then one_more s.faults else s.faults;
+    }
 
 abbrev pub IsReadAnswer : ShelfState → List ℕ → Result (List ℕ) ShelfFault → Type 0
-IsReadAnswer s name r = MatchBool (is_listed s.failing s.calls) (r ≡ Err Failed) ((r ≡ Err NoMemory) ⊎ (r ≡ file_in s.files name))
+IsReadAnswer s name r =
+    MatchBool (is_listed s.failing s.calls) (r ≡ Err Failed) ((r ≡ Err NoMemory) ⊎ (r ≡ file_in s.files name))
 
 abbrev pub WritesAll : SinkState → List ℕ → SinkState → Result Unit SinkFault → Type 0
 WritesAll s bytes new (Ok x) = new ≡ record s { written = s.written ++ bytes; calls = one_more s.calls }
-WritesAll s bytes new (Err e) = new ≡ record s { calls = one_more s.calls; faults = one_more s.faults; starved = one_more s.starved }
+WritesAll s bytes new (Err e) =
+    new ≡ record s { calls = one_more s.calls; faults = one_more s.faults; starved = one_more s.starved }
 
 abbrev pub IsRefusedWrite : SinkState → SinkState → Result Unit SinkFault → Type 0
 IsRefusedWrite s new (Ok x) = ⊥
@@ -37,4 +43,5 @@ IsRefusedWrite s new (Err e) = new ≡ record s { calls = one_more s.calls; faul
 
 -- a listed call fails; any other writes all, or finds no memory
 abbrev pub IsWriteAnswer : SinkState → List ℕ → SinkState → Result Unit SinkFault → Type 0
-IsWriteAnswer s bytes new r = MatchBool (is_listed s.failing s.calls) (IsRefusedWrite s new r) (WritesAll s bytes new r)
+IsWriteAnswer s bytes new r =
+    MatchBool (is_listed s.failing s.calls) (IsRefusedWrite s new r) (WritesAll s bytes new r)

@@ -8,7 +8,7 @@ pub record ShelfState : Type 0 where
   pub calls : ℕ
   pub faults : ℕ
 
--- what was written, the numbers of the calls that fail, how many calls there were, how many failed, and how many of these for want of memory
+-- what was written, the numbers of the calls that fail, how many calls there were, how many failed, and how many of these because memory ran out
 pub record SinkState : Type 0 where
   pub written : List ℕ
   pub failing : List ℕ

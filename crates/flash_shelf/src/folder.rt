@@ -45,9 +45,7 @@ impl<R: FileSystem + AllocGlobal> Shelf for FolderShelf<R> {
 
     ghost tells = { false };
 
-    ghost contents = { λ _. [] };
-
-    ghost faults = { λ s. s };
+    ghost history = { λ s. record { contents = []; faults = s } };
 
     fn read(&mut self, alloc: Global, name: &str) -> Result<Bytes, ShelfFault> {
         let answer = whole(&self.rt, alloc, &self.folder, name);

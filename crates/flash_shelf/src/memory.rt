@@ -22,14 +22,24 @@ impl Model for MemoryShelf {
 
     ghost Value = { ShelfState };
 
-    ghost view = { λ s. record { files = s.files; failing = s.failing.items; calls = s.calls; faults = s.faults } };
+    ghost view = { λ s. record {
+      files = s.files;
+      failing = s.failing.items;
+      calls = s.calls;
+      faults = s.faults;
+    } };
 }
 
 impl MemoryShelf {
     /// A shelf with these files, whose calls with the listed numbers fail and no others; the first
     /// call has number 0.
     pub fn new(alloc: Global, files: &Files, failing: &[u64]) -> Result<MemoryShelf, NoMemory>
-        ensures { IfOk result (λ s. s ≡ record { files = files.now; failing = failing.now; calls = 0; faults = 0 }) }
+        ensures { IfOk result (λ s. s ≡ record {
+          files = files.now;
+          failing = failing.now;
+          calls = 0;
+          faults = 0;
+        }) }
     {
         let files = copied(alloc, files)?;
         let failing = Vec::from_slice(alloc, failing)?;
@@ -47,9 +57,7 @@ impl Shelf for MemoryShelf {
 
     ghost tells = { true };
 
-    ghost contents = { λ s. s.files };
-
-    ghost faults = { λ s. s.faults };
+    ghost history = { λ s. record { contents = s.files; faults = s.faults } };
 
     fn read(&mut self, alloc: Global, name: &str) -> Result<Bytes, ShelfFault>
         ensures keeps { self.new.files ≡ self.old.files }
@@ -112,14 +120,26 @@ impl Model for MemorySink {
 
     ghost Value = { SinkState };
 
-    ghost view = { λ s. record { written = s.written; failing = s.failing.items; calls = s.calls; faults = s.faults; starved = s.starved } };
+    ghost view = { λ s. record {
+      written = s.written;
+      failing = s.failing.items;
+      calls = s.calls;
+      faults = s.faults;
+      starved = s.starved;
+    } };
 }
 
 impl MemorySink {
     /// An empty sink. A call fails exactly where its number is listed, the first having number 0,
     /// or where there was no memory, which the count `starved` tells.
     pub fn new(alloc: Global, failing: &[u64]) -> Result<MemorySink, NoMemory>
-        ensures { IfOk result (λ s. s ≡ record { written = []; failing = failing.now; calls = 0; faults = 0; starved = 0 }) }
+        ensures { IfOk result (λ s. s ≡ record {
+          written = [];
+          failing = failing.now;
+          calls = 0;
+          faults = 0;
+          starved = 0;
+        }) }
     {
         let failing = Vec::from_slice(alloc, failing)?;
         Ok(MemorySink {
@@ -151,13 +171,12 @@ impl Sink for MemorySink {
 
     ghost tells = { true };
 
-    ghost written = { λ s. s.written };
-
-    ghost faults = { λ s. s.faults };
+    ghost history = { λ s. record { written = s.written; faults = s.faults } };
 
     fn write(&mut self, bytes: &[u8]) -> Result<(), SinkFault>
         ensures never_falls { self.old.faults ≤ self.new.faults }
-        ensures went { WentTo true self.old.written self.new.written bytes.now self.old.faults self.new.faults result }
+        ensures went { WentTo true self.old.written self.new.written bytes.now
+            self.old.faults self.new.faults result }
         ensures answer { IsWriteAnswer self.old bytes.now self.new result }
     {
         let fails = self.failing.as_slice().contains(&self.calls);

@@ -1,5 +1,6 @@
 ghost use Rattle.std.specs.Prelude.{◌≡◌, ◌≤◌, Bool, ℕ, List};
-ghost use Rattle.flash_shelf.specs.Outside.{CameFrom};
+ghost use Rattle.flash_shelf.specs.History.{ShelfHistory};
+ghost use Rattle.flash_shelf.specs.Outside.{Came};
 
 use flash_base::{Bytes, NoMemory};
 use std::alloc::Global;
@@ -33,18 +34,16 @@ impl From<NoMemory> for ShelfFault {
 /// Named files. A failure of the outside raises the count of faults, which never falls and stays
 /// at 2^64 - 1 once there.
 pub trait Shelf {
-    /// Whether it is told what the files are. Where it is not, every refusal but want of memory
-    /// counts as a fault.
+    /// Whether it is told what the files are. Where it is not, every refusal but `NoMemory` counts
+    /// as a fault.
     ghost tells: { Bool };
 
-    /// The files by name; the first of a name counts.
-    ghost contents: { Self → List (List ℕ × List ℕ) };
-
-    ghost faults: { Self → ℕ };
+    /// The files by name, of which the first of a name counts, and how many reads failed by the outside.
+    ghost history: { Self → ShelfHistory };
 
     /// The bytes of the file with this name, at most `LIMIT`.
     fn read(&mut self, alloc: Global, name: &str) -> Result<Bytes, ShelfFault>
-        ensures keeps { contents self.new ≡ contents self.old }
-        ensures never_falls { faults self.old ≤ faults self.new }
-        ensures came { CameFrom tells (contents self.old) name.now (faults self.old) (faults self.new) result };
+        ensures keeps { (history self.new).contents ≡ (history self.old).contents }
+        ensures never_falls { (history self.old).faults ≤ (history self.new).faults }
+        ensures came { Came tells (history self.old) (history self.new) name.now result };
 }

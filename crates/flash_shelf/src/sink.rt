@@ -1,5 +1,6 @@
 ghost use Rattle.std.specs.Prelude.{◌≡◌, ◌≤◌, Bool, ℕ, List};
-ghost use Rattle.flash_shelf.specs.Outside.{WentTo};
+ghost use Rattle.flash_shelf.specs.History.{SinkHistory};
+ghost use Rattle.flash_shelf.specs.Outside.{Went};
 
 /// Not all of the bytes were written.
 #[derive(Debug, Drop)]
@@ -11,12 +12,11 @@ pub trait Sink {
     /// Whether it is told what was written.
     ghost tells: { Bool };
 
-    ghost written: { Self → List ℕ };
-
-    ghost faults: { Self → ℕ };
+    /// What was written so far, and how many writes failed.
+    ghost history: { Self → SinkHistory };
 
     /// Puts all the bytes at the end; after a failure a prefix of them.
     fn write(&mut self, bytes: &[u8]) -> Result<(), SinkFault>
-        ensures never_falls { faults self.old ≤ faults self.new }
-        ensures went { WentTo tells (written self.old) (written self.new) bytes.now (faults self.old) (faults self.new) result };
+        ensures never_falls { (history self.old).faults ≤ (history self.new).faults }
+        ensures went { Went tells (history self.old) (history self.new) bytes.now result };
 }

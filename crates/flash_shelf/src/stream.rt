@@ -33,9 +33,7 @@ impl<W: Write> Sink for StreamSink<W> {
 
     ghost tells = { false };
 
-    ghost written = { λ _. [] };
-
-    ghost faults = { λ s. s };
+    ghost history = { λ s. record { written = []; faults = s } };
 
     fn write(&mut self, bytes: &[u8]) -> Result<(), SinkFault> {
         if put_all(&mut self.inner, bytes) {

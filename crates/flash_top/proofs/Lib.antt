@@ -1,5 +1,5 @@
-pub mod Answers
-pub mod Closes
-pub mod Pieces
-pub mod Refusals
+pub mod Ends
+pub mod Theirs
+pub mod Verdicts
 pub mod WordForms
+pub mod Worked

@@ -1,4 +1,4 @@
-pub mod Form
+pub mod Outcomes
 pub mod Printing
 pub mod Running
 pub mod Words

@@ -1,37 +1,51 @@
--- What is printed, and the status that goes with it.
-use Rattle.std.specs.Prelude.{◌≡◌, ◌⊎◌, ℕ, Bool, IsTrue, List, [], ◌∷◌, ◌++◌, codes}
-use Rattle.flash_plan.specs.declared.unit.UnitPlan.{UnitPlan}
+-- What is printed at the end of a run, and the status that goes with it.
+use Rattle.std.specs.Prelude.{◌≡◌, ◌⊎◌, ℕ, Bool, IsTrue, List, ◌++◌, Err}
 use Rattle.flash_base.specs.Counts.{Rises}
+use Rattle.flash_journal.specs.declared.looking.OpenFault.{OpenFault}
+use Rattle.flash_plan.specs.declared.outcome.Outcome.{Outcome}
+use Rattle.flash_plan.specs.declared.unit.UnitPlan.{UnitPlan}
+use Rattle.flash_shelf.specs.History.{SinkHistory}
 use Rattle.flash_shelf.specs.Outside.{AddsPart}
+use Rattle.plan_build.specs.declared.fault.BuildFault.{BuildFault}
+use Rattle.plan_build.specs.declared.fault.BuildFault.TheVariants as fault
+use Rattle.plan_commands.specs.Answering.{refused}
+use Rattle.plan_commands.specs.Looking.{Shows}
+use Rattle.plan_commands.specs.Serving.{IsPrinted, IsStarved}
+use Rattle.plan_commands.specs.declared.answering.Answer.{Answer}
 use Rattle.plan_commands.specs.declared.status.Status.{Status}
-use Rattle.plan_commands.specs.declared.status.Status.TheVariants.{Done, Usage, Input, Units, Shelf, Journal, Disk, Sink, NoMemory}
 use Rattle.run_report.specs.Report.{report_text}
-use Rattle.thin_engine.specs.declared.driving.Ended.{Ended}
-use Rattle.thin_engine.specs.declared.driving.Ended.TheVariants as ended
+use Rattle.flash_top.specs.Outcomes.{cut_off, status_by}
 
--- the text was put at the end, or writing failed after a part of it
-abbrev pub Says : Bool → List ℕ → List ℕ → ℕ → ℕ → List ℕ → Type 0
-Says tells before after old new text = (Rises old new × (IsTrue tells → AddsPart before after text)) ⊎ (IsTrue tells → after ≡ before ++ text)
+-- the report was put at the end, with the status of these outcomes; or writing failed after a part of it; or
+-- there was no memory for it, and nothing was printed
+abbrev pub IsReported : Bool → List ℕ → List ℕ → ℕ → ℕ → List UnitPlan → List Outcome → Status → Type 0
+IsReported tells before after old new P os status =
+    ((status ≡ status_by os) × (IsTrue tells → after ≡ before ++ report_text P os))
+    ⊎ ((status ≡ cut_off (status_by os)) × Rises old new
+    × (IsTrue tells → AddsPart before after (report_text P os)))
+    ⊎ IsStarved before after status
 
--- the same of a report; it is not made where there was no memory
-abbrev pub Prints : Bool → List ℕ → List ℕ → ℕ → ℕ → List ℕ → Status → Type 0
-Prints tells before after old new text status = ((status ≡ NoMemory) × (after ≡ before)) ⊎ Says tells before after old new text
+-- the line of a refusal of the files; want of memory has none
+abbrev pub IsFilesLine : Bool → List ℕ → List ℕ → ℕ → ℕ → BuildFault → Status → Type 0
+IsFilesLine tells before after old new e status =
+    ((¬ (e ≡ fault.NoMemory)) × IsPrinted tells before after old new (refused e) status)
+    ⊎ IsStarved before after status
 
--- the statuses of what is refused before a run, but for the disk's
-abbrev pub IsBefore : Status → Type 0
-IsBefore Usage = Unit {0}
-IsBefore Input = Unit {0}
-IsBefore Shelf = Unit {0}
-IsBefore Journal = Unit {0}
-IsBefore Done = ⊥
-IsBefore Units = ⊥
-IsBefore Disk = ⊥
-IsBefore Sink = ⊥
-IsBefore NoMemory = ⊥
+-- the line of a journal that could not be opened; want of memory has none
+abbrev pub IsJournalLine : Bool → List ℕ → List ℕ → ℕ → ℕ → List UnitPlan → OpenFault → Status → Type 0
+IsJournalLine tells before after old new P why status =
+    ((a : Answer) × Shows P (Err why) a × IsPrinted tells before after old new a status)
+    ⊎ IsStarved before after status
 
--- a line where nothing was run, else the report
-abbrev pub IsFinished : Bool → List ℕ → List ℕ → ℕ → ℕ → List UnitPlan → Ended → Status → Type 0
-IsFinished tells before after old new P ended.NotEmpty status = Says tells before after old new (codes "journal not yet\n")
-IsFinished tells before after old new P ended.Disk status = Says tells before after old new (codes "disk fault\n")
-IsFinished tells before after old new P ended.NoMemory status = after ≡ before
-IsFinished tells before after old new P (ended.Ran outcome) status = Prints tells before after old new (report_text P (outcome ∷ [])) status
+-- ------ the same between two times of the sink
+abbrev pub PrintsReport : Bool → SinkHistory → SinkHistory → List UnitPlan → List Outcome → Status → Type 0
+PrintsReport tells old new P os status =
+    IsReported tells old.written new.written old.faults new.faults P os status
+
+abbrev pub PrintsFilesLine : Bool → SinkHistory → SinkHistory → BuildFault → Status → Type 0
+PrintsFilesLine tells old new e status =
+    IsFilesLine tells old.written new.written old.faults new.faults e status
+
+abbrev pub PrintsJournalLine : Bool → SinkHistory → SinkHistory → List UnitPlan → OpenFault → Status → Type 0
+PrintsJournalLine tells old new P why status =
+    IsJournalLine tells old.written new.written old.faults new.faults P why status

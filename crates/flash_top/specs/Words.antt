@@ -1,11 +1,17 @@
 -- The words of a run with one worker.
-use Rattle.std.specs.Prelude.{ℕ, ◌&&◌, List, [], ◌∷◌, codes, bytes_eq, Option, Some, None, if◌then◌else◌}
-use Rattle.text_forms.specs.FileNames.{file_name}
+use Rattle.std.specs.Prelude.{ℕ, ◌==◌, List, Option, Some, None, if◌then◌else◌}
+use Rattle.flash_words.specs.Words.{command_of}
+use Rattle.flash_words.specs.declared.command.Command.{Command}
+use Rattle.flash_words.specs.declared.command.Command.TheVariants.{Check, Image, Status, Run, Drill}
 
-abbrev pub order_name : List ℕ → List ℕ → List ℕ → Option (List ℕ)
-order_name command order workers = if bytes_eq command (codes "run") && file_name order && bytes_eq workers (codes "1") then Some order else None
+abbrev pub one_worker : Option Command → Option (List ℕ)
+one_worker (Some (Run order workers)) = if workers == 1 then Some order else None
+one_worker (Some (Check order)) = None
+one_worker (Some (Image order task)) = None
+one_worker (Some (Status order)) = None
+one_worker (Some (Drill n)) = None
+one_worker None = None
 
--- the order file that the words `run ORDER 1` name; no other list of words is a run
+-- the order file that the words `run ORDER 1` name; no other list of words is such a run
 abbrev pub run_order : List (List ℕ) → Option (List ℕ)
-run_order (command ∷ order ∷ workers ∷ []) = order_name command order workers
-run_order _ = None
+run_order words = one_worker (command_of words)

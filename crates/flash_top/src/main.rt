@@ -1,8 +1,8 @@
-//! The program: it programs the control unit that an order names, over a shop in memory.
+//! The program: it programs the control units that an order names, over a shop in memory.
 #![tactic(auto)]
 
 mod flashing;
-mod form;
+mod outcomes;
 mod printing;
 mod running;
 #[cfg(test)]
@@ -30,7 +30,8 @@ fn ended(status: Status) -> ExitCode {
     ExitCode::from(status as u8)
 }
 
-/// Runs the words over the files of the present folder and a shop in memory, and ends with the number of the status.
+/// Runs the words over the files of the present folder and a shop in memory, and ends with the
+/// number of the status.
 fn main(rt: HostRuntime) -> ExitCode {
     let alloc = rt.alloc();
     let Some(words) = words_of(&rt) else {

@@ -1,5 +1,4 @@
 use crate::flashing::{flash, flash_plain};
-use crate::words::order_in;
 use flash_base::{Bytes, Files, NoMemory, Text};
 use flash_shelf::{MemoryShelf, MemorySink};
 use plan_commands::Status;
@@ -32,29 +31,6 @@ fn shelf_of(alloc: Global, order: &str) -> Result<MemoryShelf, NoMemory> {
     MemoryShelf::new(alloc, &files, &[])
 }
 
-#[test]
-fn words(rt: HostRuntime) -> Result<(), Fail> {
-    let alloc = rt.alloc();
-    for (command, order, workers, want) in [
-        ("run", "one.json", "1", Some("one.json")),
-        ("run", "one.json", "0", None),
-        ("run", "one.json", "01", None),
-        ("run", "one.json", "17", None),
-        ("run", "-x", "1", None),
-        ("walk", "one.json", "1", None),
-    ] {
-        let words = vec![in alloc;
-            String::from_str(alloc, command)?,
-            String::from_str(alloc, order)?,
-            String::from_str(alloc, workers)?,
-        ]?;
-        assert_eq!(rt; order_in(words.as_slice()), want);
-    }
-    let alone = vec![in alloc; String::from_str(alloc, "run")?]?;
-    assert_eq!(rt; order_in(alone.as_slice()), None);
-    Ok(())
-}
-
 /// The order of the smallest run: `abc` at address 1000 of unit 1001.
 const SMALLEST: &str =
     "{\"tester\":\"0E80\",\"relinks\":0,\"tasks\":[{\"name\":\"A\",\"unit\":\"1001\",\"check\":\"0202\",\"raw\":\"a.bin\",\"at\":\"1000\"}]}";
@@ -74,14 +50,15 @@ const REPORT: &str = "plan a41528293bb2c3c3d84ba53557cfbe530f6031fc9bae916ec7108
 unit A 1001 complete\n\
 complete 1 of 1\n";
 
-/// Its journal: the header with three slots and the same digest, two gates open, and the entries begun and complete of unit 0.
+/// Its journal: the header with three slots and the same digest, three gates open, and of unit 0 that it is begun, that its
+/// segment 0 is finished, and that it is complete.
 const JOURNAL: &str = "a54f4458464a4e4c0200000000000003\
 a41528293bb2c3c3d84ba53557cfbe530f6031fc9bae916ec7108fcf4f683f7e\
 00000000000000000000000000000000\
-a5a500\
+a5a5a5\
 01000000000000000000000000000000\
-02000000000000000000000000000000\
-00000000000000000000000000000000";
+03000000000000000000000000000000\
+02000000000000000000000000000000";
 
 /// The words of a command, each behind a blank.
 fn words_of(alloc: Global, command: &str) -> Result<Vec<String>, NoMemory> {
@@ -187,7 +164,86 @@ fn is_untouched(shop: &ThinShop) -> bool {
     shop.calls() == 0
 }
 
-/// Words that are in no form.
+/// What is recorded of the plan in a journal that is not made yet.
+const UNTOUCHED: &str = "plan a41528293bb2c3c3d84ba53557cfbe530f6031fc9bae916ec7108fcf4f683f7e\n\
+unit A 1001 untouched\n\
+complete 0 of 1\n";
+
+/// `status` over a file that is not made yet, which it does not make.
+#[test]
+fn status_before_a_run(rt: HostRuntime) -> Result<(), Fail> {
+    let alloc = rt.alloc();
+    let (shop, status, sink) = flash_over(&rt, alloc, "status one.json", SMALLEST, &[])?;
+    assert!(rt; is_done(status));
+    assert!(rt; sink.written() == UNTOUCHED.as_bytes());
+    assert!(rt; shop.left(alloc)?.as_slice().is_empty());
+    Ok(())
+}
+
+/// `status` over the shop that a run hands back.
+#[test]
+fn status_after_a_run(rt: HostRuntime) -> Result<(), Fail> {
+    let alloc = rt.alloc();
+    let (shop, _status, _report) = flash_over(&rt, alloc, "run one.json 1", SMALLEST, &[])?;
+    let mut shelf = shelf_of(alloc, SMALLEST)?;
+    let words = words_of(alloc, "status one.json")?;
+    let mut sink = MemorySink::new(alloc, &[])?;
+    let (shop, status) = flash(&rt, alloc, words.as_slice(), &mut shelf, shop, &mut sink);
+    assert!(rt; is_done(status));
+    assert!(rt; sink.written() == REPORT.as_bytes());
+    assert!(rt; spells(JOURNAL, shop.left(alloc)?.as_slice()));
+    Ok(())
+}
+
+/// A command over the shop that the smallest run hands back.
+fn flash_after<R: Threads + Wait + Sync>(
+    rt: &R,
+    alloc: Global,
+    order: &str,
+) -> Result<(ThinShop, Status, MemorySink), NoMemory> {
+    let (shop, _status, _report) = flash_over(rt, alloc, "run one.json 1", SMALLEST, &[])?;
+    let mut shelf = shelf_of(alloc, order)?;
+    let words = words_of(alloc, "run one.json 1")?;
+    let mut sink = MemorySink::new(alloc, &[])?;
+    let (shop, status) = flash(rt, alloc, words.as_slice(), &mut shelf, shop, &mut sink);
+    Ok((shop, status, sink))
+}
+
+/// A second run finds the unit complete: it hears nothing more, so that nothing is erased, and the report is the same.
+#[test]
+fn second_run(rt: HostRuntime) -> Result<(), Fail> {
+    let alloc = rt.alloc();
+    let (shop, status, sink) = flash_after(&rt, alloc, SMALLEST)?;
+    assert!(rt; is_done(status));
+    assert!(rt; sink.written() == REPORT.as_bytes());
+    assert!(rt; lines_spell(REQUESTS, shop.car().heard()));
+    assert!(rt; is_programmed(&shop));
+    assert!(rt; spells(JOURNAL, shop.left(alloc)?.as_slice()));
+    Ok(())
+}
+
+/// The same order but for an address.
+const ANOTHER: &str =
+    "{\"tester\":\"0E80\",\"relinks\":0,\"tasks\":[{\"name\":\"A\",\"unit\":\"1001\",\"check\":\"0202\",\"raw\":\"a.bin\",\"at\":\"1001\"}]}";
+
+/// What a journal of the smallest run says to it, before its own digest.
+const OTHER_PLAN: &str =
+    "journal other plan a41528293bb2c3c3d84ba53557cfbe530f6031fc9bae916ec7108fcf4f683f7e ";
+
+/// The journal of another plan is refused with both digests, and neither it nor the unit is changed.
+#[test]
+fn journal_of_another_plan(rt: HostRuntime) -> Result<(), Fail> {
+    let alloc = rt.alloc();
+    let (shop, status, sink) = flash_after(&rt, alloc, ANOTHER)?;
+    assert!(rt; status == Status::Journal);
+    assert!(rt; sink.written().starts_with(OTHER_PLAN.as_bytes()));
+    assert_eq!(rt; sink.written().len(), OTHER_PLAN.len() + 65);
+    assert!(rt; lines_spell(REQUESTS, shop.car().heard()));
+    assert!(rt; spells(JOURNAL, shop.left(alloc)?.as_slice()));
+    Ok(())
+}
+
+/// Words that are in no form, and commands that are not served yet.
 #[test]
 fn refused_words(rt: HostRuntime) -> Result<(), Fail> {
     let alloc = rt.alloc();
@@ -199,7 +255,7 @@ fn refused_words(rt: HostRuntime) -> Result<(), Fail> {
         "run -x 1",
         "check -x",
         "image one.json A-B",
-        "status one.json",
+        "run one.json 2",
         "drill 0",
     ] {
         let (shop, status, sink) = flash_over(&rt, alloc, command, SMALLEST, &[])?;
@@ -210,21 +266,22 @@ fn refused_words(rt: HostRuntime) -> Result<(), Fail> {
     Ok(())
 }
 
-/// Order files, each behind what a run of it answers: `done`, or its line. A plan that is not served is refused last.
+/// Order files, each behind what a run of it answers: `done`, a line of its report, or the line of a refusal.
 const ORDERS: &str =
     "done\t{\"tester\":\"0E80\",\"relinks\":0,\"tasks\":[{\"name\":\"A\",\"unit\":\"1001\",\"check\":\"0202\",\"raw\":\"a.bin\",\"at\":\"1000\"}]}\n\
 done\t{\"tester\":\"0E80\",\"relinks\":0,\"tasks\":[{\"name\":\"A\",\"unit\":\"1001\",\"check\":\"0202\",\"raw\":\"a.bin\",\"at\":\"1000\",\"width\":\"44\",\"key\":{\"rule\":\"none\"},\"idents\":[],\"after\":[]}]}\n\
-done\t{\"tester\":\"0E80\",\"relinks\":0,\"tasks\":[{\"name\":\"A\",\"unit\":\"1001\",\"check\":\"0202\",\"raw\":\"long\",\"at\":\"1000\"}]}\n\
-input one.json not yet\t{\"tester\":\"0E80\",\"relinks\":0,\"tasks\":[{\"name\":\"A\",\"unit\":\"1001\",\"check\":\"0202\",\"raw\":\"longer\",\"at\":\"1000\"}]}\n\
-input one.json not yet\t{\"tester\":\"0E80\",\"relinks\":1,\"tasks\":[{\"name\":\"A\",\"unit\":\"1001\",\"check\":\"0202\",\"raw\":\"a.bin\",\"at\":\"1000\"}]}\n\
-input one.json not yet\t{\"tester\":\"0E80\",\"tasks\":[{\"name\":\"A\",\"unit\":\"1001\",\"check\":\"0202\",\"raw\":\"a.bin\",\"at\":\"1000\"}]}\n\
-input one.json not yet\t{\"tester\":\"0E80\",\"relinks\":0,\"tasks\":[]}\n\
-input one.json not yet\t{\"tester\":\"0E80\",\"relinks\":0,\"tasks\":[{\"name\":\"A\",\"unit\":\"1001\",\"check\":\"0202\",\"raw\":\"a.bin\",\"at\":\"1000\"},{\"name\":\"B\",\"unit\":\"1002\",\"check\":\"0202\",\"raw\":\"a.bin\",\"at\":\"1000\"}]}\n\
-input one.json not yet\t{\"tester\":\"0E80\",\"relinks\":0,\"tasks\":[{\"name\":\"A\",\"unit\":\"1001\",\"check\":\"0202\",\"raw\":\"a.bin\",\"at\":\"1000\",\"width\":\"43\"}]}\n\
-input one.json not yet\t{\"tester\":\"0E80\",\"relinks\":0,\"tasks\":[{\"name\":\"A\",\"unit\":\"1001\",\"check\":\"0202\",\"raw\":\"a.bin\",\"at\":\"1000\",\"width\":\"34\"}]}\n\
-input one.json not yet\t{\"tester\":\"0E80\",\"relinks\":0,\"tasks\":[{\"name\":\"A\",\"unit\":\"1001\",\"check\":\"0202\",\"raw\":\"a.bin\",\"at\":\"1000\",\"key\":{\"rule\":\"xor\",\"level\":\"01\",\"mask\":\"5A\"}}]}\n\
-input one.json not yet\t{\"tester\":\"0E80\",\"relinks\":0,\"tasks\":[{\"name\":\"A\",\"unit\":\"1001\",\"check\":\"0202\",\"raw\":\"a.bin\",\"at\":\"1000\",\"key\":{\"rule\":\"digest\",\"level\":\"01\",\"length\":4,\"secret\":\"6162\"}}]}\n\
-input one.json not yet\t{\"tester\":\"0E80\",\"relinks\":0,\"tasks\":[{\"name\":\"A\",\"unit\":\"1001\",\"check\":\"0202\",\"raw\":\"a.bin\",\"at\":\"1000\",\"idents\":[{\"did\":\"F195\",\"values\":[\"31\"]}]}]}\n\
+done\t{\"tester\":\"0E80\",\"relinks\":0,\"tasks\":[{\"name\":\"A\",\"unit\":\"1001\",\"check\":\"0202\",\"raw\":\"longer\",\"at\":\"1000\"}]}\n\
+done\t{\"tester\":\"0E80\",\"relinks\":8,\"tasks\":[{\"name\":\"A\",\"unit\":\"1001\",\"check\":\"0202\",\"raw\":\"a.bin\",\"at\":\"1000\"}]}\n\
+done\t{\"tester\":\"0E80\",\"tasks\":[{\"name\":\"A\",\"unit\":\"1001\",\"check\":\"0202\",\"raw\":\"a.bin\",\"at\":\"1000\"}]}\n\
+done\t{\"tester\":\"0E80\",\"relinks\":0,\"tasks\":[]}\n\
+unit B 1002 undelivered 03\t{\"tester\":\"0E80\",\"relinks\":0,\"tasks\":[{\"name\":\"A\",\"unit\":\"1001\",\"check\":\"0202\",\"raw\":\"a.bin\",\"at\":\"1000\"},{\"name\":\"B\",\"unit\":\"1002\",\"check\":\"0202\",\"raw\":\"a.bin\",\"at\":\"1000\"}]}\n\
+unit A 1001 refused 31 13\t{\"tester\":\"0E80\",\"relinks\":0,\"tasks\":[{\"name\":\"A\",\"unit\":\"1001\",\"check\":\"0202\",\"raw\":\"a.bin\",\"at\":\"1000\",\"width\":\"43\"}]}\n\
+unit A 1001 refused 27 11\t{\"tester\":\"0E80\",\"relinks\":0,\"tasks\":[{\"name\":\"A\",\"unit\":\"1001\",\"check\":\"0202\",\"raw\":\"a.bin\",\"at\":\"1000\",\"key\":{\"rule\":\"xor\",\"level\":\"01\",\"mask\":\"5A\"}}]}\n\
+unit A 1001 refused 27 11\t{\"tester\":\"0E80\",\"relinks\":0,\"tasks\":[{\"name\":\"A\",\"unit\":\"1001\",\"check\":\"0202\",\"raw\":\"a.bin\",\"at\":\"1000\",\"key\":{\"rule\":\"digest\",\"level\":\"01\",\"length\":4,\"secret\":\"6162\"}}]}\n\
+unit A 1001 refused 22 31\t{\"tester\":\"0E80\",\"relinks\":0,\"tasks\":[{\"name\":\"A\",\"unit\":\"1001\",\"check\":\"0202\",\"raw\":\"a.bin\",\"at\":\"1000\",\"idents\":[{\"did\":\"F195\",\"values\":[\"31\"]}]}]}\n\
+unit A 1001 refused 31 31\t{\"tester\":\"0E80\",\"relinks\":0,\"tasks\":[{\"name\":\"A\",\"unit\":\"1001\",\"check\":\"0202\",\"raw\":\"a.bin\",\"at\":\"3000\"}]}\n\
+unit B 1002 blocked by A\t{\"tester\":\"0E80\",\"relinks\":0,\"tasks\":[{\"name\":\"A\",\"unit\":\"1001\",\"check\":\"0202\",\"raw\":\"a.bin\",\"at\":\"1000\",\"width\":\"43\"},{\"name\":\"B\",\"unit\":\"1002\",\"check\":\"0202\",\"raw\":\"a.bin\",\"at\":\"1000\",\"after\":[\"A\"]}]}\n\
+unit A 1001 complete\t{\"tester\":\"0E80\",\"relinks\":0,\"tasks\":[{\"name\":\"C\",\"unit\":\"1003\",\"check\":\"0202\",\"raw\":\"a.bin\",\"at\":\"1000\"},{\"name\":\"A\",\"unit\":\"1001\",\"check\":\"0202\",\"raw\":\"a.bin\",\"at\":\"1000\"}]}\n\
 input one.json cycle A\t{\"tester\":\"0E80\",\"relinks\":1,\"tasks\":[{\"name\":\"A\",\"unit\":\"1001\",\"check\":\"0202\",\"raw\":\"a.bin\",\"at\":\"1000\",\"after\":[\"A\"]}]}\n\
 input one.json unknown after A\t{\"tester\":\"0E80\",\"relinks\":0,\"tasks\":[{\"name\":\"A\",\"unit\":\"1001\",\"check\":\"0202\",\"raw\":\"a.bin\",\"at\":\"1000\",\"after\":[\"B\"],\"width\":\"43\"}]}\n\
 input one.json out of range 0\t{\"tester\":\"0E80\",\"relinks\":1,\"tasks\":[{\"name\":\"A\",\"unit\":\"1001\",\"check\":\"0202\",\"raw\":\"a.bin\",\"at\":\"FFFFFFFFFE\"}]}\n\
@@ -239,6 +296,8 @@ shelf b.json missing\t{\"tester\":\"0E80\",\"relinks\":1,\"catalogue\":\"b.json\
 fn status_of(line: &str) -> Status {
     if line == "done" {
         Status::Done
+    } else if line.starts_with("unit") {
+        Status::Units
     } else if line.starts_with("shelf") {
         Status::Shelf
     } else {
@@ -246,21 +305,46 @@ fn status_of(line: &str) -> Status {
     }
 }
 
+/// Whether the line is that of a refusal.
+fn is_refusal(line: &str) -> bool {
+    line.starts_with("input") || line.starts_with("shelf")
+}
+
 /// Whether the text is the line.
 fn is_line(text: &[u8], line: &str) -> bool {
     text.len() == line.len() + 1 && text.starts_with(line.as_bytes()) && text.ends_with(b"\n")
 }
 
+/// Whether the line stands in the text.
+fn has_line(text: &[u8], line: &str) -> bool {
+    let Ok(text) = str::from_utf8(text) else {
+        return false;
+    };
+    for other in text.split('\n') {
+        if other == line {
+            return true;
+        }
+    }
+    false
+}
+
+/// Whether just the line was printed and nothing called, or a report with the line.
+fn answers(shop: &ThinShop, text: &[u8], line: &str) -> bool {
+    if is_refusal(line) {
+        return is_untouched(shop) && is_line(text, line);
+    }
+    line == "done" || has_line(text, line)
+}
+
 #[test]
 fn orders(rt: HostRuntime) -> Result<(), Fail> {
     let alloc = rt.alloc();
-    assert_eq!(rt; ORDERS.split('\n').count(), 23);
+    assert_eq!(rt; ORDERS.split('\n').count(), 24);
     for row in ORDERS.split('\n') {
         let (line, order) = row.split_once('\t').ok_or("a tab")?;
         let (shop, status, sink) = flash_over(&rt, alloc, "run one.json 1", order, &[])?;
         assert!(rt; status == status_of(line), "at {row}");
-        let refused = is_untouched(&shop) && is_line(sink.written(), line);
-        assert!(rt; refused == (line != "done"), "at {row}");
+        assert!(rt; answers(&shop, sink.written(), line), "at {row}");
     }
     Ok(())
 }

@@ -1,11 +1,12 @@
 -- A list of words is a command just where it is the words of that command.
-use Rattle.std.proofs.Common.{◌≡◌, ◌⊎◌, inl, inr, ℕ, ◌<◌, ◌≤◌, ◌^◌, ◌&&◌, ◌++◌, Bool, true, false, cond, nat_le, List, [], ◌∷◌, length, codes, bytes_eq, decimal, Option, Some, None, option_map, Result, Ok, refl, sym, ap, ◌∙◌, subst, arith, lit<}
+use Rattle.std.proofs.Common.{◌≡◌, ◌⊎◌, inl, inr, ℕ, ◌<◌, ◌≤◌, ◌^◌, ◌&&◌, Bool, true, false, cond, nat_le, List, [], ◌∷◌, codes, bytes_eq, decimal, Option, Some, None, option_map, Result, Ok, refl, sym, ap, ◌∙◌, subst, arith}
 use Rattle.std.proofs.lemmas.Bool.Decides.{nat_tests}
 use Rattle.std.proofs.lemmas.Fmt.{decimal_is_IsNumeral, parse-decimal}
 use Rattle.std.proofs.lemmas.Slice.Eq.{bytes_eq-Decides}
 use Rattle.std.specs.Str.Parse.{digits_value, ParsesUnsigned}
 use Rattle.text_forms.specs.FileNames.{file_name}
-use Rattle.flash_words.specs.Words.{task_name, words_of, number_in, check_in, status_in, image_in, run_in, drill_in, pair_in, triple_in, command_of, IsCommand, Law}
+use Rattle.text_forms.specs.TaskNames.{task_name}
+use Rattle.flash_words.specs.Words.{words_of, number_in, check_in, status_in, image_in, run_in, drill_in, pair_in, triple_in, command_of, IsCommand, Law}
 use Rattle.flash_words.specs.declared.command.Command.{Command}
 use Rattle.flash_words.specs.declared.command.Command.TheVariants.{Check, Image, Status, Run, Drill}
 

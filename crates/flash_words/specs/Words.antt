@@ -1,16 +1,12 @@
 -- Which lists of words are which command.
-use Rattle.std.specs.Prelude.{◌≡◌, ℕ, ◌≤◌, ◌&&◌, nat_lt, nat_le, Bool, IsTrue, ◌↔◌, List, [], ◌∷◌, length, codes, bytes_eq, decimal, Option, Some, None, option_map, if◌then◌else◌}
-use Rattle.std.specs.List.{list_all}
+use Rattle.std.specs.Prelude.{◌≡◌, ℕ, ◌≤◌, ◌&&◌, nat_le, IsTrue, ◌↔◌, List, [], ◌∷◌, codes, bytes_eq, decimal, Option, Some, None, option_map, if◌then◌else◌}
 use Rattle.std.specs.Str.Parse.{digits_value}
-use Rattle.text_forms.specs.FileNames.{file_name, may_begin}
+use Rattle.text_forms.specs.FileNames.{file_name}
+use Rattle.text_forms.specs.TaskNames.{task_name}
 use Rattle.flash_words.specs.declared.command.Command.{Command}
 use Rattle.flash_words.specs.declared.command.Command.TheVariants.{Check, Image, Status, Run, Drill}
 use Rattle.flash_words.specs.declared.command.CommandRef.{CommandRef}
 use Rattle.flash_words.specs.declared.command.CommandRef.TheVariants as lent
-
--- 1 to 32 letters, digits and '_'
-abbrev pub task_name : List ℕ → Bool
-task_name word = nat_lt 0 (length word) && nat_le (length word) 32 && list_all may_begin word
 
 -- ------ a command written out
 -- the words of a command; numbers are in decimal, without sign and leading zeros

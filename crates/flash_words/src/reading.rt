@@ -2,9 +2,9 @@ ghost use Rattle.std.specs.Prelude.{◌≡◌, Some, None, Err, IfOk, option_map
 ghost use Rattle.flash_words.specs.Words.{check_in, command_of, drill_in, image_in, owned, pair_in, run_in, status_in, triple_in};
 
 use crate::command::{Command, CommandRef, WordsFault};
-use crate::forms::{is_task_name, number};
+use crate::forms::number;
 use std::alloc::Global;
-use text_forms::is_file_name;
+use text_forms::{is_file_name, is_task_name};
 
 fn check_in(order: &str) -> Option<CommandRef<'_>>
     ensures { option_map owned result ≡ check_in order.now }

@@ -1,5 +1,5 @@
 -- What bytes make of a gateway, and what a receive carries.
-use Rattle.std.specs.Prelude.{◌≡◌, ℕ, ◌≤◌, Bool, false, ◌||◌, ◌==◌, List, [], ◌∷◌, ◌++◌, take, Option, None, Some}
+use Rattle.std.specs.Prelude.{◌≡◌, ℕ, ◌≤◌, Bool, false, ◌||◌, ◌==◌, List, [], ◌∷◌, ◌++◌, length, take, min, Option, None, Some}
 use Rattle.doip_frame.specs.declared.frame.Frame.{Frame}
 use Rattle.doip_frame.specs.declared.frame.Frame.TheVariants.{HeaderNack, Activate, Activated, AliveAsk, AliveSay, Message, Ack, Nack, Other}
 use Rattle.doip_frame.specs.Deframe.{frames_in, bad_in, held_after}
@@ -80,9 +80,18 @@ abbrev pub IsPiece : ℕ → Got → Type 0
 IsPiece room Quiet = Unit {0}
 IsPiece room (Bytes n) = (1 ≤ n) × (n ≤ room)
 
+-- as many as are due and as there was room for
+abbrev pub IsFilled : ℕ → Gate → Got → Type 0
+IsFilled room old Quiet = Unit {0}
+IsFilled room old (Bytes n) = n ≡ min room (length old.gateway.ready)
+
 -- `out` was filled with the next due bytes, or a tick has passed
 abbrev pub Polled : List ℕ → List ℕ → Gate → Gate → Got → Type 0
 Polled more out old new Quiet = (old.gateway.ready ≡ []) × (new ≡ ticks more old)
 Polled more out old new (Bytes n) =
     (old.gateway.ready ≡ take n out ++ new.gateway.ready)
     × (new ≡ with_gateway old (record old.gateway { ready = new.gateway.ready; carried = old.gateway.carried ++ take n out }))
+
+-- the tester received a piece that is none of the gateway's bytes
+abbrev pub garbled : List ℕ → Gate → Gate
+garbled piece g = with_gateway g (record g.gateway { carried = g.gateway.carried ++ piece })

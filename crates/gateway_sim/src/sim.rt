@@ -69,7 +69,7 @@ impl GatewaySim {
     ghost use Rattle.gateway_sim.specs.Acting.{nack_for, counted_activation, counted_message};
     ghost use Rattle.gateway_sim.specs.Gates.{front_of, gateway_of, gate_of, made_of, redialed_gate};
     ghost use Rattle.gateway_sim.specs.Handling.{sent_of, says, answered, activates, comes, delivers, handled, refusing, queued, ticks, with_gateway};
-    ghost use Rattle.gateway_sim.specs.Feeding.{at_front, one_handled, order_in, frames_handled, orders_of, IsHandledPart, IsFed, IsFedPart, IsPiece, Polled};
+    ghost use Rattle.gateway_sim.specs.Feeding.{at_front, garbled, one_handled, order_in, frames_handled, orders_of, IsHandledPart, IsFed, IsFedPart, IsFilled, IsPiece, Polled};
     ghost use Rattle.gateway_sim.specs.Saving.{SavesGate};
     ghost use Rattle.gateway_sim.specs.Troubles.{IsGatewaySpec};
 
@@ -336,6 +336,7 @@ impl GatewaySim {
         requires due { 1 ≤ length (gateway_of self.old).ready }
         ensures is { IfOk result (Polled [] out.new (gate_of self.old) (gate_of self.new)) }
         ensures piece { IfOk result (IsPiece (length out.old)) }
+        ensures size { IfOk result (IsFilled (length out.old) (gate_of self.old)) }
         ensures err { OnErr result (gate_of self.new ≡ gate_of self.old) }
     {
         let n = out.len().min(self.ready.len() - self.start);
@@ -384,6 +385,7 @@ impl GatewaySim {
         requires early { (gateway_of self.old).tick < 2 ^ 63 }
         ensures is { IfOk result (Polled more.now out.new (gate_of self.old) (gate_of self.new)) }
         ensures piece { IfOk result (IsPiece (length out.old)) }
+        ensures size { IfOk result (IsFilled (length out.old) (gate_of self.old)) }
         ensures err { OnErr result (gate_of self.new ≡ gate_of self.old) }
     {
         if self.has_due() {
@@ -399,9 +401,19 @@ impl GatewaySim {
         requires early { (gateway_of self.old).tick < 2 ^ 63 }
         ensures is { IfOk result (Polled [] out.new (gate_of self.old) (gate_of self.new)) }
         ensures piece { IfOk result (IsPiece (length out.old)) }
+        ensures size { IfOk result (IsFilled (length out.old) (gate_of self.old)) }
         ensures err { OnErr result (gate_of self.new ≡ gate_of self.old) }
     {
         self.poll_with(&[], out)
+    }
+
+    /// The tester receives a piece that is none of the gateway's bytes. Where there is no memory nothing has changed.
+    pub fn garble(&mut self, piece: &[u8]) -> Result<(), NoMemory>
+        ensures ok { OnOk result (gate_of self.new ≡ garbled piece.now (gate_of self.old)) }
+        ensures err { OnErr result (gate_of self.new ≡ gate_of self.old) }
+    {
+        self.carried.extend_from_slice(piece)?;
+        Ok(())
     }
 
     /// Handles a frame, and keeps its order.

@@ -9,6 +9,3 @@ mod writing;
 pub use reading::{read, text_law};
 pub use rec_text::RecFault;
 pub use writing::{write, writing_law};
-
-#[cfg(test)]
-mod tests;

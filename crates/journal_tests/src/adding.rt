@@ -4,6 +4,7 @@ ghost use Rattle.shop_model.specs.History.{disk_now};
 
 use flash_journal::{Entry, Journal};
 use shop_model::Shop;
+use std::process::Abort;
 
 /// Appends an entry if it may be appended. True: it was recorded.
 pub fn add<S: Shop>(shop: &mut S, journal: &mut Journal, entry: Entry) -> bool
@@ -18,6 +19,23 @@ pub fn add<S: Shop>(shop: &mut S, journal: &mut Journal, entry: Entry) -> bool
     match journal.append(shop, entry) {
         Ok(()) => true,
         Err(_) => false,
+    }
+}
+
+/// Appends each of the entries that may be appended, and those alone are recorded of which it is said.
+pub fn add_each<S: Shop>(
+    rt: &impl Abort,
+    shop: &mut S,
+    journal: &mut Journal,
+    rows: &[(Entry, bool)],
+)
+    requires kept { IsTrue (is_live journal.old) → IsTrue S.tells_disk
+        → IsKeptOn journal.old (disk_now (S.history shop.old)) }
+    ensures kept { IsTrue (is_live journal.new) → IsTrue S.tells_disk
+        → IsKeptOn journal.new (disk_now (S.history shop.new)) }
+{
+    for (entry, is_recorded) in rows {
+        assert!(rt; add(shop, journal, *entry) == *is_recorded, "{entry:?}");
     }
 }
 

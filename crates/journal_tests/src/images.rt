@@ -1,7 +1,10 @@
 use crate::files::{Base, DIGEST, file_of};
 use crate::support::{BEGUN, Found, NOTHING, Unit, crashed, looked, one, opened, plan_of, seen};
 use flash_journal::{Entry, Journal, OpenFault, look_bytes};
+use flash_plan::Plan;
 use mem_disk::{MemDisk, Pick};
+use std::alloc::Global;
+use std::process::Abort;
 use std::test::Fail;
 
 const DONE: Found = Found::Entries(Unit::Done, Unit::Nothing);
@@ -13,7 +16,7 @@ const MARKED: Found = Found::Entries(Unit::Marked, Unit::Nothing);
 const NONE: Found = Found::NotJournal;
 
 // The files of the smallest plan with some bytes changed, a case for each test of the format.
-const CASES: [(Base, &[(usize, u8)], Found); 66] = [
+const CASES: &[(Base, &[(usize, u8)], Found)] = &[
     // As they are.
     (Base::Old, &[], UNMARKED),
     (Base::New, &[], DONE),
@@ -107,93 +110,137 @@ fn change(file: &mut [u8], changes: &[(usize, u8)]) {
     }
 }
 
-// What a look at the file, a look at its bytes and an opening find.
+// What an opening of the file, a look at it and a look at its bytes find.
+fn is_found(
+    rt: &impl Abort,
+    alloc: Global,
+    plan: &Plan,
+    file: &[u8],
+    want: Found,
+) -> Result<(), Fail> {
+    let found = [
+        opened(alloc, file, plan)?,
+        looked(alloc, file, plan)?,
+        seen(alloc, file, plan),
+    ];
+    assert!(rt; found == [want; 3], "{found:?} {file:?}");
+    Ok(())
+}
+
+fn changed(alloc: Global, base: Base, changes: &[(usize, u8)]) -> Result<Vec<u8>, Fail> {
+    let mut file = file_of(alloc, base)?;
+    change(&mut file, changes);
+    Ok(file)
+}
+
 #[test]
 fn changed_bytes(rt: HostRuntime) -> Result<(), Fail> {
-    let alloc = rt.alloc();
-    let plan = one(alloc)?;
+    let plan = one(rt.alloc())?;
     for (base, changes, want) in CASES {
-        let mut file = file_of(alloc, base)?;
-        change(&mut file, changes);
-        let found = opened(alloc, &file, &plan)?;
-        assert_eq!(rt; found, want, "{base:?} {changes:?}");
-        let found = looked(alloc, &file, &plan)?;
-        assert_eq!(rt; found, want, "{base:?} {changes:?}");
-        assert_eq!(rt; seen(alloc, &file, &plan), want, "{base:?} {changes:?}");
+        let file = changed(rt.alloc(), *base, changes)?;
+        is_found(&rt, rt.alloc(), &plan, file.as_slice(), *want)?;
     }
     Ok(())
 }
 
 // Files of other forms, of 0 to 64 bytes.
+const SHORT: &[(&[u8], Found)] = &[
+    (b"", NOTHING),
+    (b"\x07", NOTHING),
+    (b"\xA5", NOTHING),
+    (b"\0anything", NOTHING),
+    (b"hello", NONE),
+    (b"\x03ODXFJNL", NOTHING),
+    (b"\x03ODXFJN", NONE),
+    (b"\xA5ODXFJNL\x02", NONE),
+];
+
 #[test]
 fn short_files(rt: HostRuntime) -> Result<(), Fail> {
-    let alloc = rt.alloc();
-    let plan = one(alloc)?;
-    let files: [(&[u8], Found); 8] = [
-        (b"", NOTHING),
-        (b"\x07", NOTHING),
-        (b"\xA5", NOTHING),
-        (b"\0anything", NOTHING),
-        (b"hello", NONE),
-        (b"\x03ODXFJNL", NOTHING),
-        (b"\x03ODXFJN", NONE),
-        (b"\xA5ODXFJNL\x02", NONE),
-    ];
-    for (file, want) in files {
-        let found = opened(alloc, file, &plan)?;
-        assert_eq!(rt; found, want, "{file:?}");
-        let found = looked(alloc, file, &plan)?;
-        assert_eq!(rt; found, want, "{file:?}");
+    let plan = one(rt.alloc())?;
+    for (file, want) in SHORT {
+        is_found(&rt, rt.alloc(), &plan, file, *want)?;
     }
     Ok(())
 }
 
-// Each file cut at each length, and with bytes past its end.
+// A file of so many bytes cut at each length, and with bytes past its end.
+fn is_cut(rt: &impl Abort, alloc: Global, plan: &Plan, file: &[u8], size: usize, whole: Found) {
+    for length in 0..=file.len() {
+        let want = if length < 2 {
+            NOTHING
+        } else if length < size {
+            NONE
+        } else {
+            whole
+        };
+        assert!(rt;
+            seen(alloc, &file[..length], plan) == want,
+            "{length} of {size}"
+        );
+    }
+}
+
+// A file with two bytes past its end.
+fn longer(alloc: Global, base: Base) -> Result<Vec<u8>, Fail> {
+    let mut file = file_of(alloc, base)?;
+    file.extend_from_slice(&[0xA5; 2])?;
+    Ok(file)
+}
+
 #[test]
 fn each_length(rt: HostRuntime) -> Result<(), Fail> {
-    let alloc = rt.alloc();
-    let plan = one(alloc)?;
+    let plan = one(rt.alloc())?;
     for (base, size, whole) in [
         (Base::Old, 98, UNMARKED),
         (Base::New, 115, DONE),
         (Base::Moved, 213, DONE),
     ] {
-        let mut file = file_of(alloc, base)?;
-        file.extend_from_slice(&[0xA5; 2])?;
-        assert_eq!(rt; file.len(), size + 2);
-        for length in 0..=file.len() {
-            let want = if length < 2 {
-                NOTHING
-            } else if length < size {
-                NONE
-            } else {
-                whole
-            };
-            assert_eq!(rt;
-                seen(alloc, &file[..length], &plan),
-                want,
-                "{base:?} {length}"
-            );
-        }
+        let file = longer(rt.alloc(), base)?;
+        assert!(rt; file.len() == size + 2);
+        is_cut(&rt, rt.alloc(), &plan, file.as_slice(), size, whole);
     }
     Ok(())
+}
+
+// How a file was refused.
+#[derive(Clone, Copy, Debug, PartialEq, Eq)]
+enum Refusal {
+    NotJournal,
+    OtherPlan([u8; 32]),
+    // It was not refused, or for want of a disk or of memory.
+    Another,
+}
+
+// The disk after an opening, and how it was refused.
+fn refused(alloc: Global, file: &[u8], plan: &Plan) -> Result<(MemDisk, Refusal), Fail> {
+    let mut disk = MemDisk::new(alloc, file, &[])?;
+    let refusal = match Journal::open(alloc, &mut disk, plan) {
+        Err(OpenFault::NotJournal) => Refusal::NotJournal,
+        Err(OpenFault::OtherPlan { said }) => Refusal::OtherPlan(said),
+        _ => Refusal::Another,
+    };
+    Ok((disk, refusal))
+}
+
+// Whether this file is refused so, and not written to.
+fn stays(alloc: Global, plan: &Plan, file: &[u8], wanted: Refusal) -> Result<bool, Fail> {
+    let (disk, refusal) = refused(alloc, file, plan)?;
+    let left = crashed(alloc, &disk, 100, Pick::New)?;
+    Ok(refusal == wanted && left.as_slice() == file)
 }
 
 // A journal of another plan: refused in both versions, with the digest that it says, and not written to.
 #[test]
 fn other_plans_stay(rt: HostRuntime) -> Result<(), Fail> {
-    let alloc = rt.alloc();
-    let plan = plan_of(alloc, *b"abd")?;
+    let plan = plan_of(rt.alloc(), *b"abd")?;
     for base in [Base::Old, Base::New, Base::Moved] {
-        let file = file_of(alloc, base)?;
-        let mut disk = MemDisk::new(alloc, &file, &[])?;
-        let other = match Journal::open(alloc, &mut disk, &plan) {
-            Err(OpenFault::OtherPlan { said }) => said == DIGEST,
-            _ => false,
-        };
-        assert!(rt; other, "{base:?}");
-        let left = crashed(alloc, &disk, 100, Pick::New)?;
-        assert_eq!(rt; left.as_slice(), file.as_slice());
+        let file = file_of(rt.alloc(), base)?;
+        let other = Refusal::OtherPlan(DIGEST);
+        assert!(rt;
+            stays(rt.alloc(), &plan, file.as_slice(), other)?,
+            "{base:?}"
+        );
     }
     Ok(())
 }
@@ -201,16 +248,8 @@ fn other_plans_stay(rt: HostRuntime) -> Result<(), Fail> {
 // A file that is no journal is not written to.
 #[test]
 fn other_files_stay(rt: HostRuntime) -> Result<(), Fail> {
-    let alloc = rt.alloc();
-    let plan = one(alloc)?;
-    let mut disk = MemDisk::new(alloc, b"hello", &[])?;
-    let none = match Journal::open(alloc, &mut disk, &plan) {
-        Err(OpenFault::NotJournal) => true,
-        _ => false,
-    };
-    assert!(rt; none);
-    let left = crashed(alloc, &disk, 100, Pick::New)?;
-    assert_eq!(rt; left.as_slice(), b"hello".as_slice());
+    let plan = one(rt.alloc())?;
+    assert!(rt; stays(rt.alloc(), &plan, b"hello", Refusal::NotJournal)?);
     Ok(())
 }
 

@@ -1,49 +1,36 @@
-use crate::adding::add;
+use crate::adding::{add, add_each};
 use crate::files::{Base, file_of};
-use crate::support::{BEGUN, Found, NOTHING, Unit, crashed, held, one, opened, two};
-use flash_journal::{DiskFault, Entry, Journal};
+use crate::support::{BEGUN, Found, NOTHING, Unit, crashed, leaves, left, one, two};
+use flash_journal::{Entry, Journal};
 use flash_plan::Plan;
 use mem_disk::{MemDisk, Pick};
 use std::alloc::Global;
 use std::process::Abort;
 use std::test::Fail;
 
-pub const PICKS: [Pick; 6] = [
-    Pick::Old,
-    Pick::New,
-    Pick::Junk(0xA5),
-    Pick::Junk(1),
-    Pick::Junk(0),
-    Pick::Junk(0x4F),
-];
-
-// A disk whose file begins so, after an opening and the append of an entry.
-fn begun(alloc: Global, image: &[u8], plan: &Plan, entry: Entry) -> Result<MemDisk, Fail> {
+// The disk whose file begins so, after an opening and these appends, those of which it is said recorded.
+pub fn appended(
+    rt: &impl Abort,
+    alloc: Global,
+    image: &[u8],
+    plan: &Plan,
+    rows: &[(Entry, bool)],
+) -> Result<MemDisk, Fail> {
     let mut disk = MemDisk::new(alloc, image, &[])?;
-    if let Ok(mut journal) = Journal::open(alloc, &mut disk, plan) {
-        if journal.may_append(entry) {
-            let _ = journal.append(&mut disk, entry);
-        }
+    match Journal::open(alloc, &mut disk, plan) {
+        Ok(mut journal) => add_each(rt, &mut disk, &mut journal, rows),
+        Err(_) => assert!(rt; false),
     }
     Ok(disk)
 }
 
 // Each image that a crash may leave after each call has no entry, or the one.
 fn stops(rt: &impl Abort, alloc: Global, image: &[u8], plan: &Plan) -> Result<(), Fail> {
-    let disk = begun(alloc, image, plan, Entry::Begun(0))?;
+    let disk = appended(rt, alloc, image, plan, &[(Entry::Begun(0), true)])?;
     for calls in 0..=disk.calls() {
-        for pick in PICKS {
-            let left = crashed(alloc, &disk, calls, pick)?;
-            let found = opened(alloc, left.as_slice(), plan)?;
-            assert!(rt;
-                found == NOTHING || found == BEGUN,
-                "{found:?} after {calls} calls"
-            );
-        }
+        leaves(rt, alloc, &disk, calls, plan, (NOTHING, BEGUN))?;
     }
-    let left = crashed(alloc, &disk, disk.calls(), Pick::Old)?;
-    let found = opened(alloc, left.as_slice(), plan)?;
-    assert_eq!(rt; found, BEGUN);
+    assert!(rt; left(alloc, &disk, disk.calls(), Pick::Old, plan)? == BEGUN);
     Ok(())
 }
 
@@ -66,54 +53,92 @@ fn stops_at_each_call_from_each_start(rt: HostRuntime) -> Result<(), Fail> {
     Ok(())
 }
 
+// The file in which unit 1 is begun, with another first byte.
+fn closed(rt: &impl Abort, alloc: Global, plan: &Plan, first: u8) -> Result<Vec<u8>, Fail> {
+    let disk = appended(rt, alloc, b"", plan, &[(Entry::Begun(1), true)])?;
+    let file = crashed(alloc, &disk, 100, Pick::Old)?;
+    let mut image = Vec::from_slice(alloc, file.as_slice())?;
+    if image.len() > 0 {
+        image[0] = first;
+    }
+    Ok(image)
+}
+
 // A closed header gate before slots that were open: they do not come back.
 #[test]
 fn old_slots_do_not_come_back(rt: HostRuntime) -> Result<(), Fail> {
-    let alloc = rt.alloc();
-    let plan = two(alloc)?;
-    let disk = begun(alloc, b"", &plan, Entry::Begun(1))?;
+    let plan = two(rt.alloc())?;
     for first in [0u8, 1, 0xA4] {
-        let left = crashed(alloc, &disk, 100, Pick::Old)?;
-        let mut image = Vec::from_slice(alloc, left.as_slice())?;
-        if image.len() > 0 {
-            image[0] = first;
-        }
-        stops(&rt, alloc, &image, &plan)?;
+        let image = closed(&rt, rt.alloc(), &plan, first)?;
+        stops(&rt, rt.alloc(), image.as_slice(), &plan)?;
     }
     Ok(())
 }
 
-// A disk that fails at one call: the journal is closed, and the next opening finds no entry or the one.
+// How far an opening and an append came.
+#[derive(Clone, Copy, Debug, PartialEq, Eq)]
+enum Reached {
+    NotOpened,
+    // The append failed, and the journal is closed.
+    Closed,
+    Recorded,
+    // The journal is live after an append that failed, or closed after one that did not.
+    Wrong,
+}
+
+// The disk that fails at one call, and how far an opening and an append came.
+fn failing(alloc: Global, plan: &Plan, number: u64) -> Result<(MemDisk, Reached), Fail> {
+    let mut disk = MemDisk::new(alloc, b"", &[number])?;
+    let reached = match Journal::open(alloc, &mut disk, plan) {
+        Ok(mut journal) => {
+            let is_recorded = add(&mut disk, &mut journal, Entry::Begun(0));
+            match (is_recorded, journal.live()) {
+                (true, true) => Reached::Recorded,
+                (false, false) => Reached::Closed,
+                _ => Reached::Wrong,
+            }
+        }
+        Err(_) => Reached::NotOpened,
+    };
+    Ok((disk, reached))
+}
+
+fn fails(
+    rt: &impl Abort,
+    alloc: Global,
+    plan: &Plan,
+    number: u64,
+    wanted: Reached,
+) -> Result<(), Fail> {
+    let (disk, reached) = failing(alloc, plan, number)?;
+    assert!(rt; reached == wanted, "{reached:?} where call {number} fails");
+    leaves(rt, alloc, &disk, 100, plan, (NOTHING, BEGUN))
+}
+
+// A disk that fails at one call: the journal is closed, and the next opening finds no entry or the one. An
+// opening of an empty file makes nine calls, and an append four.
 #[test]
 fn fails_at_each_call(rt: HostRuntime) -> Result<(), Fail> {
-    let alloc = rt.alloc();
-    let plan = two(alloc)?;
-    // An opening of an empty file makes nine calls, and an append four.
-    for number in 0..14u64 {
-        let mut disk = MemDisk::new(alloc, b"", &[number])?;
-        match Journal::open(alloc, &mut disk, &plan) {
-            Ok(mut journal) => {
-                assert!(rt; number >= 9);
-                if journal.may_append(Entry::Begun(0)) {
-                    let done = match journal.append(&mut disk, Entry::Begun(0)) {
-                        Ok(()) => true,
-                        Err(DiskFault) => false,
-                    };
-                    assert!(rt; done == journal.live());
-                    assert!(rt; done == (number == 13));
-                }
-            }
-            Err(_) => assert!(rt; number < 9),
-        }
-        for pick in PICKS {
-            let left = crashed(alloc, &disk, 100, pick)?;
-            let found = opened(alloc, left.as_slice(), &plan)?;
-            assert!(rt;
-                found == NOTHING || found == BEGUN,
-                "{found:?} where call {number} fails"
-            );
-        }
+    let plan = two(rt.alloc())?;
+    for number in 0..9u64 {
+        fails(&rt, rt.alloc(), &plan, number, Reached::NotOpened)?;
     }
+    for number in 9..13u64 {
+        fails(&rt, rt.alloc(), &plan, number, Reached::Closed)?;
+    }
+    fails(&rt, rt.alloc(), &plan, 13, Reached::Recorded)
+}
+
+const MARK: Entry = Entry::Marked {
+    unit: 0,
+    segment: 0,
+};
+
+// The image that all calls leave is the file of the smallest plan with everything recorded.
+fn is_whole(rt: &impl Abort, alloc: Global, disk: &MemDisk) -> Result<(), Fail> {
+    let file = crashed(alloc, disk, 100, Pick::Old)?;
+    let want = file_of(alloc, Base::New)?;
+    assert!(rt; file.as_slice() == want.as_slice());
     Ok(())
 }
 
@@ -123,26 +148,18 @@ fn fails_at_each_call(rt: HostRuntime) -> Result<(), Fail> {
 fn stops_in_the_gate(rt: HostRuntime) -> Result<(), Fail> {
     let alloc = rt.alloc();
     let plan = one(alloc)?;
-    let mut disk = MemDisk::new(alloc, b"", &[])?;
-    if let Ok(mut journal) = Journal::open(alloc, &mut disk, &plan) {
-        let mark = Entry::Marked {
-            unit: 0,
-            segment: 0,
-        };
-        let _begun = add(&mut disk, &mut journal, Entry::Begun(0));
-        let _marked = add(&mut disk, &mut journal, mark);
-        let _complete = add(&mut disk, &mut journal, Entry::Complete(0));
-    }
-    assert_eq!(rt; disk.calls(), 21);
-    for (pick, want) in [(Pick::Old, Unit::Marked), (Pick::New, Unit::Done)] {
-        let left = crashed(alloc, &disk, 20, pick)?;
-        let found = opened(alloc, left.as_slice(), &plan)?;
-        assert_eq!(rt; found, Found::Entries(want, Unit::Nothing));
-    }
-    let file = crashed(alloc, &disk, 21, Pick::Old)?;
-    let want = file_of(alloc, Base::New)?;
-    assert_eq!(rt; file.as_slice(), want.as_slice());
-    Ok(())
+    let rows = [
+        (Entry::Begun(0), true),
+        (MARK, true),
+        (Entry::Complete(0), true),
+    ];
+    let disk = appended(&rt, alloc, b"", &plan, &rows)?;
+    assert!(rt; disk.calls() == 21);
+    let marked = left(alloc, &disk, 20, Pick::Old, &plan)?;
+    assert!(rt; marked == Found::Entries(Unit::Marked, Unit::Nothing));
+    let done = left(alloc, &disk, 20, Pick::New, &plan)?;
+    assert!(rt; done == Found::Entries(Unit::Done, Unit::Nothing));
+    is_whole(&rt, alloc, &disk)
 }
 
 // A mark or a completion needs its begin.
@@ -150,18 +167,15 @@ fn stops_in_the_gate(rt: HostRuntime) -> Result<(), Fail> {
 fn marks_come_after_begins(rt: HostRuntime) -> Result<(), Fail> {
     let alloc = rt.alloc();
     let plan = one(alloc)?;
-    let mut disk = MemDisk::new(alloc, b"", &[])?;
-    let mark = Entry::Marked {
-        unit: 0,
-        segment: 0,
-    };
-    if let Ok(mut journal) = Journal::open(alloc, &mut disk, &plan) {
-        assert!(rt; !add(&mut disk, &mut journal, mark));
-        assert!(rt; !add(&mut disk, &mut journal, Entry::Complete(0)));
-        assert!(rt; add(&mut disk, &mut journal, Entry::Begun(0)));
-        assert!(rt; add(&mut disk, &mut journal, mark));
-        assert_eq!(rt; held(&journal), Found::Entries(Unit::Marked, Unit::Nothing));
-    }
+    let rows = [
+        (MARK, false),
+        (Entry::Complete(0), false),
+        (Entry::Begun(0), true),
+        (MARK, true),
+    ];
+    let disk = appended(&rt, alloc, b"", &plan, &rows)?;
+    let found = left(alloc, &disk, 100, Pick::Old, &plan)?;
+    assert!(rt; found == Found::Entries(Unit::Marked, Unit::Nothing));
     Ok(())
 }
 
@@ -170,17 +184,17 @@ fn marks_come_after_begins(rt: HostRuntime) -> Result<(), Fail> {
 fn entries_are_of_the_plan(rt: HostRuntime) -> Result<(), Fail> {
     let alloc = rt.alloc();
     let plan = one(alloc)?;
-    let mut disk = MemDisk::new(alloc, b"", &[])?;
     let other = Entry::Marked {
         unit: 0,
         segment: 1,
     };
-    if let Ok(mut journal) = Journal::open(alloc, &mut disk, &plan) {
-        assert!(rt; !add(&mut disk, &mut journal, Entry::Begun(1)));
-        assert!(rt; add(&mut disk, &mut journal, Entry::Begun(0)));
-        assert!(rt; !add(&mut disk, &mut journal, Entry::Begun(0)));
-        assert!(rt; !add(&mut disk, &mut journal, other));
-    }
-    assert_eq!(rt; disk.calls(), 13);
+    let rows = [
+        (Entry::Begun(1), false),
+        (Entry::Begun(0), true),
+        (Entry::Begun(0), false),
+        (other, false),
+    ];
+    let disk = appended(&rt, alloc, b"", &plan, &rows)?;
+    assert!(rt; disk.calls() == 13);
     Ok(())
 }

@@ -7,6 +7,7 @@ use flash_journal::{Entry, Journal, OpenFault, look, look_bytes};
 use flash_plan::{Draft, Entries, Plan, Segment, accept};
 use mem_disk::{MemDisk, Pick};
 use std::alloc::Global;
+use std::process::Abort;
 use std::test::Fail;
 
 /// What is recorded of a unit, whose segment is number 0.
@@ -182,4 +183,51 @@ pub fn crashed(alloc: Global, disk: &MemDisk, calls: u64, pick: Pick) -> Result<
     let made = disk.calls();
     let after = if calls < made { calls } else { made };
     Ok(disk.crash(alloc, after, pick)?)
+}
+
+pub const PICKS: [Pick; 6] = [
+    Pick::Old,
+    Pick::New,
+    Pick::Junk(0xA5),
+    Pick::Junk(1),
+    Pick::Junk(0),
+    Pick::Junk(0x4F),
+];
+
+/// What an opening finds in the image that a crash leaves after so many calls.
+pub fn left(
+    alloc: Global,
+    disk: &MemDisk,
+    calls: u64,
+    pick: Pick,
+    plan: &Plan,
+) -> Result<Found, Fail> {
+    let image = crashed(alloc, disk, calls, pick)?;
+    opened(alloc, image.as_slice(), plan)
+}
+
+/// What an opening finds in each image that a crash leaves after so many calls: one of the two.
+pub fn leaves(
+    rt: &impl Abort,
+    alloc: Global,
+    disk: &MemDisk,
+    calls: u64,
+    plan: &Plan,
+    wanted: (Found, Found),
+) -> Result<(), Fail> {
+    for pick in PICKS {
+        let found = left(alloc, disk, calls, pick, plan)?;
+        assert!(rt;
+            found == wanted.0 || found == wanted.1,
+            "{found:?} after {calls} calls"
+        );
+    }
+    Ok(())
+}
+
+/// Whether these bytes stand at the place of the file that the calls left.
+pub fn stands(alloc: Global, disk: &MemDisk, at: usize, text: &[u8]) -> Result<bool, Fail> {
+    let image = crashed(alloc, disk, 100, Pick::Old)?;
+    let file = image.as_slice();
+    Ok(at <= file.len() && file[at..].starts_with(text))
 }

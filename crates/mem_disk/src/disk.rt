@@ -315,6 +315,7 @@ fn copy_part(from: &[u8], at: usize, out: &mut [u8])
 }
 
 impl Shop for MemDisk {
+    ghost use Rattle.std.proofs.lemmas.Bool.{false≢true};
     ghost use Rattle.std.specs.Prelude.{◌≡◌, ◌+◌, ◌≤◌, true, false, IsTrue, IfOk, OnOk, length, slice_range};
     ghost use Rattle.shop_model.specs.History.{DiskCall, Len, ReadAt, WriteAt, Sync, WroteOrMissed, SyncedOrNot, disk_now};
     ghost use Rattle.mem_disk.specs.Disks.{history_of, FailsExactly, ListsMiss};
@@ -329,6 +330,8 @@ impl Shop for MemDisk {
     ghost bounded = { λ s. s.few };
 
     ghost readable = { readable_of };
+
+    ghost stepped = { λ s m told lt. absurd (false≢true told) };
 
     fn len(&mut self) -> Result<u64, DeviceFault>
         ensures call { DiskCall Len (history_of self.old) (history_of self.new) result }

@@ -1,3 +1,5 @@
+pub mod Batches
+pub mod Crossing
 pub mod Drafts
 pub mod Lists
 pub mod OneImage

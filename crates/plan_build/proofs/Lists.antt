@@ -112,27 +112,6 @@ pub room_off : (read : List ℕ → Result (List ℕ) ShelfFault → Type 0) (na
     part read name c t (Ok p) → Err e ≡ room_after name room (size_of p.draft.segments) → LeadsParts read name c ts done n room (t ∷ rest) → parts read name c 0 67108864 ts (Err e)
 room_off read name c ts rest t p done n room e f full leads = leads (Err e) (goes_on p f (stops e full refl))
 
-pub part_failed : (read : List ℕ → Result (List ℕ) ShelfFault → Type 0) (name : List ℕ) (c : Option Catalogue) (ts : List Task) (t : Task) (done : Parts) (n room : ℕ) (e : BuildFault) → n < length ts → t ≡ get_or ts n t →
-    Or {A = Part} (Err e) (part read name c t) → LeadsParts read name c ts done n room (drop n ts) → Or {A = Parts} (Err e) (parts read name c 0 67108864 ts)
-part_failed read name c ts t done n room e within at (inl h) leads = inl cc
-part_failed read name c ts t done n room e within at (inr f) leads =
-    inr (part_off read name c ts (drop (n + 1) ts) t done n room e f (subst (λ l. LeadsParts read name c ts done n room l) (drop_at ts n t within at) leads))
-
-pub room_failed : (read : List ℕ → Result (List ℕ) ShelfFault → Type 0) (name : List ℕ) (c : Option Catalogue) (ts : List Task) (t : Task) (p : Part) (done : Parts) (n room : ℕ) (e : BuildFault) → n < length ts → t ≡ get_or ts n t →
-    Or {A = Part} (Ok p) (part read name c t) → Or {A = ℕ} (Err e) (just (room_after name room (size_of p.draft.segments))) → LeadsParts read name c ts done n room (drop n ts) → Or {A = Parts} (Err e) (parts read name c 0 67108864 ts)
-room_failed read name c ts t p done n room e within at (inl h) full leads = cc
-room_failed read name c ts t p done n room e within at (inr f) (inl h) leads = inl cc
-room_failed read name c ts t p done n room e within at (inr f) (inr full) leads =
-    inr (room_off read name c ts (drop (n + 1) ts) t p done n room e f full (subst (λ l. LeadsParts read name c ts done n room l) (drop_at ts n t within at) leads))
-
-pub part_more : (read : List ℕ → Result (List ℕ) ShelfFault → Type 0) (name : List ℕ) (c : Option Catalogue) (ts : List Task) (t : Task) (p : Part) (done more : Parts) (n room left : ℕ) → n < length ts → t ≡ get_or ts n t →
-    Or {A = Part} (Ok p) (part read name c t) → Or {A = ℕ} (Ok left) (just (room_after name room (size_of p.draft.segments))) → more ≡ with_last done n p → LeadsParts read name c ts done n room (drop n ts) → LeadsParts read name c ts more (n + 1) left (drop (n + 1) ts)
-part_more read name c ts t p done more n room left within at (inl h) fits pushed leads = cc
-part_more read name c ts t p done more n room left within at (inr f) (inl h) pushed leads = cc
-part_more read name c ts t p done more n room left within at (inr f) (inr fits) pushed leads =
-    subst (λ l. LeadsParts read name c ts l (n + 1) left (drop (n + 1) ts)) (sym pushed)
-    (part_on read name c ts (drop (n + 1) ts) t p done n room left f fits (subst (λ l. LeadsParts read name c ts done n room l) (drop_at ts n t within at) leads))
-
 pub parts_done : (read : List ℕ → Result (List ℕ) ShelfFault → Type 0) (name : List ℕ) (c : Option Catalogue) (ts : List Task) (done : Parts) (n room : ℕ) → LeadsParts read name c ts done n room [] → parts read name c 0 67108864 ts (Ok done)
 parts_done read name c ts done n room leads = subst (parts read name c 0 67108864 ts) same (leads (Ok no_parts) refl)
   where

@@ -7,12 +7,14 @@ abbrev pub just : {A : Type 0} → Result A BuildFault → Result A BuildFault �
 just a r = r ≡ a
 
 -- The first step gives a value, and the answer is one of the second step with it; or the first refuses, and that is the answer.
-pub data Then {A B : Type 0} (first : Result A BuildFault → Type 0) (second : A → Result B BuildFault → Type 0) (r : Result B BuildFault) : Type 0 where
+pub data Then {A B : Type 0} (first : Result A BuildFault → Type 0)
+    (second : A → Result B BuildFault → Type 0) (r : Result B BuildFault) : Type 0 where
   goes_on : (x : A) → first (Ok x) → second x r → Then first second r
   stops : (e : BuildFault) → first (Err e) → r ≡ Err e → Then first second r
 
 infixl 10 ◌>>=◌
-abbrev pub ◌>>=◌ : {A B : Type 0} → (Result A BuildFault → Type 0) → (A → Result B BuildFault → Type 0) → Result B BuildFault → Type 0
+abbrev pub ◌>>=◌ : {A B : Type 0} → (Result A BuildFault → Type 0) → (A → Result B BuildFault → Type 0)
+    → Result B BuildFault → Type 0
 ◌>>=◌ first second r = Then first second r
 
 -- the same for steps that have one answer

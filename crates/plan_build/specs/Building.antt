@@ -37,12 +37,14 @@ abbrev pub few_tasks : List ℕ → List Task → Result (List Task) BuildFault
 few_tasks name ts = if nat_lt 64 (length ts) then Err (Input name (TooMany Units)) else Ok ts
 
 -- all tasks, whose segments have at most 67,108,864 bytes together
-abbrev pub tasks_built : (List ℕ → Result (List ℕ) ShelfFault → Type 0) → List ℕ → Order → Option Catalogue → Result Built BuildFault → Type 0
+abbrev pub tasks_built : (List ℕ → Result (List ℕ) ShelfFault → Type 0) → List ℕ → Order → Option Catalogue
+    → Result Built BuildFault → Type 0
 tasks_built read name o c =
     just (few_tasks name o.tasks) >>= λ ts. parts read name c 0 67108864 ts >>= planned name o
 
 -- the order, the catalogue, the tasks, the plan
-abbrev pub built_by : (List ℕ → Result (List ℕ) ShelfFault → Type 0) → List ℕ → Result Built BuildFault → Type 0
+abbrev pub built_by : (List ℕ → Result (List ℕ) ShelfFault → Type 0) → List ℕ → Result Built BuildFault
+    → Type 0
 built_by read name = ordered read name >>= λ o. catalogued read o.catalogue >>= λ c. tasks_built read name o c
 
 -- what told files make of an order file

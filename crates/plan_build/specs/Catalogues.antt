@@ -24,7 +24,8 @@ abbrev pub order_in : List ℕ → List ℕ → Result Order BuildFault
 order_in name bytes = order_from name (order_of bytes)
 
 -- the order of a file
-abbrev pub ordered : (List ℕ → Result (List ℕ) ShelfFault → Type 0) → List ℕ → Result Order BuildFault → Type 0
+abbrev pub ordered : (List ℕ → Result (List ℕ) ShelfFault → Type 0) → List ℕ → Result Order BuildFault
+    → Type 0
 ordered read name = fetched read name >>= λ bytes. just (order_in name bytes)
 
 abbrev pub mem_from : List ℕ → Result EcuMem MemFault → Result (Option Catalogue) BuildFault
@@ -39,6 +40,7 @@ abbrev pub catalogue_in : List ℕ → List ℕ → Result (Option Catalogue) Bu
 catalogue_in name bytes = tree_from name (tree_of bytes)
 
 -- the catalogue of a file, where an order names one
-abbrev pub catalogued : (List ℕ → Result (List ℕ) ShelfFault → Type 0) → Option (List ℕ) → Result (Option Catalogue) BuildFault → Type 0
+abbrev pub catalogued : (List ℕ → Result (List ℕ) ShelfFault → Type 0) → Option (List ℕ)
+    → Result (Option Catalogue) BuildFault → Type 0
 catalogued read None = just (Ok None)
 catalogued read (Some name) = fetched read name >>= λ bytes. just (catalogue_in name bytes)

@@ -7,6 +7,7 @@ use Rattle.flash_shelf.specs.declared.shelf.ShelfFault.TheVariants as shelf
 use Rattle.plan_build.specs.Answers.{just, ◌>>=◌}
 use Rattle.plan_build.specs.declared.fault.BuildFault.{BuildFault}
 use Rattle.plan_build.specs.declared.fault.BuildFault.TheVariants.{Shelf, NoMemory}
+use Rattle.flash_shelf.specs.History.{ShelfHistory}
 
 -- ------ what a read of a name may answer
 -- told files: the first with the name, if it is not too large
@@ -43,15 +44,27 @@ of_answer name (Err shelf.Failed) = Err (Shelf name shelf.Failed)
 of_answer name (Err shelf.NoMemory) = Err NoMemory
 
 -- what follows from what a read answers
-pub record Fetched (read : List ℕ → Result (List ℕ) ShelfFault → Type 0) (name : List ℕ) (r : Result (List ℕ) BuildFault) : Type 0 where
+pub record Fetched (read : List ℕ → Result (List ℕ) ShelfFault → Type 0) (name : List ℕ)
+    (r : Result (List ℕ) BuildFault) : Type 0 where
   pub answer : Result (List ℕ) ShelfFault
   pub given : read name answer
   pub is : r ≡ of_answer name answer
 
-abbrev pub fetched : (List ℕ → Result (List ℕ) ShelfFault → Type 0) → List ℕ → Result (List ℕ) BuildFault → Type 0
+abbrev pub fetched : (List ℕ → Result (List ℕ) ShelfFault → Type 0) → List ℕ → Result (List ℕ) BuildFault
+    → Type 0
 fetched read name r = Fetched read name r
 
 -- the files with these names
-abbrev pub all_fetched : (List ℕ → Result (List ℕ) ShelfFault → Type 0) → List (List ℕ) → Result (List (List ℕ × List ℕ)) BuildFault → Type 0
+abbrev pub all_fetched : (List ℕ → Result (List ℕ) ShelfFault → Type 0) → List (List ℕ)
+    → Result (List (List ℕ × List ℕ)) BuildFault → Type 0
 all_fetched read [] = just (Ok [])
-all_fetched read (name ∷ names) = fetched read name >>= λ bytes. all_fetched read names >>= λ rest. just (Ok ((name, bytes) ∷ rest))
+all_fetched read (name ∷ names) = fetched read name >>= λ bytes. all_fetched read names
+    >>= λ rest. just (Ok ((name, bytes) ∷ rest))
+
+-- calls between these two times of a shelf lie in the time
+abbrev pub LiesIn : Period → Bool → ShelfHistory → ShelfHistory → Type 0
+LiesIn p tells old new = Lies p tells old.contents old.faults new.faults
+
+-- the time between these two of a shelf
+abbrev pub between : Bool → ShelfHistory → ShelfHistory → Period
+between tells old new = period tells old.contents old.faults new.faults

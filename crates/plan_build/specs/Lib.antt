@@ -3,6 +3,7 @@ pub mod Building
 pub mod Catalogues
 pub mod Fetched
 pub mod Laws
+pub mod Loading
 pub mod Refusals
 pub mod Tasks
 pub mod Whole

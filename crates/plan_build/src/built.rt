@@ -1,7 +1,7 @@
 use ecu_mem::{EcuMem, Ident};
-use flash_base::{Items, Text};
+use flash_base::{Bytes, Files, Items, Text};
 use flash_order::Order;
-use flash_plan::{Draft, Plan};
+use flash_plan::{Draft, Plan, Wanted};
 use session_image::Checked;
 
 /// A plan, and what its files say besides.
@@ -39,6 +39,24 @@ pub struct TaskOwn {
 pub struct Catalogue {
     pub name: Text,
     pub mem: EcuMem,
+}
+
+/// What is read for one task.
+#[derive(Debug, Drop)]
+pub enum Load {
+    /// The bytes of its file, which go to this address.
+    File {
+        at: u64,
+        idents: Items<Wanted>,
+        bytes: Bytes,
+    },
+    /// The number of its session, the expected idents with their identifiers, and the session's files.
+    Session {
+        session: u64,
+        idents: Items<Wanted>,
+        files: Files,
+        fill: Option<u8>,
+    },
 }
 
 /// What one task gives.

@@ -3,7 +3,7 @@ ghost use Rattle.std.specs.Prelude.{◌≡◌, ◌⊎◌, ◌≤◌, Err, IfOk, 
 ghost use Rattle.ecu_mem.specs.Bounds as mem;
 ghost use Rattle.flash_order.specs.Promises.{IsOrder};
 ghost use Rattle.plan_build.specs.Catalogues.{catalogue_in, catalogued, order_in, ordered};
-ghost use Rattle.plan_build.specs.Fetched.{came, Lies, Period};
+ghost use Rattle.plan_build.specs.Fetched.{came, Period, LiesIn};
 
 use crate::built::Catalogue;
 use crate::fault::BuildFault;
@@ -31,9 +31,10 @@ pub(crate) fn order_at<F: Shelf>(
     shelf: &mut F,
     name: &str,
 ) -> Result<Order, BuildFault>
-    ensures keeps { F.contents shelf.new ≡ F.contents shelf.old }
-    ensures never_falls { F.faults shelf.old ≤ F.faults shelf.new }
-    ensures read { (p : Period) → Lies p F.tells (F.contents shelf.old) (F.faults shelf.old) (F.faults shelf.new) → (result ≡ Err BuildFault.NoMemory) ⊎ ordered (came p) name.now result }
+    ensures keeps { (F.history shelf.new).contents ≡ (F.history shelf.old).contents }
+    ensures never_falls { (F.history shelf.old).faults ≤ (F.history shelf.new).faults }
+    ensures read { (p : Period) → LiesIn p F.tells (F.history shelf.old) (F.history shelf.new)
+        → (result ≡ Err BuildFault.NoMemory) ⊎ ordered (came p) name.now result }
     ensures form { IfOk result IsOrder }
 {
     let bytes = fetch(alloc, shelf, name)?;
@@ -64,9 +65,10 @@ pub(crate) fn catalogue_at<F: Shelf>(
     shelf: &mut F,
     name: &Option<Text>,
 ) -> Result<Option<Catalogue>, BuildFault>
-    ensures keeps { F.contents shelf.new ≡ F.contents shelf.old }
-    ensures never_falls { F.faults shelf.old ≤ F.faults shelf.new }
-    ensures read { (p : Period) → Lies p F.tells (F.contents shelf.old) (F.faults shelf.old) (F.faults shelf.new) → (result ≡ Err BuildFault.NoMemory) ⊎ catalogued (came p) name.now result }
+    ensures keeps { (F.history shelf.new).contents ≡ (F.history shelf.old).contents }
+    ensures never_falls { (F.history shelf.old).faults ≤ (F.history shelf.new).faults }
+    ensures read { (p : Period) → LiesIn p F.tells (F.history shelf.old) (F.history shelf.new)
+        → (result ≡ Err BuildFault.NoMemory) ⊎ catalogued (came p) name.now result }
     ensures whole { IfOk result (λ o. IfSome o (λ c. mem.IsWholeCatalogue c.mem)) }
 {
     match name {

@@ -1,6 +1,6 @@
 //! Files by their names.
 ghost use Rattle.std.specs.Prelude.{◌≡◌, ◌⊎◌, ◌≤◌, Err, IfOk, map};
-ghost use Rattle.plan_build.specs.Fetched.{all_fetched, came, fetched, Lies, Period};
+ghost use Rattle.plan_build.specs.Fetched.{all_fetched, came, fetched, Period, LiesIn};
 
 use crate::fault::BuildFault;
 use flash_base::{Bytes, Files, Names, Text};
@@ -19,9 +19,10 @@ fn refusal(alloc: Global, name: &str, fault: ShelfFault) -> BuildFault
 
 /// The file with this name.
 pub(crate) fn fetch<F: Shelf>(alloc: Global, shelf: &mut F, name: &str) -> Result<Bytes, BuildFault>
-    ensures keeps { F.contents shelf.new ≡ F.contents shelf.old }
-    ensures never_falls { F.faults shelf.old ≤ F.faults shelf.new }
-    ensures read { (p : Period) → Lies p F.tells (F.contents shelf.old) (F.faults shelf.old) (F.faults shelf.new) → (result ≡ Err BuildFault.NoMemory) ⊎ fetched (came p) name.now result }
+    ensures keeps { (F.history shelf.new).contents ≡ (F.history shelf.old).contents }
+    ensures never_falls { (F.history shelf.old).faults ≤ (F.history shelf.new).faults }
+    ensures read { (p : Period) → LiesIn p F.tells (F.history shelf.old) (F.history shelf.new)
+        → (result ≡ Err BuildFault.NoMemory) ⊎ fetched (came p) name.now result }
 {
     match shelf.read(alloc, name) {
         Ok(bytes) => Ok(bytes),
@@ -36,9 +37,10 @@ pub(crate) fn fetch_all<F: Shelf>(
     shelf: &mut F,
     names: &Names,
 ) -> Result<Files, BuildFault>
-    ensures keeps { F.contents shelf.new ≡ F.contents shelf.old }
-    ensures never_falls { F.faults shelf.old ≤ F.faults shelf.new }
-    ensures read { (p : Period) → Lies p F.tells (F.contents shelf.old) (F.faults shelf.old) (F.faults shelf.new) → (result ≡ Err BuildFault.NoMemory) ⊎ all_fetched (came p) names.now result }
+    ensures keeps { (F.history shelf.new).contents ≡ (F.history shelf.old).contents }
+    ensures never_falls { (F.history shelf.old).faults ≤ (F.history shelf.new).faults }
+    ensures read { (p : Period) → LiesIn p F.tells (F.history shelf.old) (F.history shelf.new)
+        → (result ≡ Err BuildFault.NoMemory) ⊎ all_fetched (came p) names.now result }
     ensures names { IfOk result (λ files. map (λ f. f.0) files ≡ names.now) }
 {
     let mut files = Files::new(alloc);

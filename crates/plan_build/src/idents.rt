@@ -82,7 +82,8 @@ pub(crate) fn all_wanted(
     idents: &[Ident],
 ) -> Result<Items<Wanted>, BuildFault>
     requires { Each IsIdent idents.now }
-    ensures is { (result ≡ Err BuildFault.NoMemory) ⊎ (result ≡ all_wanted name.now task.now dids.now idents.now) }
+    ensures is { (result ≡ Err BuildFault.NoMemory)
+        ⊎ (result ≡ all_wanted name.now task.now dids.now idents.now) }
     ensures asked { IfOk result (Each IsAsked) }
 {
     let table = table_of(alloc, dids)?;

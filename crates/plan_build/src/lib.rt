@@ -5,6 +5,7 @@
 //! the first refusal with the file that it speaks of.
 #![tactic(auto)]
 
+mod batch;
 mod building;
 mod built;
 mod catalogue;
@@ -13,16 +14,12 @@ mod fault;
 mod fetching;
 mod idents;
 pub mod laws;
+mod loading;
+mod making;
 mod planning;
 mod refusals;
-mod sources;
 mod task;
 
 pub use building::build;
 pub use built::{Built, TaskChecks, TaskOwn};
 pub use fault::{BuildFault, Cause};
-
-#[cfg(test)]
-mod test_words;
-#[cfg(test)]
-mod tests;

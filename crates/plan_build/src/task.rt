@@ -1,61 +1,28 @@
 //! What the tasks of an order give, one after another.
-ghost use Rattle.std.specs.Prelude.{◌≡◌, ◌⊎◌, ◌≤◌, ◌<◌, ◌-◌, Err, IfOk, IfSome, OnOk, Some, None, length, nat_lt, if◌then◌else◌};
+ghost use Rattle.std.specs.Prelude.{◌≡◌, ◌⊎◌, ◌≤◌, ◌<◌, ◌+◌, ◌-◌, Err, IfOk, IfSome, OnOk, Some, None, drop, length, nat_lt, if◌then◌else◌};
 ghost use Rattle.ecu_mem.specs.Bounds.{IsWholeCatalogue};
 ghost use Rattle.flash_base.specs.Lists.{Each};
 ghost use Rattle.flash_order.specs.Promises.{IsTask};
 ghost use Rattle.flash_plan.specs.Accepting.{IsDraft};
 ghost use Rattle.flash_plan.specs.Plan.{size_of};
-ghost use Rattle.plan_build.specs.Fetched.{came, Lies, Period};
-ghost use Rattle.plan_build.specs.Tasks.{no_parts, part, parts, room_after, with_last};
+ghost use Rattle.plan_build.specs.Fetched.{came, Period, LiesIn};
+ghost use Rattle.plan_build.specs.Loading.{taken, with_parts};
+ghost use Rattle.plan_build.specs.Tasks.{no_parts, parts, room_after, with_last};
 ghost use Rattle.plan_build.specs.Whole.{AreFor};
 
+use crate::batch::{Given, next_batch};
 use crate::built::{Catalogue, Part, Parts, TaskChecks, TaskOwn};
 use crate::fault::{BuildFault, Cause};
 use crate::refusals::input;
-use crate::sources::{from_file, from_session};
 use flash_base::{Items, NoMemory};
-use flash_order::{Source, Task};
+use flash_order::Task;
 use flash_plan::{Segment, What};
 use flash_shelf::Shelf;
 use std::alloc::Global;
+use std::thread::Threads;
 
 /// The most bytes of a plan.
 const PLAN_BYTES: u64 = 67_108_864;
-
-/// What one task gives.
-fn part<F: Shelf>(
-    alloc: Global,
-    shelf: &mut F,
-    name: &str,
-    catalogue: &Option<Catalogue>,
-    task: &Task,
-) -> Result<Part, BuildFault>
-    requires task { IsTask task.now }
-    requires whole { IfSome catalogue.now (λ c. IsWholeCatalogue c.mem) }
-    ensures keeps { F.contents shelf.new ≡ F.contents shelf.old }
-    ensures never_falls { F.faults shelf.old ≤ F.faults shelf.new }
-    ensures read { (p : Period) → Lies p F.tells (F.contents shelf.old) (F.faults shelf.old) (F.faults shelf.new) → (result ≡ Err BuildFault.NoMemory)
-        ⊎ part (came p) name.now catalogue.now task.now result }
-    ensures draft { IfOk result (λ p. IsDraft p.draft) }
-{
-    match &task.source {
-        Source::Raw { file, at, idents } => {
-            from_file(alloc, shelf, name, task, file, *at, idents.as_slice())
-        }
-        Source::Session { id, dids, fill } => {
-            from_session(
-                alloc,
-                shelf,
-                name,
-                task,
-                catalogue,
-                id,
-                dids.as_slice(),
-                *fill,
-            )
-        }
-    }
-}
 
 /// The room that segments leave, or None where there is not enough.
 fn room_within(room: u64, segments: &[Segment]) -> Option<u64>
@@ -74,7 +41,8 @@ fn room_within(room: u64, segments: &[Segment]) -> Option<u64>
 
 /// The room that segments leave, or the refusal.
 fn room_after(alloc: Global, name: &str, room: u64, segments: &[Segment]) -> Result<u64, BuildFault>
-    ensures { (result ≡ Err BuildFault.NoMemory) ⊎ (result ≡ room_after name.now room (size_of segments.now)) }
+    ensures { (result ≡ Err BuildFault.NoMemory)
+        ⊎ (result ≡ room_after name.now room (size_of segments.now)) }
 {
     match room_within(room, segments) {
         Some(left) => Ok(left),
@@ -104,8 +72,45 @@ impl Parts {
     }
 }
 
+/// Takes the parts of tasks from a number on, after those before them, and answers the room that is left.
+fn take_parts(
+    alloc: Global,
+    name: &str,
+    all: &mut Parts,
+    first: usize,
+    room: u64,
+    parts: Vec<Result<Part, BuildFault>>,
+) -> Result<u64, BuildFault>
+    requires { first + length parts.items ≤ 64 }
+    ensures { (result ≡ Err BuildFault.NoMemory)
+        ⊎ (with_parts all.new result ≡ taken name.now first room all.old parts.items) }
+{
+    let mut left = room;
+    let mut number = first;
+    let mut rest = parts.into_iter();
+    while let Some(part) = rest.next() {
+        let part = part?;
+        left = room_after(alloc, name, left, part.draft.segments.as_slice())?;
+        all.push(number as u16, part)?;
+        number += 1;
+    }
+    Ok(left)
+}
+
+/// The tasks from a number on.
+fn tasks_from(tasks: &[Task], n: usize) -> &[Task]
+    requires { n ≤ length tasks.now }
+    ensures { result.now ≡ drop n tasks.now }
+{
+    &tasks[n..]
+}
+
 /// What all tasks give, in order.
-pub(crate) fn all_parts<F: Shelf>(
+///
+/// The tasks go in batches: what a batch needs is read first, and its parts are then made side by side. Where
+/// a task is refused when it is read, those before it come first.
+pub(crate) fn all_parts<R: Threads + Sync, F: Shelf>(
+    rt: &R,
     alloc: Global,
     shelf: &mut F,
     name: &str,
@@ -115,19 +120,26 @@ pub(crate) fn all_parts<F: Shelf>(
     requires few { length tasks.now ≤ 64 }
     requires tasks { Each IsTask tasks.now }
     requires whole { IfSome catalogue.now (λ c. IsWholeCatalogue c.mem) }
-    ensures keeps { F.contents shelf.new ≡ F.contents shelf.old }
-    ensures never_falls { F.faults shelf.old ≤ F.faults shelf.new }
-    ensures read { (p : Period) → Lies p F.tells (F.contents shelf.old) (F.faults shelf.old) (F.faults shelf.new) → (result ≡ Err BuildFault.NoMemory)
+    ensures keeps { (F.history shelf.new).contents ≡ (F.history shelf.old).contents }
+    ensures never_falls { (F.history shelf.old).faults ≤ (F.history shelf.new).faults }
+    ensures read { (p : Period) → LiesIn p F.tells (F.history shelf.old) (F.history shelf.new)
+        → (result ≡ Err BuildFault.NoMemory)
         ⊎ parts (came p) name.now catalogue.now 0 67108864 tasks.now result }
     ensures drafts { IfOk result (λ ps. Each IsDraft ps.drafts) }
     ensures whole { IfOk result (AreFor tasks.now) }
 {
     let mut all = Parts::new(alloc);
     let mut room = PLAN_BYTES;
-    for i in 0..tasks.len() {
-        let part = part(alloc, shelf, name, catalogue, &tasks[i])?;
-        room = room_after(alloc, name, room, part.draft.segments.as_slice())?;
-        all.push(i as u16, part)?;
+    let mut n = 0;
+    while n < tasks.len() {
+        let given = next_batch(rt, alloc, shelf, name, catalogue, tasks_from(tasks, n))?;
+        let Given { parts, stopped } = given;
+        let count = parts.len();
+        room = take_parts(alloc, name, &mut all, n, room, parts)?;
+        if let Some(fault) = stopped {
+            return Err(fault);
+        }
+        n += count;
     }
     Ok(all)
 }

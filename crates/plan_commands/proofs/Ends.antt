@@ -2,19 +2,20 @@
 use Rattle.std.proofs.Common.{◌≡◌, ◌⊎◌, inl, inr, ℕ, Bool, IsTrue, List, ◌++◌, refl, sym, ◌∙◌, ap, subst}
 use Rattle.std.specs.Prelude.{Option, Some, None, Result, Ok, Err}
 use Rattle.flash_base.specs.Counts.{Rises}
+use Rattle.flash_shelf.specs.History.{ShelfHistory, SinkHistory}
 use Rattle.flash_shelf.specs.Outside.{CameFrom}
 use Rattle.flash_shelf.specs.declared.shelf.ShelfFault.{ShelfFault}
 use Rattle.flash_shelf.specs.declared.shelf.ShelfFault.TheVariants as why_not
 use Rattle.plan_build.specs.Building.{built, built_by}
 use Rattle.plan_build.specs.Fetched.{came, period}
-use Rattle.plan_build.specs.Laws.{IsOne}
+use Rattle.plan_build.specs.Laws.{FilesGiveOneAnswer, IsOne}
 use Rattle.plan_build.specs.Whole.{IfShelf, IsOutside}
 use Rattle.plan_build.specs.declared.built.Built.{Built}
 use Rattle.plan_build.specs.declared.fault.BuildFault.{BuildFault}
 use Rattle.plan_build.specs.declared.fault.BuildFault.TheVariants as fault
 use Rattle.plan_commands.specs.Answering.{answered, image_of, number_of, refused, shown_for}
-use Rattle.plan_commands.specs.Serving.{unwritten, IsPlainStatus, IsPrinted, IsServed, IsStarved}
-use Rattle.plan_commands.specs.Words.{order_of}
+use Rattle.plan_commands.specs.Serving.{unwritten, usage, HasCause, IsPlainStatus, IsPrinted, IsServed, IsStarved, PrintsAnswer, Serves, ServesWords}
+use Rattle.plan_commands.specs.Words.{command_of, order_of}
 use Rattle.plan_commands.specs.declared.answering.Answer.{Answer}
 use Rattle.plan_commands.specs.declared.status.Status.{Status}
 use Rattle.plan_commands.specs.declared.status.Status.TheVariants.{Done, Usage, Input, Units, Shelf, Journal, Disk, Sink, NoMemory}
@@ -89,6 +90,13 @@ not_sink r s (input e) u = cc
 not_sink r s (shelf name why is e) u = cc
 not_sink r s (memory is e) u = cc
 
+-- a fault of the shelf is not NoMemory
+pub outside_of : (P : List ℕ → ShelfFault → Type 0) (name : List ℕ) (why : ShelfFault) → IsOutside P name why → (¬ (why ≡ why_not.NoMemory)) × P name why
+outside_of P name why_not.Missing h = (λ e. cc, h)
+outside_of P name why_not.TooLarge h = (λ e. cc, h)
+outside_of P name why_not.Failed h = (λ e. cc, h)
+outside_of P name why_not.NoMemory h = absurd h
+
 pub printed_by : (kt : Bool) (before after : List ℕ) (ko kn : ℕ) (a b : Answer) (status : Status) → a ≡ b → IsPrinted kt before after ko kn a status → IsPrinted kt before after ko kn b status
 printed_by kt before after ko kn a b status e p = subst (λ (x : Answer). IsPrinted kt before after ko kn x status) e p
 
@@ -121,7 +129,7 @@ served_for tells files old new kt before after ko kn status x c w e f s =
 
 module _ (tells : Bool) (files : List (List ℕ × List ℕ)) (old new : ℕ) (kt : Bool) (before after : List ℕ) (ko kn : ℕ) (c : Command) (status : Status)
     (s : IsServed tells files old new kt before after ko kn c status) where
-  -- what was printed, where the status is none of want of memory
+  -- what was printed, where the status is not NoMemory
   printed : (status ≡ NoMemory → ⊥) → (s.gave ≡ Err fault.NoMemory → ⊥) × IsPrinted kt before after ko kn (answered c s.gave) status
   printed not_so = elim s.printed as (λ x. (s.gave ≡ Err fault.NoMemory → ⊥) × IsPrinted kt before after ko kn (answered c s.gave) status) [ inl w ↦ absurd (not_so w.0) | inr w ↦ w ]
 
@@ -146,13 +154,6 @@ module _ (tells : Bool) (files : List (List ℕ × List ℕ)) (old new : ℕ) (k
   shelf_of r (shelf name why is e) x = (name, why, is)
   shelf_of r (memory is e) x = absurd cc
 
-  -- a fault of the shelf is no want of memory
-  outside : (P : List ℕ → ShelfFault → Type 0) (name : List ℕ) (why : ShelfFault) → IsOutside P name why → (¬ (why ≡ why_not.NoMemory)) × P name why
-  outside P name why_not.Missing h = (λ e. cc, h)
-  outside P name why_not.TooLarge h = (λ e. cc, h)
-  outside P name why_not.Failed h = (λ e. cc, h)
-  outside P name why_not.NoMemory h = absurd h
-
   pub shelf_cause : status ≡ Shelf → (name : List ℕ) × (why : ShelfFault) × (¬ (why ≡ why_not.NoMemory)) × CameFrom tells files name old new (Err why)
       × IsPrinted kt before after ko kn (refused (fault.Shelf name why)) status
   shelf_cause is =
@@ -161,7 +162,7 @@ module _ (tells : Bool) (files : List (List ℕ × List ℕ)) (old new : ℕ) (k
       let f = shelf_of s.gave (leads c s.gave) x in
       let came_so = subst (λ (r : Result Built BuildFault). IfShelf r (λ name why. CameFrom tells files name old new (Err why))) f.2 s.outside in
       let said = subst (λ (r : Result Built BuildFault). IsPrinted kt before after ko kn (answered c r) status) f.2 p.1 in
-      let o = outside (λ (name : List ℕ) (why : ShelfFault). CameFrom tells files name old new (Err why)) f.0 f.1 came_so in
+      let o = outside_of (λ (name : List ℕ) (why : ShelfFault). CameFrom tells files name old new (Err why)) f.0 f.1 came_so in
       (f.0, f.1, o.0, o.1, said)
 
   pub sink_cause : status ≡ Sink → Rises ko kn
@@ -240,3 +241,66 @@ module _ (tells : Bool) (files : List (List ℕ × List ℕ)) (old new : ℕ) (k
       let p = printed (λ (e : status ≡ NoMemory). let never : ⊥ = cc in never) in
       let x : (answered c s.gave).status ≡ Usage = same_status Usage is (λ (e : Usage ≡ Sink). let never : ⊥ = cc in never) p.1 in
       not_usage s.gave (answered c s.gave).status (leads c s.gave) x
+
+-- ------ the three ends of a call that serves words by `check` and `image`
+module _ (tells : Bool) (s0 s1 : ShelfHistory) (kt : Bool) (k0 k1 : SinkHistory) (words : List (List ℕ)) where
+  -- a command was served
+  module _ (x : Command) (are : Some x ≡ command_of words) where
+    causes : (status : Status) → Serves tells s0 s1 kt k0 k1 x status → HasCause tells s0 s1 kt k0 k1 (command_of words) status
+    causes Done s = λ c e. done_cause tells s0.contents s0.faults s1.faults kt k0.written k1.written k0.faults k1.faults c Done
+        (served_for tells s0.contents s0.faults s1.faults kt k0.written k1.written k0.faults k1.faults Done x c (command_of words) are e s) refl
+    causes Usage s = absurd (is_served tells s0.contents s0.faults s1.faults kt k0.written k1.written k0.faults k1.faults x Usage s refl)
+    causes Input s = λ c e. input_cause tells s0.contents s0.faults s1.faults kt k0.written k1.written k0.faults k1.faults c Input
+        (served_for tells s0.contents s0.faults s1.faults kt k0.written k1.written k0.faults k1.faults Input x c (command_of words) are e s) refl
+    causes Units s = is_plain tells s0.contents s0.faults s1.faults kt k0.written k1.written k0.faults k1.faults x Units s
+    causes Shelf s = λ c e. shelf_cause tells s0.contents s0.faults s1.faults kt k0.written k1.written k0.faults k1.faults c Shelf
+        (served_for tells s0.contents s0.faults s1.faults kt k0.written k1.written k0.faults k1.faults Shelf x c (command_of words) are e s) refl
+    causes Journal s = is_plain tells s0.contents s0.faults s1.faults kt k0.written k1.written k0.faults k1.faults x Journal s
+    causes Disk s = is_plain tells s0.contents s0.faults s1.faults kt k0.written k1.written k0.faults k1.faults x Disk s
+    causes Sink s = sink_cause tells s0.contents s0.faults s1.faults kt k0.written k1.written k0.faults k1.faults x Sink s refl
+    causes NoMemory s = tt
+
+    never_none : command_of words ≡ None → ⊥
+    never_none none = cc
+
+    pub serves_command : FilesGiveOneAnswer → (status : Status) → Serves tells s0 s1 kt k0 k1 x status → ServesWords tells s0 s1 kt k0 k1 words status
+    serves_command one status s =
+        let of : (c : Command) → command_of words ≡ Some c → Serves tells s0 s1 kt k0 k1 c status = λ c e.
+        served_for tells s0.contents s0.faults s1.faults kt k0.written k1.written k0.faults k1.faults status x c (command_of words) are e s in
+        record {
+          not_in_form = λ none. absurd (never_none none);
+          served = of;
+          told = λ t none c r e is some.
+              told_answer tells s0.contents s0.faults s1.faults kt k0.written k1.written k0.faults k1.faults c status (of c e) t none r is some
+              (one s0.contents s0.contents (λ n. refl) (order_of c));
+          cause = causes status s;
+          complete = λ t k none no_sink c b e is there.
+              completes tells s0.contents s0.faults s1.faults kt k0.written k1.written k0.faults k1.faults c status (of c e) t k none no_sink b is there
+              (one s0.contents s0.contents (λ n. refl) (order_of c));
+        }
+
+  -- the words are no such command
+  serves_none : command_of words ≡ None → PrintsAnswer kt k0 k1 usage Usage → ServesWords tells s0 s1 kt k0 k1 words Usage
+  serves_none none printed =
+      let never : (c : Command) → command_of words ≡ Some c → ⊥ = λ c e. cc in
+      record {
+        not_in_form = λ e. (refl, printed);
+        served = λ c e. absurd (never c e);
+        told = λ t calm c r e is some. absurd (never c e);
+        cause = none;
+        complete = λ t k calm no_sink c b e is there. absurd (never c e);
+      }
+
+  pub serves_usage : (status : Status) → status ≡ Usage → command_of words ≡ None → PrintsAnswer kt k0 k1 usage status → ServesWords tells s0 s1 kt k0 k1 words status
+  serves_usage status is none printed =
+      subst (λ (x : Status). ServesWords tells s0 s1 kt k0 k1 words x) (sym is) (serves_none none (subst (λ (x : Status). PrintsAnswer kt k0 k1 usage x) is printed))
+
+-- there was no memory for the words
+pub serves_nothing : (tells : Bool) (s : ShelfHistory) (kt : Bool) (k : SinkHistory) (words : List (List ℕ)) → (command_of words ≡ None → ⊥) → ServesWords tells s s kt k k words NoMemory
+serves_nothing tells s kt k words some = record {
+  not_in_form = λ none. absurd (some none);
+  served = λ c e. starved tells s.contents s.faults s.faults kt k.written k.faults k.faults c;
+  told = λ t calm c r e is some_r. inl (refl, refl);
+  cause = tt;
+  complete = λ t k calm no_sink c b e is there. inl refl;
+}

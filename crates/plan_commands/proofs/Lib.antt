@@ -1,2 +1,4 @@
 pub mod Ends
+pub mod Journals
 pub mod Numbers
+pub mod StatusEnds

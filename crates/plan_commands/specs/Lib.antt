@@ -1,3 +1,4 @@
 pub mod Answering
+pub mod Looking
 pub mod Serving
 pub mod Words

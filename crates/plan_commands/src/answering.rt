@@ -27,7 +27,7 @@ fn status_of(fault: &BuildFault) -> Status
     }
 }
 
-/// What a refusal of the files answers; want of memory has no answer.
+/// What a refusal of the files answers; `NoMemory` has no answer.
 pub fn refused(alloc: Global, fault: &BuildFault) -> Result<Answer, NoMemory>
     ensures is { IfOk result (λ answer. answer ≡ refused fault.now) }
     ensures some { IfOk result (λ answer. ¬ (fault.now ≡ BuildFault.NoMemory)) }
@@ -54,7 +54,8 @@ fn number_of(plan: &Plan, task: &str) -> Option<u16>
 }
 
 fn image_of(alloc: Global, order: &str, task: &str, built: &Built) -> Result<Answer, NoMemory>
-    ensures { IfOk result (λ answer. answer ≡ image_of order.now task.now built.now (number_of task.now built.now.plan)) }
+    ensures { IfOk result (λ answer.
+        answer ≡ image_of order.now task.now built.now (number_of task.now built.now.plan)) }
 {
     match number_of(&built.plan, task) {
         None => Ok(Answer {
@@ -80,7 +81,7 @@ fn shown_for(alloc: Global, command: &Command, built: &Built) -> Result<Answer, 
     }
 }
 
-/// What a command answers to what its files gave; want of memory has no answer.
+/// What a command answers to what its files gave; `NoMemory` has no answer.
 pub fn answered(
     alloc: Global,
     command: &Command,

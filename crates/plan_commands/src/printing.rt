@@ -1,5 +1,5 @@
 ghost use Rattle.std.specs.Prelude.{◌≡◌, ◌≤◌};
-ghost use Rattle.plan_commands.specs.Serving.{unwritten, usage, IsPrinted};
+ghost use Rattle.plan_commands.specs.Serving.{unwritten, usage, PrintsAnswer};
 
 use crate::answering::Answer;
 use crate::status::Status;
@@ -17,8 +17,8 @@ fn unwritten(status: Status) -> Status
 
 /// Prints an answer, and tells how the command ended.
 pub fn print<K: Sink>(out: &mut K, answer: &Answer) -> Status
-    ensures never_falls { K.faults out.old ≤ K.faults out.new }
-    ensures printed { IsPrinted K.tells (K.written out.old) (K.written out.new) (K.faults out.old) (K.faults out.new) answer.now result }
+    ensures never_falls { (K.history out.old).faults ≤ (K.history out.new).faults }
+    ensures printed { PrintsAnswer K.tells (K.history out.old) (K.history out.new) answer.now result }
 {
     match out.write(answer.text.as_slice()) {
         Ok(()) => answer.status,
@@ -28,8 +28,8 @@ pub fn print<K: Sink>(out: &mut K, answer: &Answer) -> Status
 
 /// Prints the line of words that are not in the form.
 pub fn print_usage<K: Sink>(out: &mut K) -> Status
-    ensures never_falls { K.faults out.old ≤ K.faults out.new }
-    ensures printed { IsPrinted K.tells (K.written out.old) (K.written out.new) (K.faults out.old) (K.faults out.new) usage result }
+    ensures never_falls { (K.history out.old).faults ≤ (K.history out.new).faults }
+    ensures printed { PrintsAnswer K.tells (K.history out.old) (K.history out.new) usage result }
     ensures status { result ≡ Status.Usage }
 {
     let _ = out.write(b"usage\n");

@@ -1,14 +1,12 @@
-ghost use Rattle.std.specs.Prelude.{◌≡◌, None, Ok, IfOk, map, string_bytes};
-ghost use Rattle.std.specs.List.{list_all};
-ghost use Rattle.flash_order.specs.Fields.{is_task_name};
-ghost use Rattle.flash_plan.specs.Plan.{is_name_byte};
-ghost use Rattle.plan_commands.specs.Words.{check_in, command_of, image_in, order_of};
+ghost use Rattle.std.specs.Prelude.{◌≡◌, None, Ok, IfOk, map, option_map, string_bytes};
+ghost use Rattle.flash_words.specs.Words.{owned};
+ghost use Rattle.plan_commands.specs.Words.{by_files, command_of, looked_at, order_of, status_order};
 
 use flash_base::{NoMemory, Text};
+use flash_words::{CommandRef, read_ref};
 use std::alloc::Global;
-use text_forms::is_file_name;
 
-/// A command that builds a plan.
+/// A command that builds a plan, and that the files alone answer.
 #[derive(Debug, Drop)]
 pub enum Command {
     /// `check ORDER`: shows the plan that an order file gives.
@@ -29,73 +27,66 @@ impl Command {
     }
 }
 
-fn is_name_byte(b: u8) -> bool
-    ensures { result ≡ is_name_byte b }
+/// The command, if it is one that the files alone answer.
+fn by_files(alloc: Global, said: Option<CommandRef<'_>>) -> Result<Option<Command>, NoMemory>
+    ensures is { IfOk result (λ command. command ≡ by_files (option_map owned said.entry)) }
+    ensures none { by_files (option_map owned said.entry) ≡ None → result ≡ Ok None }
 {
-    b.is_ascii_alphanumeric() || b == b'_'
-}
-
-fn are_name_bytes(bytes: &[u8]) -> bool
-    ensures { result ≡ list_all is_name_byte bytes.now }
-{
-    bytes.iter().all(|b| is_name_byte(*b))
-}
-
-/// Whether a text is the name of a task: 1 to 32 letters, digits and `_` of ASCII.
-fn is_task_name(text: &str) -> bool
-    ensures { result ≡ is_task_name text.now }
-{
-    if text.is_empty() {
-        return false;
-    }
-    if text.len() > 32 {
-        return false;
-    }
-    are_name_bytes(text.as_bytes())
-}
-
-fn check_in(alloc: Global, word: &str, order: &str) -> Result<Option<Command>, NoMemory>
-    ensures is { IfOk result (λ command. command ≡ check_in word.now order.now) }
-    ensures none { check_in word.now order.now ≡ None → result ≡ Ok None }
-{
-    if word == "check" && is_file_name(order) {
-        let order = Text::from_str(alloc, order)?;
-        Ok(Some(Command::Check { order }))
-    } else {
-        Ok(None)
+    match said {
+        Some(CommandRef::Check { order }) => {
+            let order = Text::from_str(alloc, order)?;
+            Ok(Some(Command::Check { order }))
+        }
+        Some(CommandRef::Image { order, task }) => {
+            let order = Text::from_str(alloc, order)?;
+            let task = Text::from_str(alloc, task)?;
+            Ok(Some(Command::Image { order, task }))
+        }
+        Some(CommandRef::Status { order: _ }) => Ok(None),
+        Some(
+            CommandRef::Run {
+                order: _,
+                workers: _,
+            },
+        ) => Ok(None),
+        Some(CommandRef::Drill { n: _ }) => Ok(None),
+        None => Ok(None),
     }
 }
 
-fn image_in(alloc: Global, word: &str, order: &str, task: &str) -> Result<Option<Command>, NoMemory>
-    ensures is { IfOk result (λ command. command ≡ image_in word.now order.now task.now) }
-    ensures none { image_in word.now order.now task.now ≡ None → result ≡ Ok None }
-{
-    if word == "image" && is_file_name(order) && is_task_name(task) {
-        let order = Text::from_str(alloc, order)?;
-        let task = Text::from_str(alloc, task)?;
-        Ok(Some(Command::Image { order, task }))
-    } else {
-        Ok(None)
-    }
-}
-
-/// The command that the words behind the program's name are; None just where they are not in the
-/// form `check ORDER` or `image ORDER TASK`, with the name of a file and the name of a task. What
-/// is not in the form takes no memory.
+/// The command that the words after the program's name are; None just where they are neither
+/// `check ORDER` nor `image ORDER TASK`, with the name of a file and the name of a task. What is
+/// neither takes no memory.
 pub fn read(alloc: Global, words: &[String]) -> Result<Option<Command>, NoMemory>
     ensures is { IfOk result (λ command. command ≡ command_of (map string_bytes words.now)) }
     ensures none { command_of (map string_bytes words.now) ≡ None → result ≡ Ok None }
 {
-    if words.len() == 2 {
-        return check_in(alloc, words[0].as_str(), words[1].as_str());
+    by_files(alloc, read_ref(words))
+}
+
+/// The order file, if the command is a look at the journal.
+fn looked_at(said: Option<CommandRef<'_>>) -> Option<&str>
+    ensures { option_map (λ t. t.now) result ≡ looked_at (option_map owned said.entry) }
+{
+    match said {
+        Some(CommandRef::Status { order }) => Some(order),
+        Some(CommandRef::Check { order: _ }) => None,
+        Some(CommandRef::Image { order: _, task: _ }) => None,
+        Some(
+            CommandRef::Run {
+                order: _,
+                workers: _,
+            },
+        ) => None,
+        Some(CommandRef::Drill { n: _ }) => None,
+        None => None,
     }
-    if words.len() == 3 {
-        return image_in(
-            alloc,
-            words[0].as_str(),
-            words[1].as_str(),
-            words[2].as_str(),
-        );
-    }
-    Ok(None)
+}
+
+/// The order file that the words after the program's name name: `status ORDER`; None for all
+/// other words.
+pub fn status_order(words: &[String]) -> Option<&str>
+    ensures { option_map (λ t. t.now) result ≡ status_order (map string_bytes words.now) }
+{
+    looked_at(read_ref(words))
 }

@@ -31,7 +31,8 @@ checksum_line task c = codes "checksum " ++ task ++ codes " " ++ shown c.name ++
 -- the line of a unit: how many segments and bytes it has, and which units come before it
 abbrev pub planned_line : List UnitPlan → UnitPlan → List ℕ
 planned_line P u =
-    codes "unit " ++ u.name ++ codes " " ++ four u.address ++ codes " segments " ++ decimal (length u.segments) ++ codes " bytes " ++ decimal (size_of u.segments)
+    codes "unit " ++ u.name ++ codes " " ++ four u.address ++ codes " segments "
+    ++ decimal (length u.segments) ++ codes " bytes " ++ decimal (size_of u.segments)
     ++ codes " after " ++ after_text P u.after ++ codes "\n"
 
 -- the checksums of the task with a number, whose name is given
@@ -49,5 +50,7 @@ planned_parts P ts (suc n) = planned_parts P ts n ++ planned_part P ts n
 
 abbrev pub check_text : Built → List ℕ
 check_text b =
-    codes "plan " ++ encode_lower (plan_digest b.plan) ++ codes "\n" ++ planned_parts b.plan b.checks (count_of b.plan)
-    ++ codes "units " ++ decimal (count_of b.plan) ++ codes " bytes " ++ decimal (total_of b.plan) ++ codes "\n"
+    codes "plan " ++ encode_lower (plan_digest b.plan) ++ codes "\n"
+    ++ planned_parts b.plan b.checks (count_of b.plan)
+    ++ codes "units " ++ decimal (count_of b.plan) ++ codes " bytes " ++ decimal (total_of b.plan)
+    ++ codes "\n"

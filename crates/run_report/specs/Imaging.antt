@@ -13,7 +13,8 @@ use Rattle.run_report.specs.Forms.{ten, shown}
 -- number, target address, size and digest of a segment
 abbrev pub segment_line : ℕ → Segment → List ℕ
 segment_line i s =
-    codes "segment " ++ decimal i ++ codes " " ++ ten s.at ++ codes " " ++ decimal (length s.body) ++ codes " " ++ encode_lower (sha256 s.body) ++ codes "\n"
+    codes "segment " ++ decimal i ++ codes " " ++ ten s.at ++ codes " " ++ decimal (length s.body)
+    ++ codes " " ++ encode_lower (sha256 s.body) ++ codes "\n"
 
 -- the lines of segments, of which the first has number i
 abbrev pub segment_lines : ℕ → List Segment → List ℕ

@@ -43,11 +43,13 @@ cause_text (Compressed id) = codes "compressed " ++ shown id
 cause_text (UserDefined id) = codes "user defined " ++ shown id
 cause_text (BadText id) = codes "bad text " ++ shown id
 cause_text (NoSegment id) = codes "no segment " ++ shown id
-cause_text (BinarySize id said seen) = codes "binary size " ++ shown id ++ codes " " ++ decimal said ++ codes " " ++ decimal seen
+cause_text (BinarySize id said seen) = codes "binary size " ++ shown id ++ codes " " ++ decimal said
+    ++ codes " " ++ decimal seen
 cause_text (Hole segment at) = codes "hole " ++ decimal segment ++ codes " " ++ ten at
 cause_text (OutOfRange segment) = codes "out of range " ++ decimal segment
 cause_text (Overlap at) = codes "overlap " ++ ten at
-cause_text (ChecksumDiffers name said got) = codes "checksum differs " ++ shown name ++ codes " " ++ encode_lower said ++ codes " " ++ encode_lower got
+cause_text (ChecksumDiffers name said got) = codes "checksum differs " ++ shown name ++ codes " "
+    ++ encode_lower said ++ codes " " ++ encode_lower got
 cause_text (TooMany what) = codes "too many " ++ what_text what
 cause_text (SameName name) = codes "same name " ++ name
 cause_text (SameUnit address) = codes "same unit " ++ four address

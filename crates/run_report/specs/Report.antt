@@ -20,7 +20,8 @@ outcome_text P Complete = codes "complete"
 outcome_text P (IdentMismatch did) = codes "ident mismatch " ++ four did
 outcome_text P (Refused sid nrc) = codes "refused " ++ two sid ++ codes " " ++ two nrc
 outcome_text P (BadAnswer sid) = codes "bad answer " ++ two sid
-outcome_text P (CheckFailed routine segment status) = codes "check failed " ++ four routine ++ codes " " ++ decimal segment ++ codes " " ++ two status
+outcome_text P (CheckFailed routine segment status) = codes "check failed " ++ four routine ++ codes " "
+    ++ decimal segment ++ codes " " ++ two status
 outcome_text P (Undelivered code) = codes "undelivered " ++ two code
 outcome_text P (NoAnswer sid) = codes "no answer " ++ two sid
 outcome_text P (PendingLimit sid) = codes "pending limit " ++ two sid
@@ -32,7 +33,8 @@ outcome_text P DiskFault = codes "disk fault"
 outcome_text P NoMemory = codes "no memory"
 
 abbrev pub unit_line : List UnitPlan → UnitPlan → Outcome → List ℕ
-unit_line P u o = codes "unit " ++ u.name ++ codes " " ++ four u.address ++ codes " " ++ outcome_text P o ++ codes "\n"
+unit_line P u o = codes "unit " ++ u.name ++ codes " " ++ four u.address ++ codes " " ++ outcome_text P o
+    ++ codes "\n"
 
 -- the lines of units with their outcomes
 abbrev pub lines : List UnitPlan → List UnitPlan → List Outcome → List ℕ
@@ -47,4 +49,5 @@ is_complete o = false
 abbrev pub report_text : List UnitPlan → List Outcome → List ℕ
 report_text P os =
     codes "plan " ++ encode_lower (plan_digest P) ++ codes "\n" ++ lines P P os
-    ++ codes "complete " ++ decimal (count_by is_complete os) ++ codes " of " ++ decimal (length P) ++ codes "\n"
+    ++ codes "complete " ++ decimal (count_by is_complete os) ++ codes " of " ++ decimal (length P)
+    ++ codes "\n"

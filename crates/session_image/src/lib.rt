@@ -16,6 +16,3 @@ mod types;
 pub use files::files_of;
 pub use imaging::image;
 pub use types::{Checked, Image, ImageFault};
-
-#[cfg(test)]
-mod tests;

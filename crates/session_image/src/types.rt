@@ -6,6 +6,7 @@ use rec_text::RecFault;
 /// What a session gives: the segments to be programmed, in order, at their target addresses.
 #[derive(Debug, Drop)]
 pub struct Image {
+    /// Each with its bytes and its target address; no two share an address.
     pub segments: Items<Segment>,
     /// One for each checksum of the session, in order.
     pub checks: Items<Checked>,

@@ -1,6 +1,7 @@
 ghost use Rattle.std.specs.Prelude.{◌≡◌, ◌↔◌, ◌+◌, ◌≤◌, ◌<◌, ◌^◌, Bool, ℕ, length, IsTrue, IsOk, IfOk, OnOk, slice_range};
 ghost use Rattle.disk_model.specs.Disk.{IsCrashImage};
 ghost use Rattle.flash_base.specs.Counts.{Rises};
+ghost use Rattle.shop_model.specs.Stepping.{StepsUnits};
 ghost use Rattle.shop_model.specs.History.{History, LAST, disk_now, vehicle_now, DiskCall, LinkCall, Len, ReadAt, WriteAt, Sync, Send, Receive, Redial, Sent, Received, Redialed, IsPiece, WroteOrMissed, SyncedOrNot};
 
 use disk_model::DeviceFault;
@@ -90,4 +91,9 @@ pub trait Shop {
 
     /// What a read gives is one of the images that a crash may leave.
     ghost readable: { (s : Self) (m : ℕ) → IsCrashImage ((history s).disk_at m) ((history s).disk_at m).bytes };
+
+    /// Where the vehicle is told, each unit is at the next moment, its counts of troubles aside, that unit after some
+    /// list of unit steps, and no unit comes or goes.
+    ghost stepped: { (s : Self) (m : ℕ) → IsTrue tells_vehicle → m < (history s).moment
+        → ∥ StepsUnits ((history s).vehicle_at m) ((history s).vehicle_at (m + 1)) ∥₁ };
 }

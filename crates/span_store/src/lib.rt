@@ -13,6 +13,3 @@ pub use clash::Clash;
 pub use fault::PutFault;
 pub use spans::{Spans, TOP};
 pub use walk::{Walk, walking_law};
-
-#[cfg(test)]
-mod tests;

@@ -8,7 +8,7 @@ ghost use Rattle.rec_text.specs.Putting.{putting, Does};
 ghost use Rattle.rec_text.specs.declared.fault.RecFault.{RecFault};
 
 use crate::line::{address_width, number, record};
-use rec_text::{Filling, RecFault, SPELLED, first_line};
+use rec_text::{Filling, LineReader, RecFault, SPELLED, read_lines};
 use span_store::Spans;
 use std::alloc::Global;
 
@@ -82,6 +82,19 @@ fn next(
     apply(state, kind, &buffer[..size])
 }
 
+impl LineReader for State {
+    ghost use Rattle.std.specs.Prelude.{◌≤◌};
+    ghost use Rattle.srec_rec.specs.Reading as reading;
+
+    ghost step = { λ s n line. reading.step s n line };
+
+    ghost holds = { λ s n. s.count ≤ n };
+
+    fn line(&mut self, n: usize, line: &[u8], buffer: &mut [u8; SPELLED]) -> Result<(), RecFault> {
+        next(self, n, line, buffer)
+    }
+}
+
 /// The bytes of a text of S-records.
 ///
 /// Lines end with LF or CR LF; empty ones are skipped. The first line with a refusal decides.
@@ -94,15 +107,7 @@ pub fn read(alloc: Global, text: &[u8]) -> Result<Spans, RecFault>
         ended: false,
         spans: Filling::new(alloc),
     };
-    let mut buffer = [0u8; SPELLED];
-    let mut at = 0;
-    let mut n = 0;
-    while at < text.len() {
-        let (line, size) = first_line(&text[at..]);
-        n += 1;
-        next(&mut state, n, line, &mut buffer)?;
-        at += size;
-    }
+    read_lines(&mut state, text)?;
     if state.ended {
         state.spans.finish()
     } else {

@@ -1,4 +1,5 @@
 pub mod Bytes
 pub mod FileNames
 pub mod Numbers
+pub mod TaskNames
 pub mod Trim

@@ -2,7 +2,8 @@ ghost use Rattle.std.specs.Prelude.{◌≡◌};
 ghost use Rattle.std.specs.List.{list_all};
 ghost use Rattle.text_forms.specs.FileNames.{may_begin, may_follow, begins, file_name};
 
-fn begins_name(c: u8) -> bool
+/// Whether a byte may begin a name: a letter, a digit or `_` of ASCII.
+pub fn begins_name(c: u8) -> bool
     ensures { result ≡ may_begin c }
 {
     c.is_ascii_alphanumeric() || c == b'_'

@@ -68,6 +68,7 @@ impl ThinShop {
 }
 
 impl Shop for ThinShop {
+    ghost use Rattle.std.proofs.lemmas.Bool.{false≢true};
     ghost use Rattle.std.specs.Prelude.{◌≡◌, true, false};
     ghost use Rattle.mem_disk.specs.Laws.{readable_of};
     ghost use Rattle.thin_shop.specs.Shops.{history_of};
@@ -81,6 +82,8 @@ impl Shop for ThinShop {
     ghost bounded = { λ s. s.disk.few };
 
     ghost readable = { λ s m. readable_of s.disk m };
+
+    ghost stepped = { λ s m told lt. absurd (false≢true told) };
 
     fn len(&mut self) -> Result<u64, DeviceFault> {
         self.disk.len()

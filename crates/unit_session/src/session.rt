@@ -122,6 +122,21 @@ impl UnitSession {
         self.number
     }
 
+    /// Whether the answer to its last request is awaited.
+    pub fn is_awaiting(&self) -> bool
+        ensures { (u : UnitPlan) → result ≡ (talk_of u self.now).awaiting }
+    {
+        self.awaiting
+    }
+
+    /// How many responses pending have come since its last request was sent (ISO 14229-1, negative response
+    /// code 0x78).
+    pub fn pendings(&self) -> u8
+        ensures { (u : UnitPlan) → result ≡ (talk_of u self.now).pendings }
+    {
+        self.pendings
+    }
+
     /// Where it stands, by numbers.
     pub fn spot(&self) -> Spot
         ensures { (u : UnitPlan) → IsAcceptedUnit u → IsOf u self.now → IsSpotOf u (talk_of u self.now).place result }

@@ -1,4 +1,4 @@
-use Rattle.std.proofs.Common.{◌≡◌, ◌<◌, ◌≤◌, ◌^◌, ℕ, List, decimal, Ok, refl, sym, ◌∙◌, ap, rules, arith}
+use Rattle.std.proofs.Common.{◌≡◌, decimal, sym, rules, arith}
 use Rattle.flash_words.proofs.Spelt.{missed, number_back}
 use Rattle.flash_words.proofs.forms.number.Goals as goal
 

@@ -5,8 +5,8 @@ use Rattle.plan_build.proofs.fetching.fetch_all.Given as goal
 
 abbrev pub invariant-loop-i : goal.invariant-loop-i
 invariant-loop-i g l = record {
-  keeps : g.F.Shelf.contents l.shelf ≡ g.F.Shelf.contents l.fn.shelf;
-  never_falls : g.F.Shelf.faults l.fn.shelf ≤ g.F.Shelf.faults l.shelf;
-  read : (p : Period) → Lies p g.F.Shelf.tells (g.F.Shelf.contents l.fn.shelf) (g.F.Shelf.faults l.fn.shelf) (g.F.Shelf.faults l.shelf) → LeadsFiles (came p) l.names l.files (drop l.i l.names);
+  keeps : (g.F.Shelf.history l.shelf).contents ≡ (g.F.Shelf.history l.fn.shelf).contents;
+  never_falls : (g.F.Shelf.history l.fn.shelf).faults ≤ (g.F.Shelf.history l.shelf).faults;
+  read : (p : Period) → Lies p g.F.Shelf.tells (g.F.Shelf.history l.fn.shelf).contents (g.F.Shelf.history l.fn.shelf).faults (g.F.Shelf.history l.shelf).faults → LeadsFiles (came p) l.names l.files (drop l.i l.names);
   names : map (λ f. f.0) l.files ≡ take l.i l.names;
 }

@@ -1,4 +1,4 @@
-use Rattle.std.proofs.Common.{sym, ap, ◌∙◌}
+use Rattle.std.proofs.Common.{ap}
 use Rattle.flash_run.specs.Run.{RunState}
 use Rattle.flash_run.proofs.Taking.{word_is}
 use Rattle.flash_run.proofs.run.Run.has_word.Goals as goal

@@ -1,4 +1,4 @@
-use Rattle.std.proofs.Common.{sym, ap, subst, ◌∙◌}
+use Rattle.std.proofs.Common.{ap, ◌∙◌}
 use Rattle.flash_run.specs.Run.{RunState, core_of_run, seen_core, told_seen}
 use Rattle.bay_replay.specs.Replays.{core_by}
 use Rattle.flash_run.proofs.Taking.{losses_is}

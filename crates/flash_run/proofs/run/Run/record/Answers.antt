@@ -1,4 +1,4 @@
-use Rattle.std.proofs.Common.{◌≡◌, ℕ, ◌+◌, ◌-◌, ◌<◌, ◌≤◌, true, ◌∷◌, length, drop, take, sym, ap, subst, ◌∙◌}
+use Rattle.std.proofs.Common.{◌≡◌, ℕ, ◌+◌, ◌-◌, ◌<◌, ◌≤◌, ◌∷◌, drop, take, sym, ap, subst, ◌∙◌}
 use Rattle.bay_core.specs.Core.{core_after}
 use Rattle.bay_core.specs.declared.event.Event.{Event}
 use Rattle.flash_run.proofs.Looping.{IsNoting, rest_more, note_next, noted_next, one_less}

@@ -1,0 +1,55 @@
+//! Measures beside other programs, and what other programs are asked about.
+//!
+//! `bench` runs each part in a short form and prints what came of it, which is the same in every run. `bench PART WORD ..`
+//! runs one part:
+//!
+//! - `codecs` prints requests, answers and frames with their bytes;
+//! - `turn`, `deframe` and `replay` print their counts, and with the word `time` the times beside those of a peer;
+//! - `catalogue` and `records` have the words `time` and `make`, and read files (see there).
+#![tactic(auto)]
+
+mod catalogue;
+mod codecs;
+mod deframe;
+mod records;
+mod replay;
+mod turn;
+
+use std::{env, io};
+
+/// Each part without threads in its short form.
+fn all(rt: &HostRuntime) -> io::Result<()> {
+    codecs::run(rt)?;
+    deframe::run(rt, false)?;
+    replay::run(rt, false)?;
+    catalogue::read_small(rt)?;
+    records::read_small(rt)
+}
+
+/// One part without threads, with what follows it.
+fn part(rt: &HostRuntime, name: &str, word: &str, path: &str) -> io::Result<()> {
+    match name {
+        "codecs" => codecs::run(rt),
+        "deframe" => deframe::run(rt, word == "time"),
+        "replay" => replay::run(rt, word == "time"),
+        "catalogue" => catalogue::run(rt, word, path),
+        "records" => records::run(rt, word, path),
+        _ => println!(rt; "no part {name}"),
+    }
+}
+
+fn main(rt: HostRuntime) -> io::Result<()> {
+    let mut words = env::args(&rt)?.skip(1);
+    let Some(name) = words.next() else {
+        all(&rt)?;
+        return turn::run(&rt, false);
+    };
+    let word = words.next();
+    let path = words.next();
+    let word = word.as_ref().map_or("", |text| text.as_str());
+    let path = path.as_ref().map_or("", |text| text.as_str());
+    if name.as_str() == "turn" {
+        return turn::run(&rt, word == "time");
+    }
+    part(&rt, name.as_str(), word, path)
+}

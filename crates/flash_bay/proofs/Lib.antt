@@ -1,0 +1,11 @@
+pub mod Found
+pub mod Calls
+pub mod Commits
+pub mod Committed
+pub mod Completing
+pub mod Links
+pub mod Tends
+pub mod Closes
+pub mod Sends
+pub mod Collects
+pub mod Crossing

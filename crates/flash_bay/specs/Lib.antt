@@ -1,0 +1,9 @@
+pub mod Calls
+pub mod Closing
+pub mod Collecting
+pub mod Opened
+pub mod Receiving
+pub mod Recording
+pub mod Sending
+pub mod Starting
+pub mod State

@@ -1,4 +1,0 @@
-pub mod Laters
-pub mod Openings
-pub mod Recording
-pub mod Staying

@@ -1,0 +1,4 @@
+pub mod Bounds
+pub mod Inside
+pub mod Steps
+pub mod Wholes

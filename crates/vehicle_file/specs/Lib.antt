@@ -1,0 +1,5 @@
+pub mod Fields
+pub mod Files
+pub mod Keys
+pub mod Troubles
+pub mod Units
