@@ -1,0 +1,4 @@
+pub mod Hexes
+pub mod Images
+pub mod Json
+pub mod Lists
