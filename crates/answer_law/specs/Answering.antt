@@ -17,7 +17,8 @@ pub record IsBlockNumber (digits : ℕ) (number : List ℕ) : Type 0 where
 
 -- the answer to a download or an upload: its first byte, and the bytes of the number
 abbrev pub AnswersLoad : ℕ → List ℕ → List ℕ → Type 0
-AnswersLoad first bytes number = (digits : ℕ) × (rest : List ℕ) × (bytes ≡ first ∷ digits ∷ (number ++ rest)) × IsBlockNumber digits number
+AnswersLoad first bytes number = (digits : ℕ) × (rest : List ℕ) × (bytes ≡ first ∷ digits ∷ (number ++ rest))
+    × IsBlockNumber digits number
 
 -- The bytes answer the request positively, and this is what they say beyond the form.
 abbrev pub Answers : Request → List ℕ → List ℕ → Type 0
@@ -26,7 +27,8 @@ Answers Reset bytes more = bytes ≡ 81 ∷ 1 ∷ more
 Answers (ReadId did) bytes more = (hi : ℕ) × (lo : ℕ) × (bytes ≡ 98 ∷ hi ∷ lo ∷ more) × IsPair hi lo did
 Answers (Seed level) bytes more = (bytes ≡ 103 ∷ level ∷ more) × HasLength 1 32 more
 Answers (Key level key) bytes more = bytes ≡ 103 ∷ (level + 1) ∷ more
-Answers (Routine id option) bytes more = (hi : ℕ) × (lo : ℕ) × (bytes ≡ 113 ∷ 1 ∷ hi ∷ lo ∷ 0 ∷ more) × IsPair hi lo id
+Answers (Routine id option) bytes more = (hi : ℕ) × (lo : ℕ) × (bytes ≡ 113 ∷ 1 ∷ hi ∷ lo ∷ 0 ∷ more)
+    × IsPair hi lo id
 Answers (Download width at size) bytes more = AnswersLoad 116 bytes more
 Answers (Upload width at size) bytes more = AnswersLoad 117 bytes more
 Answers (Transfer counter body) bytes more = bytes ≡ 118 ∷ counter ∷ more
@@ -40,7 +42,8 @@ Answers (Messages false) bytes more = bytes ≡ 104 ∷ 0 ∷ more
 -- The bytes say that the routine ended with this status, which is not 0.
 abbrev pub EndsWith : Request → List ℕ → ℕ → Type 0
 EndsWith (Routine id option) bytes status =
-    (hi : ℕ) × (lo : ℕ) × (more : List ℕ) × (bytes ≡ 113 ∷ 1 ∷ hi ∷ lo ∷ status ∷ more) × IsPair hi lo id × (1 ≤ status)
+    (hi : ℕ) × (lo : ℕ) × (more : List ℕ) × (bytes ≡ 113 ∷ 1 ∷ hi ∷ lo ∷ status ∷ more) × IsPair hi lo id
+    × (1 ≤ status)
 EndsWith (Session kind) bytes status = ⊥
 EndsWith Reset bytes status = ⊥
 EndsWith (ReadId did) bytes status = ⊥
@@ -60,13 +63,19 @@ Refuses request bytes code = bytes ≡ 127 ∷ sid_of request ∷ code ∷ []
 
 -- Each verdict stands exactly where the answer is as it says.
 pub record IsAnswered : Type 0 where
-  pub good : (r : Request) (request bytes more : List ℕ) → Spells r request → judge request bytes ≡ Accepted more → Answers r bytes more
-  pub answers : (r : Request) (request bytes more : List ℕ) → Spells r request → Answers r bytes more → judge request bytes ≡ Accepted more
-  pub status : (r : Request) (request bytes : List ℕ) (status : ℕ) → Spells r request → judge request bytes ≡ BadStatus status → EndsWith r bytes status
-  pub ends : (r : Request) (request bytes : List ℕ) (status : ℕ) → Spells r request → EndsWith r bytes status → judge request bytes ≡ BadStatus status
+  pub good : (r : Request) (request bytes more : List ℕ) → Spells r request
+      → judge request bytes ≡ Accepted more → Answers r bytes more
+  pub answers : (r : Request) (request bytes more : List ℕ) → Spells r request → Answers r bytes more
+      → judge request bytes ≡ Accepted more
+  pub status : (r : Request) (request bytes : List ℕ) (status : ℕ) → Spells r request
+      → judge request bytes ≡ BadStatus status → EndsWith r bytes status
+  pub ends : (r : Request) (request bytes : List ℕ) (status : ℕ) → Spells r request → EndsWith r bytes status
+      → judge request bytes ≡ BadStatus status
   pub later : (request bytes : List ℕ) → judge request bytes ≡ Pending → Refuses request bytes 120
   pub again : (request bytes : List ℕ) → judge request bytes ≡ Busy → Refuses request bytes 33
-  pub refusal : (request bytes : List ℕ) (code : ℕ) → judge request bytes ≡ Refusal code → Refuses request bytes code
+  pub refusal : (request bytes : List ℕ) (code : ℕ) → judge request bytes ≡ Refusal code
+      → Refuses request bytes code
   pub waits : (request bytes : List ℕ) → Refuses request bytes 120 → judge request bytes ≡ Pending
   pub busy : (request bytes : List ℕ) → Refuses request bytes 33 → judge request bytes ≡ Busy
-  pub refused : (request bytes : List ℕ) (code : ℕ) → (code ≡ 120 → ⊥) → (code ≡ 33 → ⊥) → Refuses request bytes code → judge request bytes ≡ Refusal code
+  pub refused : (request bytes : List ℕ) (code : ℕ) → (code ≡ 120 → ⊥) → (code ≡ 33 → ⊥)
+      → Refuses request bytes code → judge request bytes ≡ Refusal code

@@ -78,7 +78,12 @@ HasClaimed old claimed.Nothing new = IsNone old new
 
 -- at the start: complete is what is recorded so
 abbrev pub new_post : List ℕ → Bool → Post
-new_post after done = record { after = after; claimed = false; outcome = if done then Some Complete else None }
+new_post after done = record {
+  after = after;
+  claimed = false;
+  outcome = if done then Some Complete
+      else None;
+}
 
 abbrev pub post_start : List UnitPlan → List Entry → ℕ → Post
 post_start P found n = new_post (plan_of P n).after (has_entry found (entry.Complete n))

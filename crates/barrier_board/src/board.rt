@@ -60,7 +60,8 @@ fn post(alloc: Global, unit: &UnitPlan, done: bool) -> Result<Post, NoMemory>
 
 /// The lowest unit that may be taken up.
 fn first_free(posts: &[Post]) -> Option<usize>
-    ensures { MatchOption result (each_below (length posts.now) (λ w. not (is_free_at posts.now w)) ≡ true) (IsFirstFree posts.now) }
+    ensures { MatchOption result (each_below (length posts.now) (λ w. not (is_free_at posts.now w)) ≡ true)
+        (IsFirstFree posts.now) }
 {
     for i in 0..posts.len() {
         if free(posts, &posts[i]) {

@@ -95,11 +95,21 @@ abbrev pub no_halt : Halt
 no_halt = record { stop = None; failed = false }
 
 abbrev pub core_start : List UnitPlan → (Entry → Bool) → Core
-core_start P found = record { link = link_start; slots = slot_start P found; recorded = found; doubted = λ e. false; halt = no_halt; before = no_halt }
+core_start P found = record {
+  link = link_start;
+  slots = slot_start P found;
+  recorded = found;
+  doubted = λ e. false;
+  halt = no_halt;
+  before = no_halt;
+}
 
 -- the event's own unit
 abbrev pub slot_claimed : List UnitPlan → Core → ℕ → Slot
-slot_claimed P c u = record (c.slots u) { claimed = true; talk = talk_start (plan_of P u) (c.recorded (Begun u)) (marks_of c.recorded u) }
+slot_claimed P c u = record (c.slots u) {
+  claimed = true;
+  talk = talk_start (plan_of P u) (c.recorded (Begun u)) (marks_of c.recorded u);
+}
 
 abbrev pub with_talk : (Talk → Talk) → Slot → Slot
 with_talk f s = record s { talk = f s.talk }
@@ -107,23 +117,29 @@ with_talk f s = record s { talk = f s.talk }
 abbrev pub collects : List UnitPlan → LinkRules → ℕ → Heard → Link → Talk → Talk
 collects P rules u Kept l t = talk_takes (plan_of P u) l.ticks (first_message (plan_of P u).address l.inbox) t
 collects P rules u Quiet l t = talk_quiet (plan_of P u) (l.ticks + 1) t
-collects P rules u (Piece bytes) l t = talk_takes (plan_of P u) l.ticks (first_message (plan_of P u).address (heard_link rules P (Piece bytes) l).inbox) t
+collects P rules u (Piece bytes) l t =
+    talk_takes (plan_of P u) l.ticks (first_message (plan_of P u).address
+    (heard_link rules P (Piece bytes) l).inbox) t
 collects P rules u Lost l t = t
 
 -- before a loss is looked at
 abbrev pub slots_own : LinkRules → List UnitPlan → Event → Core → ℕ → Slot
 slots_own rules P (Claimed u) c = with_slot u (slot_claimed P c u) c.slots
-slots_own rules P (Began u) c = with_slot u (with_talk (λ t. talk_start (plan_of P u) true (marks_of c.recorded u)) (c.slots u)) c.slots
+slots_own rules P (Began u) c =
+    with_slot u (with_talk (λ t. talk_start (plan_of P u) true (marks_of c.recorded u)) (c.slots u)) c.slots
 slots_own rules P (Sent u place lost) c = with_slot u (with_talk (talk_sent c.link.ticks) (c.slots u)) c.slots
-slots_own rules P (Collected u heard) c = with_slot u (with_talk (collects P rules u heard c.link) (c.slots u)) c.slots
+slots_own rules P (Collected u heard) c =
+    with_slot u (with_talk (collects P rules u heard c.link) (c.slots u)) c.slots
 slots_own rules P (Tended step) c = c.slots
 slots_own rules P (Marked u s) c = with_slot u (with_talk (talk_marked s) (c.slots u)) c.slots
-slots_own rules P (Completed u) c = with_slot u (record (c.slots u) { outcome = Some outcome.Complete }) c.slots
+slots_own rules P (Completed u) c =
+    with_slot u (record (c.slots u) { outcome = Some outcome.Complete }) c.slots
 slots_own rules P (DiskFailed u entry) c = with_slot u (record (c.slots u) { faulted = true }) c.slots
 slots_own rules P (Ended u why) c = with_slot u (record (c.slots u) { outcome = Some why }) c.slots
 
 abbrev pub slots_lost : List UnitPlan → (Entry → Bool) → Bool → (ℕ → Slot) → ℕ → Slot
-slots_lost P records lost slots n = if lost then with_talk (talk_lost (plan_of P n) (records (Begun n))) (slots n) else slots n
+slots_lost P records lost slots n =
+    if lost then with_talk (talk_lost (plan_of P n) (records (Begun n))) (slots n) else slots n
 
 abbrev pub recorded_after : Event → (Entry → Bool) → Entry → Bool
 recorded_after (Claimed u) records = records
@@ -164,7 +180,8 @@ halt_after h e rules l = record { stop = stop_after h.stop e rules l; failed = i
 abbrev pub core_after : LinkRules → List UnitPlan → Event → Core → Core
 core_after rules P e c = record {
   link = link_after rules P e c.link;
-  slots = slots_lost P (recorded_after e c.recorded) (nat_lt c.link.losses (link_after rules P e c.link).losses) (slots_own rules P e c);
+  slots = slots_lost P (recorded_after e c.recorded)
+      (nat_lt c.link.losses (link_after rules P e c.link).losses) (slots_own rules P e c);
   recorded = recorded_after e c.recorded;
   doubted = doubted_after e c.doubted;
   halt = halt_after c.halt e rules (link_after rules P e c.link);

@@ -33,9 +33,11 @@ is_open_slot s = s.claimed && is_none s.outcome
 -- Nothing is on the way from a unit that was not claimed, nor from one that awaits nothing and whose conversation has not
 -- ended. The state agrees with the answers of this attempt. Of a unit whose answer is awaited, either the gateway's refusal to
 -- deliver is on the way, or responses pending and at last the answer of the very step that the unit made.
-pub record IsSlotJoint (plan : UnitPlan) (live : Bool) (s : Slot) (way : List UnitMessage) (o : Option ControlUnit) : Type 0 where
+pub record IsSlotJoint (plan : UnitPlan) (live : Bool) (s : Slot) (way : List UnitMessage)
+    (o : Option ControlUnit) : Type 0 where
   pub unclaimed : live ≡ true → s.claimed ≡ false → way ≡ []
-  pub rests : live ≡ true → s.claimed ≡ true → s.talk.awaiting ≡ false → is_ended s.talk.place ≡ false → way ≡ []
+  pub rests : live ≡ true → s.claimed ≡ true → s.talk.awaiting ≡ false → is_ended s.talk.place ≡ false
+      → way ≡ []
   pub state : is_open_slot s ≡ true → s.talk.awaiting ≡ false → StateIn plan s.talk.place o
   pub awaits : live ≡ true → is_open_slot s ≡ true → s.talk.awaiting ≡ true → AwaitsIn plan s.talk.place way o
 
@@ -56,9 +58,11 @@ HoldsAtMost tester a sid g = (held_of a g.held ≡ []) ⊎ IsLoneHeld tester a s
 -- One unit with the link and the vehicle: besides, its queued frames come in the order in which they were queued, and while
 -- its answer is awaited, a held answer is the only thing that it has still to say; `order` and `held` only make the rest inductive.
 pub record IsUnitJoint (tester : ℕ) (plan : UnitPlan) (l : Link) (s : Slot) (v : Vehicle) : Type 0 where
-  pub slot : IsSlotJoint plan (is_live l.phase) s (on_way tester plan.address l.inbox l.rest v.gateway) (unit_at v.units plan.address)
+  pub slot : IsSlotJoint plan (is_live l.phase) s (on_way tester plan.address l.inbox l.rest v.gateway)
+      (unit_at v.units plan.address)
   pub order : is_live l.phase ≡ true → ascends_for tester plan.address v.gateway.tick v.gateway.later ≡ true
-  pub held : is_live l.phase ≡ true → is_open_slot s ≡ true → s.talk.awaiting ≡ true → HoldsAtMost tester plan.address (sid_of (bytes_at plan s.talk.place)) v.gateway
+  pub held : is_live l.phase ≡ true → is_open_slot s ≡ true → s.talk.awaiting ≡ true
+      → HoldsAtMost tester plan.address (sid_of (bytes_at plan s.talk.place)) v.gateway
 
 -- ------ what the events alone keep: it follows from their being legal
 -- the conversation stands at a place of the plan's script, awaits only where a request was due, is behind Begin only where Begun
@@ -80,7 +84,8 @@ pub record IsSlot (plan : UnitPlan) (recorded : Entry → Bool) (n : ℕ) (s : S
 pub record IsSane (P : List UnitPlan) (c : Core) : Type 0 where
   pub slots : (n : ℕ) → n < count_of P → IsSlot (plan_of P n) c.recorded n (c.slots n)
   pub sure : c.halt.stop ≡ None → (e : Entry) → c.doubted e ≡ false
-  pub down : is_up c.link.phase ≡ false → (n : ℕ) → n < count_of P → is_open_slot (c.slots n) ≡ true → (c.slots n).talk.awaiting ≡ false
+  pub down : is_up c.link.phase ≡ false → (n : ℕ) → n < count_of P → is_open_slot (c.slots n) ≡ true
+      → (c.slots n).talk.awaiting ≡ false
 
 -- ------ the first part
 -- recorded in this run, by an event
@@ -96,13 +101,16 @@ pub record IsDone (plan : UnitPlan) (found : ℕ → Bool) (u : ControlUnit) : T
 -- Link and gateway speak of the same connection; each unit's state and what is on the way from it fit its conversation; the
 -- vehicle's tick is that of the opening and the link's; what was marked in this run is in its unit; and a unit that was completed
 -- in this run is done. Nothing here speaks of the disk, and of what was found only to leave it out.
-pub record IsVehicleJoint (rules : LinkRules) (P : List UnitPlan) (found : Entry → Bool) (c : Core) (v : Vehicle) (t0 : ℕ) : Type 0 where
+pub record IsVehicleJoint (rules : LinkRules) (P : List UnitPlan) (found : Entry → Bool) (c : Core)
+    (v : Vehicle) (t0 : ℕ) : Type 0 where
   pub connected : IsTrue (is_live c.link.phase) → IsConnected rules.tester c.link v.gateway
   pub addressed : IsTrue (is_live c.link.phase) → IsAddressed rules.tester c.link v.gateway
   pub units : (n : ℕ) → n < count_of P → IsUnitJoint rules.tester (plan_of P n) c.link (c.slots n) v
   pub ticks : v.gateway.tick ≡ t0 + c.link.ticks
-  pub marked : (n s : ℕ) → n < count_of P → s < length (plan_of P n).segments → IsNew found c (Marked n s) → VehicleHas (plan_of P n) (segment_of (plan_of P n) s) v
-  pub completed : (n : ℕ) → n < count_of P → IsNew found c (Complete n) → MatchOption (unit_at v.units (plan_of P n).address) ⊥ (IsDone (plan_of P n) (marks_of found n))
+  pub marked : (n s : ℕ) → n < count_of P → s < length (plan_of P n).segments → IsNew found c (Marked n s)
+      → VehicleHas (plan_of P n) (segment_of (plan_of P n) s) v
+  pub completed : (n : ℕ) → n < count_of P → IsNew found c (Complete n)
+      → MatchOption (unit_at v.units (plan_of P n).address) ⊥ (IsDone (plan_of P n) (marks_of found n))
   -- of the events alone: what makes the rest inductive
   pub sane : IsSane P c
 
@@ -113,6 +121,7 @@ pub record IsRecordJoint (P : List UnitPlan) (c : Core) (R : Entry → Bool) (v 
   pub sound : IsSound P R v v0
 
 -- ------ both
-pub record IsJoint (rules : LinkRules) (P : List UnitPlan) (found : Entry → Bool) (c : Core) (R : Entry → Bool) (v v0 : Vehicle) (t0 : ℕ) : Type 0 where
+pub record IsJoint (rules : LinkRules) (P : List UnitPlan) (found : Entry → Bool) (c : Core)
+    (R : Entry → Bool) (v v0 : Vehicle) (t0 : ℕ) : Type 0 where
   pub vehicle : IsVehicleJoint rules P found c v t0
   pub records : IsRecordJoint P c R v v0

@@ -24,7 +24,8 @@ abbrev pub is_running : Core → Bool
 is_running c = is_none c.halt.stop
 
 abbrev pub is_ready : List UnitPlan → Core → ℕ → Bool
-is_ready P c u = nat_lt u (count_of P) && is_none (c.slots u).outcome && not (c.slots u).claimed && all_of (plan_of P u).after (λ w. c.recorded (entry.Complete w))
+is_ready P c u = nat_lt u (count_of P) && is_none (c.slots u).outcome && not (c.slots u).claimed
+    && all_of (plan_of P u).after (λ w. c.recorded (entry.Complete w))
 
 -- claimed and without outcome
 abbrev pub is_open_unit : List UnitPlan → Core → ℕ → Bool
@@ -51,7 +52,8 @@ abbrev pub may_claim : List UnitPlan → Core → ℕ → Bool
 may_claim P c u = is_running c && is_ready P c u && each_below u (λ w. not (is_ready P c w))
 
 abbrev pub may_begin : List UnitPlan → Core → ℕ → Bool
-may_begin P c u = is_open_unit P c u && not (c.recorded (entry.Begun u)) && is_begin (c.slots u).talk.place && is_clear c
+may_begin P c u =
+    is_open_unit P c u && not (c.recorded (entry.Begun u)) && is_begin (c.slots u).talk.place && is_clear c
 
 -- the unit's next request, which is not awaited yet
 abbrev pub may_send : List UnitPlan → Core → ℕ → ℕ → Bool
@@ -68,7 +70,8 @@ fits_inbox (Piece bytes) has = not has
 fits_inbox Lost has = not has
 
 abbrev pub may_collect : List UnitPlan → Core → ℕ → Heard → Bool
-may_collect P c u heard = is_open_unit P c u && (c.slots u).talk.awaiting && is_clear c && fits_inbox heard (has_message P c u)
+may_collect P c u heard =
+    is_open_unit P c u && (c.slots u).talk.awaiting && is_clear c && fits_inbox heard (has_message P c u)
 
 abbrev pub fits_link : Core → Tend → Bool
 fits_link c (Dialed lost) = is_down c.link.phase
@@ -115,7 +118,8 @@ is_memory outcome = false
 -- the first unit of `after` that is not complete, if it has an outcome
 abbrev pub is_blocker : Core → List ℕ → ℕ → Bool
 is_blocker c [] by = false
-is_blocker c (w ∷ ws) by = if c.recorded (entry.Complete w) then is_blocker c ws by else w == by && is_some (c.slots w).outcome
+is_blocker c (w ∷ ws) by =
+    if c.recorded (entry.Complete w) then is_blocker c ws by else w == by && is_some (c.slots w).outcome
 
 abbrev pub is_blocked : List UnitPlan → Core → ℕ → Outcome → Bool
 is_blocked P c u (Blocked by) = is_blocker c (plan_of P u).after by

@@ -32,7 +32,8 @@ refuses_header (Other kind payload ∷ fs) = refuses_header fs
 abbrev pub IsHeardLoss : Heard → Link → Type 0
 IsHeardLoss Kept l = ⊥
 IsHeardLoss Quiet l = unanswered (quiet_link l) ≡ true
-IsHeardLoss (Piece bytes) l = (is_some (stream_of (l.rest ++ bytes)).bad ≡ true) ⊎ (refuses_header (stream_of (l.rest ++ bytes)).frames ≡ true)
+IsHeardLoss (Piece bytes) l = (is_some (stream_of (l.rest ++ bytes)).bad ≡ true)
+    ⊎ (refuses_header (stream_of (l.rest ++ bytes)).frames ≡ true)
 IsHeardLoss Lost l = Unit {0}
 
 abbrev pub IsTendLoss : Tend → Link → Type 0
@@ -76,6 +77,10 @@ phase_for (Some code) = if code == 16 then phase.Up else phase.Refused code
 -- An event is at most one loss, and a loss is one of the four things. While the activation is awaited, the first answer
 -- decides, whatever addresses it has. Behind a denial nothing is looked at.
 pub record AreLinkLaws : Type 0 where
-  pub loss : (rules : LinkRules) (P : List UnitPlan) (e : Event) (l : Link) → LosesAtMostOne (IsLoss e l) l (link_after rules P e l)
-  pub first : (tester : ℕ) (units : List ℕ) (fs : List Frame) (l : Link) → l.phase ≡ phase.Asked → refuses_header fs ≡ false → (see_all tester units fs l).phase ≡ phase_for (first_code fs)
-  pub denied : (tester code : ℕ) (units : List ℕ) (fs gs : List Frame) (l : Link) → (see_all tester units fs l).phase ≡ phase.Refused code → see_all tester units (fs ++ gs) l ≡ see_all tester units fs l
+  pub loss : (rules : LinkRules) (P : List UnitPlan) (e : Event) (l : Link)
+      → LosesAtMostOne (IsLoss e l) l (link_after rules P e l)
+  pub first : (tester : ℕ) (units : List ℕ) (fs : List Frame) (l : Link) → l.phase ≡ phase.Asked
+      → refuses_header fs ≡ false → (see_all tester units fs l).phase ≡ phase_for (first_code fs)
+  pub denied : (tester code : ℕ) (units : List ℕ) (fs gs : List Frame) (l : Link)
+      → (see_all tester units fs l).phase ≡ phase.Refused code
+      → see_all tester units (fs ++ gs) l ≡ see_all tester units fs l

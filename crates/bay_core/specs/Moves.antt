@@ -38,7 +38,8 @@ Tends rules (Said lost) v v2 = FeedsOr lost (alive_say_bytes rules.tester) v v2
 Tends rules (Polled heard) v v2 = Receives heard v v2
 
 abbrev pub request_frame : LinkRules → List UnitPlan → Core → ℕ → List ℕ
-request_frame rules P c u = message_bytes rules.tester (plan_of P u).address (bytes_at (plan_of P u) (c.slots u).talk.place)
+request_frame rules P c u =
+    message_bytes rules.tester (plan_of P u).address (bytes_at (plan_of P u) (c.slots u).talk.place)
 
 -- what it does to the vehicle
 abbrev pub MovesVehicle : LinkRules → List UnitPlan → Core → Event → Vehicle → Vehicle → Type 0
@@ -64,6 +65,7 @@ MovesRecords (Completed u) R R2 = R2 ≡ with_entry (entry.Complete u) R
 MovesRecords (DiskFailed u entry) R R2 = (R2 ≡ R) ⊎ (R2 ≡ with_entry entry R)
 MovesRecords (Ended u outcome) R R2 = R2 ≡ R
 
-pub record Moves (rules : LinkRules) (P : List UnitPlan) (c : Core) (e : Event) (v v2 : Vehicle) (R R2 : Entry → Bool) : Type 0 where
+pub record Moves (rules : LinkRules) (P : List UnitPlan) (c : Core) (e : Event) (v v2 : Vehicle)
+    (R R2 : Entry → Bool) : Type 0 where
   pub vehicle : MovesVehicle rules P c e v v2
   pub records : MovesRecords e R R2

@@ -22,7 +22,16 @@ abbrev pub rules : LinkRules
 rules = record { tester = 3712; relinks = 1 }
 
 abbrev pub a_plan : ℕ → List Segment → UnitPlan
-a_plan address segments = record { name = 65 ∷ []; address = address; width = record { size = 4; at = 4 }; check = 514; key = Free; idents = []; after = []; segments = segments }
+a_plan address segments = record {
+  name = 65 ∷ [];
+  address = address;
+  width = record { size = 4; at = 4 };
+  check = 514;
+  key = Free;
+  idents = [];
+  after = [];
+  segments = segments;
+}
 
 abbrev pub one : List Segment
 one = record { at = 4096; body = 97 ∷ 98 ∷ 99 ∷ 100 ∷ [] } ∷ []
@@ -72,20 +81,24 @@ pub record AreGroupsWorked : Type 0 where
 
 -- ------ marks
 abbrev pub two : List UnitPlan
-two = a_plan 4097 (record { at = 4096; body = 97 ∷ 98 ∷ 99 ∷ 100 ∷ [] } ∷ record { at = 8192; body = 101 ∷ 102 ∷ 103 ∷ 104 ∷ [] } ∷ []) ∷ []
+two = a_plan 4097 (record { at = 4096; body = 97 ∷ 98 ∷ 99 ∷ 100 ∷ [] }
+    ∷ record { at = 8192; body = 101 ∷ 102 ∷ 103 ∷ 104 ∷ [] } ∷ []) ∷ []
 
 abbrev pub first_marked : Entry → Bool
 first_marked e = same_entry e (Begun 0) || same_entry e (entry.Marked 0 0)
 
 -- 03 FC 80 01 00 00 00 NN 10 01 0E 80 and the answer: request `place` is sent, and answered at once
 abbrev pub says : ℕ → ℕ → List ℕ → List Event
-says place length answer = Sent 0 place false ∷ Collected 0 (Piece (3 ∷ 252 ∷ 128 ∷ 1 ∷ 0 ∷ 0 ∷ 0 ∷ length ∷ 16 ∷ 1 ∷ 14 ∷ 128 ∷ answer)) ∷ []
+says place length answer = Sent 0 place false ∷ Collected 0
+    (Piece (3 ∷ 252 ∷ 128 ∷ 1 ∷ 0 ∷ 0 ∷ 0 ∷ length ∷ 16 ∷ 1 ∷ 14 ∷ 128 ∷ answer)) ∷ []
 
 -- 10 02, and the second segment up to its check
 abbrev pub to_mark : List Event
 to_mark =
-    Claimed 0 ∷ (opens ++ (says 0 10 (80 ∷ 2 ∷ 0 ∷ 50 ∷ 1 ∷ 244 ∷ []) ++ (says 1 9 (113 ∷ 1 ∷ 255 ∷ 0 ∷ 0 ∷ [])
-    ++ (says 2 7 (116 ∷ 16 ∷ 128 ∷ []) ++ (says 3 6 (118 ∷ 1 ∷ []) ++ (says 4 5 (119 ∷ []) ++ says 5 9 (113 ∷ 1 ∷ 2 ∷ 2 ∷ 0 ∷ [])))))))
+    Claimed 0 ∷ (opens ++ (says 0 10
+    (80 ∷ 2 ∷ 0 ∷ 50 ∷ 1 ∷ 244 ∷ []) ++ (says 1 9 (113 ∷ 1 ∷ 255 ∷ 0 ∷ 0 ∷ [])
+    ++ (says 2 7 (116 ∷ 16 ∷ 128 ∷ [])
+    ++ (says 3 6 (118 ∷ 1 ∷ []) ++ (says 4 5 (119 ∷ []) ++ says 5 9 (113 ∷ 1 ∷ 2 ∷ 2 ∷ 0 ∷ [])))))))
 
 -- 31 01 FF 01 and 11 01
 abbrev pub to_done : List Event
@@ -101,4 +114,5 @@ pub record AreMarksWorked : Type 0 where
   pub completes : legal_two (Marked 0 1 ∷ (to_done ++ (Completed 0 ∷ []))) ≡ true
   pub fails : legal_two (DiskFailed 0 (entry.Marked 0 1) ∷ Ended 0 DiskFault ∷ []) ≡ true
   pub fails_once : legal_two (DiskFailed 0 (entry.Marked 0 1) ∷ Marked 0 1 ∷ []) ≡ false
-  pub recorded : (core_of rules two (core_start two first_marked) (to_mark ++ (Marked 0 1 ∷ []))).recorded (entry.Marked 0 1) ≡ true
+  pub recorded : (core_of rules two (core_start two first_marked) (to_mark ++ (Marked 0 1 ∷ []))).recorded
+      (entry.Marked 0 1) ≡ true

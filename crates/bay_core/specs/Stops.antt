@@ -24,4 +24,5 @@ IsStopCause rules failed outcome = ⊥
 -- whatever stopped a run has its cause in the events
 abbrev pub StopLaw : Type 0
 StopLaw = (rules : LinkRules) (P : List UnitPlan) (found : Entry → Bool) (events : List Event)
-    → MatchOption (core_of rules P (core_start P found) events).halt.stop (Unit {0}) (IsStopCause rules (has_failure events))
+    → MatchOption (core_of rules P (core_start P found) events).halt.stop (Unit {0})
+    (IsStopCause rules (has_failure events))

@@ -49,7 +49,8 @@ pub record IsClosed (old new : JournalState) : Type 0 where
 
 -- It is the plan's, has just the recorded entries, and is live while no append has failed. Where the disk is told, it is kept on
 -- it (Kept) while it is live, and each image has these records, but for the entries of appends that failed.
-pub record IsJournalOf (tells_disk : Bool) (P : List UnitPlan) (c : Core) (j : JournalState) (Kept : DiskState → Type 0) (disk : DiskState) : Type 0 where
+pub record IsJournalOf (tells_disk : Bool) (P : List UnitPlan) (c : Core) (j : JournalState)
+    (Kept : DiskState → Type 0) (disk : DiskState) : Type 0 where
   pub label : j.label ≡ label_of P
   pub entries : (e : Entry) → j.has e ≡ c.recorded e
   pub live : j.live ≡ not c.halt.failed
@@ -87,7 +88,8 @@ pub record AreOrdered (found : List Entry) : Type 0 where
   pub marked : (u s : ℕ) → is_found found (entry.Marked u s) ≡ true → is_found found (entry.Begun u) ≡ true
 
 -- ------ what is kept beside the run
-pub record IsBay (tells_disk tells_vehicle : Bool) (r : RunState) (first now : History) (j : JournalState) (Kept : DiskState → Type 0) : Type 0 where
+pub record IsBay (tells_disk tells_vehicle : Bool) (r : RunState) (first now : History) (j : JournalState)
+    (Kept : DiskState → Type 0) : Type 0 where
   -- time went on since the opening
   pub is_later : IsLater first now
   -- what the link's phase says of the shop's connection

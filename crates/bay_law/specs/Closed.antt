@@ -25,7 +25,8 @@ HasOutcome r n o = ((core_of_run r).slots n).outcome ≡ Some o
 
 -- a unit that is complete is recorded so in each image; another is so in some image only where its append answered a fault
 pub record AreRecorded (r : RunState) (disk : DiskState) : Type 0 where
-  pub complete : (n : ℕ) → n < count_of r.plan → HasOutcome r n outcome.Complete → (image : List ℕ) → IsCrashImage disk image
+  pub complete : (n : ℕ) → n < count_of r.plan → HasOutcome r n outcome.Complete → (image : List ℕ)
+      → IsCrashImage disk image
       → records (label_of r.plan) image (Complete n) ≡ true
   pub other : (n : ℕ) → n < count_of r.plan → (image : List ℕ) → IsCrashImage disk image
       → records (label_of r.plan) image (Complete n) ≡ true
@@ -38,14 +39,17 @@ pub record AreCaused (r : RunState) (first now : History) : Type 0 where
   pub faults : ℕ
   pub rose : RoseBy faults first.link_faults now.link_faults
   pub each : (n : ℕ) (o : Outcome) → n < count_of r.plan → HasOutcome r n o
-      → IsOutcomeCaused r.rules (plan_of r.plan n) (has_entry r.found) (core_of_run r) n (core_of_run r).halt.failed faults (vehicle_now first) (vehicle_now now) o
+      → IsOutcomeCaused r.rules (plan_of r.plan n) (has_entry r.found) (core_of_run r) n
+      (core_of_run r).halt.failed faults (vehicle_now first) (vehicle_now now) o
 
 -- a unit that is complete, and has heard a request since the opening, holds each segment that was not found marked, checked, and
 -- has passed
 abbrev pub HoldImages : RunState → History → History → Type 0
 HoldImages r first now = (n : ℕ) → n < count_of r.plan → HasOutcome r n outcome.Complete
-    → heard_of (vehicle_now now) (plan_of r.plan n).address ≢ heard_of (vehicle_now first) (plan_of r.plan n).address
-    → MatchOption (unit_at (vehicle_now now).units (plan_of r.plan n).address) ⊥ (IsDone (plan_of r.plan n) (marks_of (has_entry r.found) n))
+    → heard_of (vehicle_now now) (plan_of r.plan n).address ≢ heard_of (vehicle_now first)
+    (plan_of r.plan n).address
+    → MatchOption (unit_at (vehicle_now now).units (plan_of r.plan n).address) ⊥
+    (IsDone (plan_of r.plan n) (marks_of (has_entry r.found) n))
 
 -- no append failed, no call of the link failed or was garbled, and the vehicle has not departed
 pub record IsCalmRun (r : RunState) (first now : History) : Type 0 where
@@ -57,13 +61,15 @@ pub record IsCalmRun (r : RunState) (first now : History) : Type 0 where
 -- then, where every unit matches, each outcome is complete, but for want of memory
 abbrev pub AreCompleted : RunState → History → History → Type 0
 AreCompleted r first now = IsCalmRun r first now → AllMatch r.plan (has_entry r.found) (vehicle_now first)
-    → (n : ℕ) (o : Outcome) → n < count_of r.plan → HasOutcome r n o → (o ≡ outcome.Complete) ⊎ LacksMemory r.plan (core_of_run r)
+    → (n : ℕ) (o : Outcome) → n < count_of r.plan → HasOutcome r n o → (o ≡ outcome.Complete)
+    ⊎ LacksMemory r.plan (core_of_run r)
 
 pub record Says (tells_disk tells_vehicle : Bool) (r : RunState) (first now : History) : Type 0 where
   pub sound : IsTrue tells_disk → IsTrue tells_vehicle → KeepsSound r.plan first now
   pub recorded : IsTrue tells_disk → AreRecorded r (disk_now now)
   -- also where no vehicle is told: a disk fault has its cause
-  pub fault : (n : ℕ) → n < count_of r.plan → HasOutcome r n outcome.DiskFault → Rises first.disk_faults now.disk_faults
+  pub fault : (n : ℕ) → n < count_of r.plan → HasOutcome r n outcome.DiskFault
+      → Rises first.disk_faults now.disk_faults
   pub failed : (core_of_run r).halt.failed ≡ true → Rises first.disk_faults now.disk_faults
   pub caused : IsTrue tells_vehicle → AreShown now first.moment now.moment → AreCaused r first now
   pub images : IsTrue tells_vehicle → AreShown now first.moment now.moment → HoldImages r first now

@@ -22,4 +22,5 @@ pub record HearsOnce (tells_vehicle : Bool) (old new : History) (h : Heard) : Ty
   pub says : HeardAs out answer h
   pub call : LinkCall Receive old new answer
   pub linked : new.linked ≡ old.linked
-  pub vehicle : IsTrue tells_vehicle → Received out (¬ Rises old.link_faults new.link_faults) (vehicle_now old) (vehicle_now new) answer
+  pub vehicle : IsTrue tells_vehicle
+      → Received out (¬ Rises old.link_faults new.link_faults) (vehicle_now old) (vehicle_now new) answer

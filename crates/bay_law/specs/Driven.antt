@@ -17,7 +17,8 @@ use Rattle.unit_model.specs.Poll.{Carries}
 use Rattle.unit_model.specs.Vehicle.{Vehicle}
 
 -- the vehicles after each event, from the first to the last; so many calls of the link failed or were garbled
-pub record IsDriven (rules : LinkRules) (P : List UnitPlan) (found : Entry → Bool) (events : List Event) (first last : Vehicle) (faults : ℕ) : Type 0 where
+pub record IsDriven (rules : LinkRules) (P : List UnitPlan) (found : Entry → Bool) (events : List Event)
+    (first last : Vehicle) (faults : ℕ) : Type 0 where
   pub vehicles : List Vehicle
   pub drives : DrivesAll rules P (core_start P found) events first vehicles
   pub last_is : last_vehicle first vehicles ≡ last

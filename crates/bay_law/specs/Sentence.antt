@@ -18,12 +18,15 @@ IsSoundAt P v0 disk v = IsSoundDisk P (records (label_of P)) v0 disk v
 
 -- where it is so at the opening, it is so at each moment since, up to which each receive was shown
 abbrev pub KeepsSound : List UnitPlan → History → History → Type 0
-KeepsSound P first now = (v0 : Vehicle) → IsSoundAt P v0 (disk_now first) (vehicle_now first) → HoldsWhileShown first now (IsSoundAt P v0)
+KeepsSound P first now = (v0 : Vehicle) → IsSoundAt P v0 (disk_now first) (vehicle_now first)
+    → HoldsWhileShown first now (IsSoundAt P v0)
 
 -- each image records what the events have recorded, but for entries whose append failed, each of which it may have
 abbrev pub Covers : List UnitPlan → Core → DiskState → Type 0
 Covers P c disk = (image : List ℕ) → IsCrashImage disk image → RecordsAgree c (records (label_of P) image)
 
 -- the whole joint state, for the records of each image
-abbrev pub IsJointAt : LinkRules → List UnitPlan → (Entry → Bool) → Core → DiskState → Vehicle → Vehicle → ℕ → Type 0
-IsJointAt rules P found c disk v v0 t0 = (image : List ℕ) → IsCrashImage disk image → IsJoint rules P found c (records (label_of P) image) v v0 t0
+abbrev pub IsJointAt : LinkRules → List UnitPlan → (Entry → Bool) → Core → DiskState → Vehicle → Vehicle → ℕ
+    → Type 0
+IsJointAt rules P found c disk v v0 t0 = (image : List ℕ) → IsCrashImage disk image
+    → IsJoint rules P found c (records (label_of P) image) v v0 t0

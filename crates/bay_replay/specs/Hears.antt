@@ -26,11 +26,13 @@ abbrev pub told_heard : List UnitPlan → ℕ → Told → Told
 told_heard P u t = record t {
   core = record t.core {
     link = take_message (plan_of P u).address t.core.link;
-    slots = with_slot u (with_talk (talk_takes (plan_of P u) t.core.link.ticks (first_message (plan_of P u).address t.core.link.inbox)) (t.core.slots u)) t.core.slots;
+    slots = with_slot u (with_talk (talk_takes (plan_of P u) t.core.link.ticks
+        (first_message (plan_of P u).address t.core.link.inbox)) (t.core.slots u)) t.core.slots;
   };
 }
 
 -- the first of the units that is not complete is that one, and has an outcome
 abbrev pub blocker : List Post → List ℕ → ℕ → Bool
 blocker posts [] by = false
-blocker posts (w ∷ ws) by = if is_complete posts w then blocker posts ws by else w == by && is_some (post_of posts w).outcome
+blocker posts (w ∷ ws) by =
+    if is_complete posts w then blocker posts ws by else w == by && is_some (post_of posts w).outcome

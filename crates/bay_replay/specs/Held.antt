@@ -50,7 +50,10 @@ told_own P e t = record t {
 -- a loss starts each attempt again
 abbrev pub told_lost : List UnitPlan → ℕ → Told → Told
 told_lost P before t = record t {
-  core = record t.core { slots = slots_lost P t.core.recorded (nat_lt before t.core.link.losses) t.core.slots };
+  core = record t.core {
+    slots = slots_lost P t.core.recorded
+        (nat_lt before t.core.link.losses) t.core.slots;
+  };
 }
 
 -- then a loss and the stop, by the losses before the event
@@ -101,7 +104,8 @@ with_halt h c = record c { halt = halt_of h }
 
 -- One unit: its post on the board and what is kept beside it are its slot. Its outcome is Complete exactly where it is recorded
 -- complete. Its conversation is the slot's, with the marks that are recorded; before the claim it stands at its first request.
-pub record HoldsSlot (plan : UnitPlan) (post : Post) (unit : Kept) (recorded : Entry → Bool) (n : ℕ) (s : Slot) : Type 0 where
+pub record HoldsSlot (plan : UnitPlan) (post : Post) (unit : Kept) (recorded : Entry → Bool) (n : ℕ)
+    (s : Slot) : Type 0 where
   pub after : post.after ≡ plan.after
   pub taken : post.claimed ≡ s.claimed
   pub outcome : post.outcome ≡ s.outcome
@@ -117,7 +121,8 @@ pub record HoldsSlot (plan : UnitPlan) (post : Post) (unit : Kept) (recorded : E
   pub ends : EndsRightly s.talk.place
 
 abbrev pub HoldsSlots : List UnitPlan → List Post → List Kept → (Entry → Bool) → (ℕ → Slot) → Type 0
-HoldsSlots P posts units recorded slots = (n : ℕ) → n < count_of P → HoldsSlot (plan_of P n) (post_of posts n) (unit_of units n) recorded n (slots n)
+HoldsSlots P posts units recorded slots = (n : ℕ) → n < count_of P
+    → HoldsSlot (plan_of P n) (post_of posts n) (unit_of units n) recorded n (slots n)
 
 -- All units, the link with its inboxes, whether and by what the run is stopped, and how that was before the failed appends that
 -- stand directly before.
@@ -138,14 +143,16 @@ pub record Holds (P : List UnitPlan) (k : kept.Core) (t : Told) : Type 0 where
   pub few : t.core.halt.stop ≡ None → t.core.link.losses ≤ t.rules.relinks
 
 -- An event is taken exactly where it is allowed, and then all that it makes of the run is held; where it is not, nothing changed.
-pub record Takes (P : List UnitPlan) (e : Event) (t : Told) (old : kept.Core) (ok : Bool) (k : kept.Core) : Type 0 where
+pub record Takes (P : List UnitPlan) (e : Event) (t : Told) (old : kept.Core) (ok : Bool)
+    (k : kept.Core) : Type 0 where
   pub allowed : ok ≡ is_allowed P t.core e
   pub holds : ok ≡ true → Holds P k (told_after P e t)
   pub same : ok ≡ false → k ≡ old
 
 -- the lowest unit that is ready was taken up, or none is ready and nothing changed
 abbrev pub Claims : List UnitPlan → Told → kept.Core → Claimed → kept.Core → Type 0
-Claims P t old (Took u) k = (is_allowed P t.core (event.Claimed u) ≡ true) × Holds P k (told_after P (event.Claimed u) t)
+Claims P t old (Took u) k = (is_allowed P t.core (event.Claimed u) ≡ true)
+    × Holds P k (told_after P (event.Claimed u) t)
 Claims P t old Nothing k = (k ≡ old) × ((u : ℕ) → is_allowed P t.core (event.Claimed u) ≡ false)
 
 -- ------ parts of what is allowed
@@ -156,7 +163,8 @@ names (Some w) u = w == u
 
 -- what stopped the run ends the unit so
 abbrev pub is_stopped : Core → ℕ → Outcome → Bool
-is_stopped c u outcome = if (c.slots u).faulted then same_outcome DiskFault outcome else is_stop c.halt.stop outcome
+is_stopped c u outcome =
+    if (c.slots u).faulted then same_outcome DiskFault outcome else is_stop c.halt.stop outcome
 
 -- ------ the parts that a caller sees
 -- the conversation of a unit, where the unit was ever claimed; of its marks those below 256

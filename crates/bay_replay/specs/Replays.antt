@@ -20,23 +20,29 @@ abbrev pub told_by : LinkRules → List UnitPlan → List Entry → List Event �
 told_by rules P found events = record { rules = rules; core = core_by rules P found events }
 
 -- the event with a number is taken exactly where it is allowed after those before it
-pub record TakesAt (rules : LinkRules) (P : List UnitPlan) (found : List Entry) (events : List Event) (i : ℕ) (ok : Bool) (k : kept.Core) : Type 0 where
-  pub allowed : (e : Event) → slice_get events i ≡ Some e → ok ≡ is_allowed P (core_by rules P found (take i events)) e
+pub record TakesAt (rules : LinkRules) (P : List UnitPlan) (found : List Entry) (events : List Event) (i : ℕ)
+    (ok : Bool) (k : kept.Core) : Type 0 where
+  pub allowed : (e : Event) → slice_get events i ≡ Some e
+      → ok ≡ is_allowed P (core_by rules P found (take i events)) e
   pub holds : ok ≡ true → Holds P k (told_by rules P found (take (i + 1) events))
 
 -- The events before the place are legal, the one at it is not allowed after them, and so the whole list is not legal.
-pub record IsFirstBad (rules : LinkRules) (P : List UnitPlan) (found : List Entry) (events : List Event) (place : ℕ) : Type 0 where
+pub record IsFirstBad (rules : LinkRules) (P : List UnitPlan) (found : List Entry) (events : List Event)
+    (place : ℕ) : Type 0 where
   pub within : place < length events
   pub before : is_legal rules P (core_start P (has_entry found)) (take place events) ≡ true
-  pub bad : (e : Event) → slice_get events place ≡ Some e → is_allowed P (core_by rules P found (take place events)) e ≡ false
+  pub bad : (e : Event) → slice_get events place ≡ Some e
+      → is_allowed P (core_by rules P found (take place events)) e ≡ false
   pub illegal : is_legal rules P (core_start P (has_entry found)) events ≡ false
 
 -- The list is legal, and the state is the one that its events make.
-pub record IsReplayed (rules : LinkRules) (P : List UnitPlan) (found : List Entry) (events : List Event) (k : kept.Core) : Type 0 where
+pub record IsReplayed (rules : LinkRules) (P : List UnitPlan) (found : List Entry) (events : List Event)
+    (k : kept.Core) : Type 0 where
   pub legal : is_legal rules P (core_start P (has_entry found)) events ≡ true
   pub holds : Holds P k (told_by rules P found events)
 
-abbrev pub Replays : LinkRules → List UnitPlan → List Entry → List Event → Result kept.Core ReplayFault → Type 0
+abbrev pub Replays : LinkRules → List UnitPlan → List Entry → List Event → Result kept.Core ReplayFault
+    → Type 0
 Replays rules P found events (Ok k) = IsReplayed rules P found events k
 Replays rules P found events (Err (FirstBad place)) = IsFirstBad rules P found events place
 Replays rules P found events (Err NoMemory) = Unit {0}
@@ -44,8 +50,10 @@ Replays rules P found events (Err NoMemory) = Unit {0}
 -- Each list of events is legal, or has a first place that is not allowed: never both, and no two such places.
 pub record HasOneAnswer : Type 0 where
   pub some : (rules : LinkRules) (P : List UnitPlan) (found : List Entry) (events : List Event)
-      → (is_legal rules P (core_start P (has_entry found)) events ≡ true) ⊎ ((place : ℕ) × IsFirstBad rules P found events place)
+      → (is_legal rules P (core_start P (has_entry found)) events ≡ true)
+      ⊎ ((place : ℕ) × IsFirstBad rules P found events place)
   pub either : (rules : LinkRules) (P : List UnitPlan) (found : List Entry) (events : List Event) (place : ℕ)
-      → is_legal rules P (core_start P (has_entry found)) events ≡ true → IsFirstBad rules P found events place → ⊥
+      → is_legal rules P (core_start P (has_entry found)) events ≡ true
+      → IsFirstBad rules P found events place → ⊥
   pub one : (rules : LinkRules) (P : List UnitPlan) (found : List Entry) (events : List Event) (p q : ℕ)
       → IsFirstBad rules P found events p → IsFirstBad rules P found events q → p ≡ q

@@ -13,7 +13,16 @@ use Rattle.unit_session.specs.declared.stage.Stage.TheVariants.{Done}
 use Rattle.bay_replay.specs.declared.units.Unit.{Unit as Kept}
 
 abbrev pub no_session : UnitSession
-no_session = record { stage = Done; begun = false; marks = record { bits = 0 ∷ 0 ∷ 0 ∷ 0 ∷ [] }; awaiting = false; number = 0; since = 0; pendings = 0; busies = 0 }
+no_session = record {
+  stage = Done;
+  begun = false;
+  marks = record { bits = 0 ∷ 0 ∷ 0 ∷ 0 ∷ [] };
+  awaiting = false;
+  number = 0;
+  since = 0;
+  pendings = 0;
+  busies = 0;
+}
 
 -- of its marks a conversation keeps those below 256: a unit has no more segments
 abbrev pub low_marks : (ℕ → Bool) → ℕ → Bool
@@ -36,7 +45,8 @@ pub record IsFresh (plan : UnitPlan) (found : List Entry) (n : ℕ) (u : Kept) :
   pub faulted : u.faulted ≡ false
   pub begun : u.begun ≡ has_entry found (Begun n)
   pub known : is_begun u.session ≡ has_entry found (Begun n)
-  pub talk : talk_of plan u.session ≡ talk_start plan (has_entry found (Begun n)) (low_marks (marks_of (has_entry found) n))
+  pub talk : talk_of plan u.session ≡ talk_start plan (has_entry found (Begun n))
+      (low_marks (marks_of (has_entry found) n))
   pub fits : IsOf plan u.session
 
 pub record AreFresh (P : List UnitPlan) (found : List Entry) (units : List Kept) : Type 0 where

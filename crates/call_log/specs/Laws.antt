@@ -19,7 +19,8 @@ pub record IsKept : Type 0 where
   pub whole : (digest : List ℕ) (calls : List LinkCall) → length digest ≡ 32 → Each IsKeepable calls
       → calls_of digest (file_of digest calls) ≡ calls
   -- whatever stands behind them
-  pub behind : (digest : List ℕ) (calls : List LinkCall) (more : List ℕ) → length digest ≡ 32 → Each IsKeepable calls
+  pub behind : (digest : List ℕ) (calls : List LinkCall) (more : List ℕ) → length digest ≡ 32
+      → Each IsKeepable calls
       → calls_of digest (file_of digest calls ++ more) ≡ calls ++ calls_in (stream_of more).frames
   -- of a file that was cut short in a call the calls before it
   pub cut : (digest : List ℕ) (calls : List LinkCall) (call : LinkCall) (n : ℕ) → length digest ≡ 32

@@ -72,7 +72,8 @@ is_seal sum frame = false
 
 -- the call that a frame and the next say, if that is its seal
 abbrev pub sealed_call : Frame → Frame → Option LinkCall
-sealed_call (Other kind payload) next = if is_seal (mixed kind payload) next then call_said kind payload else None
+sealed_call (Other kind payload) next =
+    if is_seal (mixed kind payload) next then call_said kind payload else None
 sealed_call frame next = None
 
 -- a call, and then those behind it; or no more

@@ -17,7 +17,8 @@ IsListed (r ∷ rs) i = ((r.0 ≤ i) × (i < r.0 + r.1)) ⊎ IsListed rs i
 pub record IsCrashImage (disk : DiskState) (image : List ℕ) : Type 0 where
   pub no_shorter : disk.synced ≤ length image
   pub no_longer : length image ≤ length disk.bytes
-  pub same : (i : ℕ) → i < disk.synced → ¬ IsListed disk.ranges i → slice_index image i ≡ slice_index disk.bytes i
+  pub same : (i : ℕ) → i < disk.synced → ¬ IsListed disk.ranges i
+      → slice_index image i ≡ slice_index disk.bytes i
 
 -- a crash leaves just what a read gives
 pub record IsSettled (disk : DiskState) : Type 0 where

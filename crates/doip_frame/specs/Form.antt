@@ -6,7 +6,8 @@ use Rattle.doip_frame.specs.Frame.{payload_of}
 
 -- the kinds of the table
 abbrev pub is_known : ℕ → Bool
-is_known kind = kind == 0 || kind == 5 || kind == 6 || kind == 7 || kind == 8 || kind == 32769 || kind == 32770 || kind == 32771
+is_known kind = kind == 0 || kind == 5 || kind == 6 || kind == 7 || kind == 8 || kind == 32769
+    || kind == 32770 || kind == 32771
 
 -- a message has user data; another kind is none of the table's
 abbrev pub HasForm : Frame → Type 0

@@ -52,7 +52,8 @@ activate_of (s1 ∷ s0 ∷ kind ∷ r3 ∷ r2 ∷ r1 ∷ r0 ∷ more) = Activate
 activate_of xs = Other 5 xs
 
 abbrev pub activated_of : List ℕ → Frame
-activated_of (t1 ∷ t0 ∷ e1 ∷ e0 ∷ code ∷ r3 ∷ r2 ∷ r1 ∷ r0 ∷ more) = Activated (number2 t1 t0) (number2 e1 e0) code (oem_of more)
+activated_of (t1 ∷ t0 ∷ e1 ∷ e0 ∷ code ∷ r3 ∷ r2 ∷ r1 ∷ r0 ∷ more) =
+    Activated (number2 t1 t0) (number2 e1 e0) code (oem_of more)
 activated_of xs = Other 6 xs
 
 abbrev pub alive_of : List ℕ → Frame
@@ -109,7 +110,8 @@ stream_of bytes = stream_in (suc (length bytes)) bytes
 abbrev pub frame_bytes : ℕ → List ℕ → List ℕ
 frame_bytes kind payload =
     3 ∷ 252 ∷ kind / 256 ∷ kind % 256
-    ∷ length payload / 16777216 ∷ length payload / 65536 % 256 ∷ length payload / 256 % 256 ∷ length payload % 256 ∷ payload
+    ∷ length payload / 16777216 ∷ length payload / 65536 % 256 ∷ length payload / 256 % 256
+    ∷ length payload % 256 ∷ payload
 
 abbrev pub addressed : ℕ → ℕ → List ℕ → List ℕ
 addressed source target body = source / 256 ∷ source % 256 ∷ target / 256 ∷ target % 256 ∷ body
@@ -133,7 +135,8 @@ kind_of (Other kind payload) = kind
 abbrev pub payload_of : Frame → List ℕ
 payload_of (HeaderNack code) = code ∷ []
 payload_of (Activate source kind oem) = source / 256 ∷ source % 256 ∷ kind ∷ 0 ∷ 0 ∷ 0 ∷ 0 ∷ oem_bytes oem
-payload_of (Activated tester entity code oem) = tester / 256 ∷ tester % 256 ∷ entity / 256 ∷ entity % 256 ∷ code ∷ 0 ∷ 0 ∷ 0 ∷ 0 ∷ oem_bytes oem
+payload_of (Activated tester entity code oem) =
+    tester / 256 ∷ tester % 256 ∷ entity / 256 ∷ entity % 256 ∷ code ∷ 0 ∷ 0 ∷ 0 ∷ 0 ∷ oem_bytes oem
 payload_of AliveAsk = []
 payload_of (AliveSay source) = source / 256 ∷ source % 256 ∷ []
 payload_of (Message source target body) = addressed source target body

@@ -32,9 +32,11 @@ next_bad (Some before) now = Some Failed
 -- Any pieces give the frames of all their bytes, and a refusal comes in the piece in which it first stands.
 pub record AnyPieces : Type 0 where
   pub frames : (pieces : List (List ℕ)) → frames_behind (Some []) pieces ≡ (stream_of (joined pieces)).frames
-  pub held : (pieces : List (List ℕ)) → held_behind (Some []) pieces ≡ kept (stream_of (joined pieces)).bad (stream_of (joined pieces)).rest
+  pub held : (pieces : List (List ℕ))
+      → held_behind (Some []) pieces ≡ kept (stream_of (joined pieces)).bad (stream_of (joined pieces)).rest
   pub bad : (pieces : List (List ℕ)) (piece : List ℕ)
-      → bad_in (held_behind (Some []) pieces) piece ≡ next_bad (stream_of (joined pieces)).bad (stream_of (joined pieces ++ piece)).bad
+      → bad_in (held_behind (Some []) pieces) piece ≡ next_bad (stream_of (joined pieces)).bad
+      (stream_of (joined pieces ++ piece)).bad
 
 -- ------ one frame
 -- what is written alone is that frame alone
@@ -55,13 +57,22 @@ Fits (Nack source target code old) = (source < 65536) × (target < 65536)
 Fits (Other kind payload) = kind < 65536
 
 abbrev pub IsReadAgain : Type 0
-IsReadAgain = (f : Frame) (more : List ℕ) → IsFrame f → Fits f → stream_of (written f ++ more) ≡ record { frames = f ∷ (stream_of more).frames; rest = (stream_of more).rest; bad = (stream_of more).bad }
+IsReadAgain = (f : Frame) (more : List ℕ) → IsFrame f → Fits f
+    → stream_of (written f ++ more) ≡ record {
+      frames = f ∷ (stream_of more).frames;
+      rest = (stream_of more).rest;
+      bad = (stream_of more).bad;
+    }
 
 -- no frame's bytes begin another's
 abbrev pub IsOnlyOne : Type 0
-IsOnlyOne = (f g : Frame) (x y : List ℕ) → IsFrame f → IsFrame g → Fits f → Fits g → written f ++ x ≡ written g ++ y → (f ≡ g) × (x ≡ y)
+IsOnlyOne = (f g : Frame) (x y : List ℕ) → IsFrame f → IsFrame g → Fits f → Fits g
+    → written f ++ x ≡ written g ++ y → (f ≡ g) × (x ≡ y)
 
 -- reserved bytes are read as anything
 pub record IgnoresReserved : Type 0 where
-  pub activate : (s1 s0 kind a b c d w x y z : ℕ) (oem : List ℕ) → frame_of 5 (s1 ∷ s0 ∷ kind ∷ a ∷ b ∷ c ∷ d ∷ oem) ≡ frame_of 5 (s1 ∷ s0 ∷ kind ∷ w ∷ x ∷ y ∷ z ∷ oem)
-  pub activated : (t1 t0 e1 e0 code a b c d w x y z : ℕ) (oem : List ℕ) → frame_of 6 (t1 ∷ t0 ∷ e1 ∷ e0 ∷ code ∷ a ∷ b ∷ c ∷ d ∷ oem) ≡ frame_of 6 (t1 ∷ t0 ∷ e1 ∷ e0 ∷ code ∷ w ∷ x ∷ y ∷ z ∷ oem)
+  pub activate : (s1 s0 kind a b c d w x y z : ℕ) (oem : List ℕ)
+      → frame_of 5 (s1 ∷ s0 ∷ kind ∷ a ∷ b ∷ c ∷ d ∷ oem) ≡ frame_of 5 (s1 ∷ s0 ∷ kind ∷ w ∷ x ∷ y ∷ z ∷ oem)
+  pub activated : (t1 t0 e1 e0 code a b c d w x y z : ℕ) (oem : List ℕ)
+      → frame_of 6 (t1 ∷ t0 ∷ e1 ∷ e0 ∷ code ∷ a ∷ b ∷ c ∷ d ∷ oem) ≡ frame_of 6
+      (t1 ∷ t0 ∷ e1 ∷ e0 ∷ code ∷ w ∷ x ∷ y ∷ z ∷ oem)

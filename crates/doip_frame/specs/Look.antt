@@ -10,7 +10,8 @@ abbrev pub two_at : List ℕ → ℕ → ℕ
 two_at s i = slice_index s i * 256 + slice_index s (i + 1)
 
 abbrev pub four_at : List ℕ → ℕ → ℕ
-four_at s i = ((slice_index s i * 256 + slice_index s (i + 1)) * 256 + slice_index s (i + 2)) * 256 + slice_index s (i + 3)
+four_at s i = ((slice_index s i * 256 + slice_index s (i + 1)) * 256 + slice_index s (i + 2)) * 256
+    + slice_index s (i + 3)
 
 -- a header with this kind and length, before so many bytes
 abbrev pub look_sized : ℕ → ℕ → ℕ → Look

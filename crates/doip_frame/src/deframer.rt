@@ -121,7 +121,8 @@ fn straight(
 ) -> Result<Fed, NoMemory>
     ensures frames { IfOk result (λ fed. fed.frames ≡ before ++ (stream_of stream.now).frames) }
     ensures bad { IfOk result (λ fed. fed.bad ≡ (stream_of stream.now).bad) }
-    ensures held { OnOk result (held.new.items ≡ left (stream_of stream.now).bad (stream_of stream.now).rest) }
+    ensures held { OnOk result (held.new.items ≡ left (stream_of stream.now).bad
+        (stream_of stream.now).rest) }
     ensures err { OnErr result (held.new.items ≡ held.old.items) }
 {
     let (fed, used) = cut(alloc, before, stream)?;
@@ -138,7 +139,8 @@ fn feed_on(held: &mut Vec<u8>, alloc: Global, piece: &[u8]) -> Result<Fed, NoMem
     requires { cut_frame held.old.items ≡ Partial }
     ensures frames { IfOk result (λ fed. fed.frames ≡ (stream_of (held.old.items ++ piece.now)).frames) }
     ensures bad { IfOk result (λ fed. fed.bad ≡ (stream_of (held.old.items ++ piece.now)).bad) }
-    ensures held { OnOk result (held.new.items ≡ left (stream_of (held.old.items ++ piece.now)).bad (stream_of (held.old.items ++ piece.now)).rest) }
+    ensures held { OnOk result (held.new.items ≡ left (stream_of (held.old.items ++ piece.now)).bad
+        (stream_of (held.old.items ++ piece.now)).rest) }
     ensures err { OnErr result (take (length held.old.items) held.new.items ≡ held.old.items) }
 {
     let used = fill(held, piece)?;
@@ -168,7 +170,8 @@ fn feed_into(held: &mut Vec<u8>, alloc: Global, piece: &[u8]) -> Result<Fed, NoM
     requires { cut_frame held.old.items ≡ Partial }
     ensures frames { IfOk result (λ fed. fed.frames ≡ (stream_of (held.old.items ++ piece.now)).frames) }
     ensures bad { IfOk result (λ fed. fed.bad ≡ (stream_of (held.old.items ++ piece.now)).bad) }
-    ensures held { OnOk result (held.new.items ≡ left (stream_of (held.old.items ++ piece.now)).bad (stream_of (held.old.items ++ piece.now)).rest) }
+    ensures held { OnOk result (held.new.items ≡ left (stream_of (held.old.items ++ piece.now)).bad
+        (stream_of (held.old.items ++ piece.now)).rest) }
     ensures err { OnErr result (held.new.items ≡ held.old.items) }
 {
     if held.is_empty() {

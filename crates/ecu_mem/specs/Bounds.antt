@@ -48,7 +48,8 @@ times id (x ∷ xs) = one_if (bytes_eq x id) + times id xs
 
 -- the IDs of all sessions, datablocks and flash data
 abbrev pub ids_of : EcuMem → List (List ℕ)
-ids_of m = map (λ (s : Session). s.id) m.sessions ++ (map (λ (b : Block). b.id) m.blocks ++ map (λ (f : Flash). f.id) m.flashes)
+ids_of m = map (λ (s : Session). s.id) m.sessions
+    ++ (map (λ (b : Block). b.id) m.blocks ++ map (λ (f : Flash). f.id) m.flashes)
 
 -- positions are below the lengths of their lists, ranges and offsets are within the limit, and no ID stands twice
 pub record IsWholeCatalogue (m : EcuMem) : Type 0 where

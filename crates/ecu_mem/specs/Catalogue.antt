@@ -73,9 +73,11 @@ in_place [] r = r
 in_place (i ∷ p) r = in_kid i (in_place p r)
 
 -- from entries to entries, over the elements at these places one after another
-abbrev pub over_places : (Element → List Entry → Reading (List Entry)) → Element → List Place → List Entry → Reading (List Entry)
+abbrev pub over_places : (Element → List Entry → Reading (List Entry)) → Element → List Place → List Entry
+    → Reading (List Entry)
 over_places step root [] es = Ok es
-over_places step root (p ∷ ps) es = in_place p (step (element_at root p) es) >>= λ more. over_places step root ps more
+over_places step root (p ∷ ps) es =
+    in_place p (step (element_at root p) es) >>= λ more. over_places step root ps more
 
 -- the entries with those of an ECU-MEM
 unfoldable pub with_ecu_mem : Element → List Entry → Reading (List Entry)
@@ -105,10 +107,12 @@ position_or_dangling id (Some i) = Ok i
 -- the positions of the datablocks with these IDs
 abbrev pub positions_of : (List ℕ → Option Target) → List (List ℕ) → Result (List ℕ) MemFault
 positions_of find [] = Ok []
-positions_of find (id ∷ ids) = and_then (position_or_dangling id (block_found (find id))) (λ i. and_then (positions_of find ids) (λ is. Ok (i ∷ is)))
+positions_of find (id ∷ ids) = and_then (position_or_dangling id (block_found (find id)))
+    (λ i. and_then (positions_of find ids) (λ is. Ok (i ∷ is)))
 
 abbrev pub linked_block : (List ℕ → Option Target) → Block → List ℕ → Result Block MemFault
-linked_block find b id = and_then (position_or_dangling id (flash_found (find id))) (λ i. Ok (record b { flash = i }))
+linked_block find b id =
+    and_then (position_or_dangling id (flash_found (find id))) (λ i. Ok (record b { flash = i }))
 
 abbrev pub with_session : Session → EcuMem → EcuMem
 with_session s m = record m { sessions = s ∷ m.sessions }
@@ -122,8 +126,11 @@ with_flash f m = record m { flashes = f ∷ m.flashes }
 -- the document of these entries, in document order, where IDs are replaced by what they stand for; or the first ID that stands for nothing of the kind
 abbrev pub linked : (List ℕ → Option Target) → List Entry → Result EcuMem MemFault
 linked find [] = Ok (record { sessions = []; blocks = []; flashes = [] })
-linked find (entry.Session s ids ∷ es) = and_then (positions_of find ids) (λ is. and_then (linked find es) (λ m. Ok (with_session (record s { blocks = is }) m)))
-linked find (entry.Block b id ∷ es) = and_then (linked_block find b id) (λ x. and_then (linked find es) (λ m. Ok (with_block x m)))
+linked find (entry.Session s ids ∷ es) =
+    and_then (positions_of find ids) (λ is. and_then (linked find es)
+    (λ m. Ok (with_session (record s { blocks = is }) m)))
+linked find (entry.Block b id ∷ es) =
+    and_then (linked_block find b id) (λ x. and_then (linked find es) (λ m. Ok (with_block x m)))
 linked find (entry.Flash f ∷ es) = and_then (linked find es) (λ m. Ok (with_flash f m))
 
 abbrev pub fault_at : Place → Wrong → MemFault

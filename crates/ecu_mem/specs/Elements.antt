@@ -26,11 +26,19 @@ one_value_in e = ident_value_in e >>= λ v. Ok (v ∷ [])
 -- EXPECTED-IDENT and OWN-IDENT
 abbrev pub ident_in : Element → Reading Ident
 ident_in e =
-    both (required (codes "SHORT-NAME") text_in e) (choice (codes "IDENT-VALUES") values_in (codes "IDENT-VALUE") one_value_in e)
+    both (required (codes "SHORT-NAME") text_in e)
+    (choice (codes "IDENT-VALUES") values_in (codes "IDENT-VALUE") one_value_in e)
     >>= λ p. Ok (record { name = p.0; values = p.1 })
 
 abbrev pub check_of : List ℕ × (Option ℕ × ((ℕ × ℕ) × (List ℕ × List ℕ))) → Check
-check_of p = record { name = p.0; from = p.1.1.0.0; size = p.1.1.0.1; fill = p.1.0; alg = p.1.1.1.0; result = p.1.1.1.1 }
+check_of p = record {
+  name = p.0;
+  from = p.1.1.0.0;
+  size = p.1.1.0.1;
+  fill = p.1.0;
+  alg = p.1.1.1.0;
+  result = p.1.1.1.1;
+}
 
 -- CHECKSUM
 abbrev pub check_in : Element → Reading Check
@@ -42,7 +50,13 @@ check_in e =
     (required (codes "CHECKSUM-RESULT") bytes_in e)))))
 
 abbrev pub session_of : List ℕ × (List ℕ × (List Ident × (List Check × List (List ℕ)))) → Entry
-session_of p = entry.Session (record { id = p.0; name = p.1.0; blocks = []; idents = p.1.1.0; checks = p.1.1.1.0 }) p.1.1.1.1
+session_of p = entry.Session (record {
+  id = p.0;
+  name = p.1.0;
+  blocks = [];
+  idents = p.1.1.0;
+  checks = p.1.1.1.0;
+}) p.1.1.1.1
 
 -- SESSION, with the IDs of its datablocks
 abbrev pub session_in : Element → Reading Entry
@@ -71,7 +85,8 @@ offset_in e = up_of e (kid_of_two (codes "POSITIVE-OFFSET") (codes "POS-OFFSET")
 abbrev pub offset_or_0 : Option (Bool × ℕ) → Bool × ℕ
 offset_or_0 o = unwrap_or o (false, 0)
 
-abbrev pub block_of : List ℕ × (List ℕ × (List ℕ × (List (ℕ × ℕ) × (List (ℕ × ℕ) × (Option (Bool × ℕ) × List Ident))))) → Entry
+abbrev pub block_of : List ℕ × (List ℕ
+    × (List ℕ × (List (ℕ × ℕ) × (List (ℕ × ℕ) × (Option (Bool × ℕ) × List Ident))))) → Entry
 block_of p = entry.Block
     (record {
       id = p.0;
@@ -96,7 +111,8 @@ block_in e =
     (listed (codes "OWN-IDENTS") (codes "OWN-IDENT") ident_in e)))))))
 
 abbrev pub flash_of : List ℕ × (Format × (Option Bool × Source)) → Entry
-flash_of p = entry.Flash (record { id = p.0; format = p.1.0; plain = unwrap_or p.1.1.0 true; source = p.1.1.1 })
+flash_of p =
+    entry.Flash (record { id = p.0; format = p.1.0; plain = unwrap_or p.1.1.0 true; source = p.1.1.1 })
 
 -- FLASHDATA
 abbrev pub flash_in : Element → Reading Entry

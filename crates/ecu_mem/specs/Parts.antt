@@ -52,12 +52,14 @@ optional_of read (Some p) = some_of (read_at read p)
 abbrev pub optional : {A : Type 0} → List ℕ → (Element → Reading A) → Element → Reading (Option A)
 optional tag read e = optional_of read (kid tag e)
 
-abbrev pub choice_of : {A : Type 0} → List ℕ → (Element → Reading A) → List ℕ → (Element → Reading A) → Element → Option (ℕ × Element) → Reading A
+abbrev pub choice_of : {A : Type 0} → List ℕ → (Element → Reading A) → List ℕ → (Element → Reading A)
+    → Element → Option (ℕ × Element) → Reading A
 choice_of tag read other read_other e None = required_of tag read_other (kid other e)
 choice_of tag read other read_other e (Some p) = read_at read p
 
 -- one of two parts: where both are there the one named first counts, and where none is, it is the one that is missing
-abbrev pub choice : {A : Type 0} → List ℕ → (Element → Reading A) → List ℕ → (Element → Reading A) → Element → Reading A
+abbrev pub choice : {A : Type 0} → List ℕ → (Element → Reading A) → List ℕ → (Element → Reading A) → Element
+    → Reading A
 choice tag read other read_other e = choice_of tag read other read_other e (kid tag e)
 
 abbrev pub each_from : {A : Type 0} → ℕ → List ℕ → (Element → Reading A) → List Element → Reading (List A)

@@ -77,7 +77,8 @@ seen_after seen (Some k) = seen_with k seen
 
 abbrev pub groups_from : ℕ → Seen → List Element → List Place
 groups_from i seen [] = []
-groups_from i seen (e ∷ es) = under i (members_of (new_kind seen (group_kind e)) e) ++ groups_from (suc i) (seen_after seen (new_kind seen (group_kind e))) es
+groups_from i seen (e ∷ es) = under i (members_of (new_kind seen (group_kind e)) e) ++ groups_from (suc i)
+    (seen_after seen (new_kind seen (group_kind e))) es
 
 -- what a MEM holds, in document order
 abbrev pub groups : Element → List Place

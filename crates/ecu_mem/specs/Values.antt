@@ -66,10 +66,12 @@ extent_in last size start e = choice last (end_in (or_0 start)) size (size_in (o
 
 -- a range, by the tags of its start, its end and its size: the address and the size
 abbrev pub range_in : List ℕ → List ℕ → List ℕ → Element → Reading (ℕ × ℕ)
-range_in start last size e = both (required start address_in e) (extent_in last size (required start address_in e) e)
+range_in start last size e =
+    both (required start address_in e) (extent_in last size (required start address_in e) e)
 
 abbrev pub segment_in : Element → Reading (ℕ × ℕ)
-segment_in e = range_in (codes "SOURCE-START-ADDRESS") (codes "SOURCE-END-ADDRESS") (codes "UNCOMPRESSED-SIZE") e
+segment_in e =
+    range_in (codes "SOURCE-START-ADDRESS") (codes "SOURCE-END-ADDRESS") (codes "UNCOMPRESSED-SIZE") e
 
 abbrev pub filter_in : Element → Reading (ℕ × ℕ)
 filter_in e = range_in (codes "FILTER-START") (codes "FILTER-END") (codes "FILTER-SIZE") e

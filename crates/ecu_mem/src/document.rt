@@ -104,7 +104,8 @@ impl Document {
     #[tactic(auto, unfolding(crate::specs::Catalogue::with_element))]
     fn take(&mut self, alloc: Global, element: &Element) -> Result<Reading<()>, NoMemory>
         requires { IsIndexed self.old }
-        ensures value { IfOk result (λ r. after r (entries_in self.new) ≡ with_element element.now (entries_in self.old)) }
+        ensures value { IfOk result (λ r. after r (entries_in self.new) ≡ with_element element.now
+            (entries_in self.old)) }
         ensures indexed { OnOk result (IsIndexed self.new) }
     {
         let entry = entry_in(alloc, element)?;
@@ -122,7 +123,8 @@ impl Document {
     /// Reads the elements of a SESSIONS, a DATABLOCKS or a FLASHDATAS.
     fn group(&mut self, alloc: Global, kind: Kind, group: &Element) -> Result<Reading<()>, NoMemory>
         requires { IsIndexed self.old }
-        ensures value { IfOk result (λ r. after r (entries_in self.new) ≡ over_places with_element group.now (group_members kind group.now) (entries_in self.old)) }
+        ensures value { IfOk result (λ r. after r (entries_in self.new) ≡ over_places with_element group.now
+            (group_members kind group.now) (entries_in self.old)) }
         ensures indexed { OnOk result (IsIndexed self.new) }
     {
         for (i, kid) in group.kids.as_slice().iter().enumerate() {
@@ -139,7 +141,8 @@ impl Document {
     /// Reads a MEM.
     fn mem(&mut self, alloc: Global, mem: &Element) -> Result<Reading<()>, NoMemory>
         requires { IsIndexed self.old }
-        ensures value { IfOk result (λ r. after r (entries_in self.new) ≡ over_places with_element mem.now (groups mem.now) (entries_in self.old)) }
+        ensures value { IfOk result (λ r. after r (entries_in self.new) ≡ over_places with_element mem.now
+            (groups mem.now) (entries_in self.old)) }
         ensures indexed { OnOk result (IsIndexed self.new) }
     {
         let mut seen = Seen {
@@ -162,7 +165,8 @@ impl Document {
     #[tactic(auto, unfolding(crate::specs::Catalogue::with_ecu_mem))]
     fn ecu_mem(&mut self, alloc: Global, element: &Element) -> Result<Reading<()>, NoMemory>
         requires { IsIndexed self.old }
-        ensures value { IfOk result (λ r. after r (entries_in self.new) ≡ with_ecu_mem element.now (entries_in self.old)) }
+        ensures value { IfOk result (λ r. after r (entries_in self.new) ≡ with_ecu_mem element.now
+            (entries_in self.old)) }
         ensures indexed { OnOk result (IsIndexed self.new) }
     {
         match kid(element, "MEM") {
@@ -174,7 +178,8 @@ impl Document {
     /// Reads all ECU-MEM elements of a tree.
     pub(crate) fn read(&mut self, alloc: Global, element: &Element) -> Result<Reading<()>, NoMemory>
         requires { IsIndexed self.old }
-        ensures value { IfOk result (λ r. after r (entries_in self.new) ≡ over_places with_ecu_mem element.now (ecu_mems element.now) (entries_in self.old)) }
+        ensures value { IfOk result (λ r. after r (entries_in self.new) ≡ over_places with_ecu_mem element.now
+            (ecu_mems element.now) (entries_in self.old)) }
         ensures indexed { OnOk result (IsIndexed self.new) }
         ensures told { IfOk result (λ r. IsRight element.now r) }
     {

@@ -62,7 +62,8 @@ fn linked_block(
     block: Block,
     id: &Text,
 ) -> Result<Block, MemFault>
-    ensures { (result ≡ Err MemFault.NoMemory) ⊎ (result ≡ linked_block (get_by_text targets.now) block id.now) }
+    ensures { (result ≡ Err MemFault.NoMemory)
+        ⊎ (result ≡ linked_block (get_by_text targets.now) block id.now) }
 {
     match flash_found(targets.get(id.as_str()).copied()) {
         Some(flash) => Ok(Block { flash, ..block }),

@@ -56,7 +56,8 @@ pub(crate) fn required_at<R: Reader>(
     tag: &str,
     reader: &R,
 ) -> Result<Reading<R::Value>, NoMemory>
-    ensures { IfOk result (λ r. r ≡ required_of tag.now (R.reading reader.now) (option_map (λ p. (p.0, p.1.now)) found.entry)) }
+    ensures { IfOk result (λ r. r ≡ required_of tag.now (R.reading reader.now)
+        (option_map (λ p. (p.0, p.1.now)) found.entry)) }
 {
     match found {
         None => Ok(Err(missing(alloc, tag)?)),
@@ -103,7 +104,8 @@ pub(crate) fn choice<R: Reader, S: Reader<Value = R::Value>>(
     other: &str,
     other_reader: &S,
 ) -> Result<Reading<R::Value>, NoMemory>
-    ensures { IfOk result (λ r. r ≡ choice tag.now (R.reading reader.now) other.now (S.reading other_reader.now) element.now) }
+    ensures { IfOk result (λ r. r ≡ choice tag.now (R.reading reader.now) other.now
+        (S.reading other_reader.now) element.now) }
 {
     if let Some((i, found)) = kid(element, tag) {
         return in_kid(i, reader.read(alloc, found)?);

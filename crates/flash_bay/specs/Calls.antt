@@ -63,6 +63,8 @@ ended_as r u NoMemory = outcome.NoMemory
 
 -- ------ one event, one call of the link
 -- the unit's next request was sent, or that failed
-pub record SendsRequest {S : Type 0} (tells_vehicle : Bool) (history : S → History) (u : ℕ) (old : BayState S) (lost : Bool) (new : BayState S) : Type 0 where
+pub record SendsRequest {S : Type 0} (tells_vehicle : Bool) (history : S → History) (u : ℕ) (old : BayState S)
+    (lost : Bool) (new : BayState S) : Type 0 where
   pub step : Steps (Sent u ((core_of_run old.run).slots u).talk.number lost) old new
-  pub call : SendsOnce tells_vehicle (request_frame old.run.rules old.run.plan (core_of_run old.run) u) (history old.shop) (history new.shop) lost
+  pub call : SendsOnce tells_vehicle (request_frame old.run.rules old.run.plan (core_of_run old.run) u)
+      (history old.shop) (history new.shop) lost

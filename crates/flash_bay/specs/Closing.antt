@@ -19,7 +19,8 @@ NoneClaimed r = (n : ℕ) → may_take r (Claimed n) ≡ false
 
 -- Each unit without outcome got what was left for it, by an event and with no call of the shop. The board has the outcomes of the
 -- last run, of which all is said that a bay says.
-pub record Closes {S : Type 0} (tells_disk tells_vehicle : Bool) (history : S → History) (old : BayState S) (shop : S) (board : List Post) : Type 0 where
+pub record Closes {S : Type 0} (tells_disk tells_vehicle : Bool) (history : S → History) (old : BayState S)
+    (shop : S) (board : List Post) : Type 0 where
   pub run : RunState
   pub finishes : Finishes old.run run
   pub ended : AllEnded run

@@ -32,32 +32,41 @@ differs None m = false
 
 -- the losses before and after, whether nothing came, and whether the unit waits for something else
 abbrev pub collected_by : ℕ → ℕ → Bool → Bool → answer.Collected
-collected_by before after quiet word = if nat_lt before after then says.Lost else if quiet then says.NotYet why.Quiet else if word then says.Heard else says.NotYet why.Others
+collected_by before after quiet word =
+    if nat_lt before after then says.Lost else if quiet then says.NotYet why.Quiet else if word
+    then says.Heard else says.NotYet why.Others
 
 -- ------ what it has brought for a unit
 -- with these bytes a message of the unit is whole
 abbrev pub brings_message : LinkRules → List UnitPlan → ℕ → List ℕ → Link → Bool
-brings_message rules P u bytes l = is_some (first_message (plan_of P u).address (heard_link rules P (heard.Piece bytes) l).inbox)
+brings_message rules P u bytes l =
+    is_some (first_message (plan_of P u).address (heard_link rules P (heard.Piece bytes) l).inbox)
 
 -- where the link was not lost
 abbrev pub looked_for : LinkRules → List UnitPlan → ℕ → Heard → Link → answer.Collected
 looked_for rules P u heard.Kept l = says.Heard
 looked_for rules P u heard.Quiet l = says.NotYet why.Quiet
-looked_for rules P u (heard.Piece bytes) l = if brings_message rules P u bytes l then says.Heard else says.NotYet why.Others
+looked_for rules P u (heard.Piece bytes) l =
+    if brings_message rules P u bytes l then says.Heard else says.NotYet why.Others
 looked_for rules P u heard.Lost l = says.Lost
 
 abbrev pub collected_as : LinkRules → List UnitPlan → ℕ → Heard → Link → answer.Collected
-collected_as rules P u h l = if nat_lt l.losses (link_after rules P (event.Collected u h) l).losses then says.Lost else looked_for rules P u h l
+collected_as rules P u h l = if nat_lt l.losses (link_after rules P (event.Collected u h) l).losses
+    then says.Lost else looked_for rules P u h l
 
 -- ------ the call
 -- a message that is in the inbox asks for none
 abbrev pub LooksOnce : {S : Type 0} → Bool → (S → History) → Heard → S → S → Type 0
 LooksOnce tells_vehicle history heard.Kept old new = new ≡ old
-LooksOnce tells_vehicle history heard.Quiet old new = HearsOnce tells_vehicle (history old) (history new) heard.Quiet
-LooksOnce tells_vehicle history (heard.Piece bytes) old new = HearsOnce tells_vehicle (history old) (history new) (heard.Piece bytes)
-LooksOnce tells_vehicle history heard.Lost old new = HearsOnce tells_vehicle (history old) (history new) heard.Lost
+LooksOnce tells_vehicle history heard.Quiet old new =
+    HearsOnce tells_vehicle (history old) (history new) heard.Quiet
+LooksOnce tells_vehicle history (heard.Piece bytes) old new =
+    HearsOnce tells_vehicle (history old) (history new) (heard.Piece bytes)
+LooksOnce tells_vehicle history heard.Lost old new =
+    HearsOnce tells_vehicle (history old) (history new) heard.Lost
 
-pub record Collects {S : Type 0} (tells_vehicle : Bool) (history : S → History) (u : ℕ) (old : BayState S) (said : answer.Collected) (new : BayState S) : Type 0 where
+pub record Collects {S : Type 0} (tells_vehicle : Bool) (history : S → History) (u : ℕ) (old : BayState S)
+    (said : answer.Collected) (new : BayState S) : Type 0 where
   pub heard_is : Heard
   pub adds : Steps (event.Collected u heard_is) old new
   pub call : LooksOnce tells_vehicle history heard_is old.shop new.shop

@@ -37,8 +37,10 @@ is_tending r = not (is_stopped r) && not (is_linked (core_of_run r))
 -- the call of each step
 abbrev pub LinkStep : Bool → LinkRules → Tend → History → History → Type 0
 LinkStep tells_vehicle rules (Dialed lost) old new = RedialsOnce tells_vehicle old new lost
-LinkStep tells_vehicle rules (Asked lost) old new = SendsOnce tells_vehicle (activate_bytes rules.tester) old new lost
-LinkStep tells_vehicle rules (Said lost) old new = SendsOnce tells_vehicle (alive_say_bytes rules.tester) old new lost
+LinkStep tells_vehicle rules (Asked lost) old new =
+    SendsOnce tells_vehicle (activate_bytes rules.tester) old new lost
+LinkStep tells_vehicle rules (Said lost) old new =
+    SendsOnce tells_vehicle (alive_say_bytes rules.tester) old new lost
 LinkStep tells_vehicle rules (Polled h) old new = HearsOnce tells_vehicle old new h
 
 -- of a link that was not lost
@@ -52,10 +54,12 @@ tended_at (phase.Refused code) = says.Refused code
 -- what a step has brought, where the link was lost so often before
 abbrev pub tended_by : LinkRules → ℕ → Core → answer.Tended
 tended_by rules before c =
-    if nat_lt before c.link.losses then (if nat_lt rules.relinks c.link.losses then says.Spent c.link.losses else says.Lost)
+    if nat_lt before c.link.losses then
+    (if nat_lt rules.relinks c.link.losses then says.Spent c.link.losses else says.Lost)
     else tended_at c.link.phase
 
-pub record Tends {S : Type 0} (tells_vehicle : Bool) (history : S → History) (old : BayState S) (said : answer.Tended) (new : BayState S) : Type 0 where
+pub record Tends {S : Type 0} (tells_vehicle : Bool) (history : S → History) (old : BayState S)
+    (said : answer.Tended) (new : BayState S) : Type 0 where
   pub step : Tend
   pub adds : Steps (Tended step) old new
   pub call : LinkStep tells_vehicle old.run.rules step (history old.shop) (history new.shop)
@@ -63,7 +67,8 @@ pub record Tends {S : Type 0} (tells_vehicle : Bool) (history : S → History) (
 
 -- ------ want of memory in a call that may receive
 -- No event was made and the bay is stopped; no call was made, or one receive. No room is given away.
-pub record Starves {S : Type 0} (tells_vehicle : Bool) (history : S → History) (old new : BayState S) : Type 0 where
+pub record Starves {S : Type 0} (tells_vehicle : Bool) (history : S → History)
+    (old new : BayState S) : Type 0 where
   pub run : new.run ≡ record old.run { starved = true; room = new.run.room }
   pub room : old.run.room ≤ new.run.room
   pub first : new.first ≡ old.first

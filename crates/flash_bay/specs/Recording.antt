@@ -64,7 +64,9 @@ pub record RecordsOne {S : Type 0} (history : S → History) (e : Event) (old ne
   pub first : new.first ≡ old.first
   pub disk : CallsDisk history old new
 
-abbrev pub HasCompleted : {S : Type 0} → (S → History) → ℕ → BayState S → Result Unit DiskFault → BayState S → Type 0
+abbrev pub HasCompleted : {S : Type 0} → (S → History) → ℕ → BayState S → Result Unit DiskFault → BayState S
+    → Type 0
 HasCompleted history u old (Ok x) new = RecordsOne history (Completed u) old new
 HasCompleted history u old (Err fault) new =
-    RecordsOne history (DiskFailed u (Complete u)) old new × Rises (history old.shop).disk_faults (history new.shop).disk_faults
+    RecordsOne history (DiskFailed u (Complete u)) old new
+    × Rises (history old.shop).disk_faults (history new.shop).disk_faults

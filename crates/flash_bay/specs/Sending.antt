@@ -22,9 +22,12 @@ pub record IsReadyFor (r : RunState) (u : ℕ) (ready : ReadyState) : Type 0 whe
   pub unit : ready.unit ≡ plan_of r.plan u
 
 -- It was sent in one call, or that failed; or the unit stands elsewhere than it was made for, and nothing was called.
-abbrev pub SendsReady : {S : Type 0} → Bool → (S → History) → ℕ → ReadyState → BayState S → answer.SentReady → BayState S → Type 0
-SendsReady tells_vehicle history u ready old Sent new = (ready.spot ≡ spot_in old.run u) × SendsRequest tells_vehicle history u old false new
-SendsReady tells_vehicle history u ready old Lost new = (ready.spot ≡ spot_in old.run u) × SendsRequest tells_vehicle history u old true new
+abbrev pub SendsReady : {S : Type 0} → Bool → (S → History) → ℕ → ReadyState → BayState S → answer.SentReady
+    → BayState S → Type 0
+SendsReady tells_vehicle history u ready old Sent new = (ready.spot ≡ spot_in old.run u)
+    × SendsRequest tells_vehicle history u old false new
+SendsReady tells_vehicle history u ready old Lost new = (ready.spot ≡ spot_in old.run u)
+    × SendsRequest tells_vehicle history u old true new
 SendsReady tells_vehicle history u ready old Stale new = (ready.spot ≢ spot_in old.run u) × (new ≡ old)
 
 abbrev pub sent_as : Bool → answer.SentReady

@@ -20,4 +20,5 @@ state_of j = record { label = journal_label j; has = has_entry j; live = is_live
 
 -- a run with its journal, from the history at the opening to the present one
 abbrev pub IsBayOf : Bool → Bool → RunState → History → History → Journal → Type 0
-IsBayOf tells_disk tells_vehicle r first now j = IsBay tells_disk tells_vehicle r first now (state_of j) (IsKeptOn j)
+IsBayOf tells_disk tells_vehicle r first now j =
+    IsBay tells_disk tells_vehicle r first now (state_of j) (IsKeptOn j)

@@ -40,7 +40,8 @@ impl<S: Shop> Model for Bay<S> {
 
     ghost view = { λ b. record { run = b.run; first = b.first.value; shop = b.shop; slots = room_of b.journal } };
 
-    ghost invariant = { λ b. IsBayOf S.tells_disk S.tells_vehicle b.run (S.history b.first.value) (S.history b.shop) b.journal };
+    ghost invariant = { λ b. IsBayOf S.tells_disk S.tells_vehicle b.run (S.history b.first.value)
+        (S.history b.shop) b.journal };
 }
 
 /// What a bay began with: its plan and rules, the entries that its journal had, and the shop. No value of it is
@@ -102,7 +103,8 @@ impl<S: Shop> Bay<S> {
     /// complete unit is recorded so in each image; each outcome has its cause; a complete unit that heard anything
     /// holds its image; and a run without troubles completes each unit that matches.
     pub fn says(&self)
-        ensures { Says S.tells_disk S.tells_vehicle self.now.run (S.history self.now.first) (S.history self.now.shop) }
+        ensures { Says S.tells_disk S.tells_vehicle self.now.run (S.history self.now.first)
+            (S.history self.now.shop) }
     {
         self.run.is_kept();
     }

@@ -69,7 +69,8 @@ impl<S: Shop> Bay<S> {
         requires within { unit < count_of plan.now }
         requires due { need_of self.old.run unit ≡ need.Send }
         requires ready { IsReadyFor self.old.run unit ready.now }
-        ensures ok { IfOk result (λ said. SendsReady S.tells_vehicle S.history unit ready.now self.old said self.new) }
+        ensures ok { IfOk result (λ said. SendsReady S.tells_vehicle S.history unit ready.now self.old said
+            self.new) }
         ensures memory { IfErr result (λ _. self.new ≡ self.old) }
     {
         self.run.is_kept();

@@ -26,7 +26,8 @@ fn segment_count(plan: &Plan, unit: u16) -> u16
 
 /// Puts the entry into the list, where the journal has it.
 fn list_one(all: &mut Entries, journal: &Journal, entry: Entry) -> Result<(), NoMemory>
-    ensures { OnOk result ((x : AnEntry) → is_found all.new x ≡ (is_found all.old x || (same_entry x entry && has_entry journal.now entry))) }
+    ensures { OnOk result ((x : AnEntry)
+        → is_found all.new x ≡ (is_found all.old x || (same_entry x entry && has_entry journal.now entry))) }
 {
     if journal.has(entry) {
         all.push(entry)?;

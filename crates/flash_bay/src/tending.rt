@@ -86,7 +86,8 @@ fn note_polled(run: &mut Run, plan: &Plan, heard: Heard) -> Result<(), NoMemory>
     requires plan { plan.now ≡ run.old.plan }
     requires fed { run.old.starved ≡ false }
     requires allowed { may_take run.old (event.Tended (step.Polled heard)) ≡ true }
-    requires room { left_in run.old.plan (core_after run.old.rules run.old.plan (event.Tended (step.Polled heard))
+    requires room { left_in run.old.plan
+        (core_after run.old.rules run.old.plan (event.Tended (step.Polled heard))
         (core_of_run run.old)) + 1 ≤ run.old.room }
     requires spare { left_in run.old.plan (core_of_run run.old) + 1 ≤ run.old.room }
     ensures ok { OnOk result (run.new ≡ with_event (event.Tended (step.Polled heard)) run.old) }

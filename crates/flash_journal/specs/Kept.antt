@@ -48,7 +48,8 @@ pub record IsKeptOn (j : Journal) (disk : DiskState) : Type 0 where
   pub records : Records (journal_label j) (has_entry j) disk.bytes
   pub each : (image : List ℕ) → IsCrashImage disk image → Records (journal_label j) (has_entry j) image
   pub form : form_of (journal_label j) disk.bytes ≡ journal_form j
-  pub gates : (k : ℕ) → k < slots_of (journal_form j) → is_open (journal_form j) disk.bytes k ≡ get_or j.gates.items k false
+  pub gates : (k : ℕ) → k < slots_of (journal_form j)
+      → is_open (journal_form j) disk.bytes k ≡ get_or j.gates.items k false
 
 -- the same journal with one entry more
 pub record HasOneMore (old new : Journal) (e : Entry) : Type 0 where
@@ -77,4 +78,5 @@ room_of j = closed_run (drop (first_closed j) j.gates.items)
 
 -- the four calls of an append, from the lowest slot on whose gate is closed
 abbrev pub AppendsInOrder : Journal → List Entry → History → History → Type 0
-AppendsInOrder j es old new = MadeCalls old new (append_calls (journal_form j) (first_closed j) (bodies_of es) (replicate (length es) 165))
+AppendsInOrder j es old new = MadeCalls old new
+    (append_calls (journal_form j) (first_closed j) (bodies_of es) (replicate (length es) 165))

@@ -31,7 +31,8 @@ IsLookAnswer P bytes (Ok es) = Lists P bytes es
 IsLookAnswer P bytes (Err fault) = Refuses P bytes fault
 
 -- the bytes that were read decide on the answer: where the disk is told, they are the first of the image
-pub record IsAnswerOfRead (tells : Bool) (P : Label) (image : List ℕ) (r : Result (List Entry) OpenFault) : Type 0 where
+pub record IsAnswerOfRead (tells : Bool) (P : Label) (image : List ℕ)
+    (r : Result (List Entry) OpenFault) : Type 0 where
   pub bytes : List ℕ
   pub front : IsTrue tells → IsFront (limit_of P) image bytes
   pub answer : IsLookAnswer P bytes r

@@ -30,7 +30,8 @@ pub record AreNoted (old new : Journal) (slot : ℕ) (es : List Entry) : Type 0 
   pub same : IsSameButTables old new
   pub size : length new.gates.items ≡ length old.gates.items
   pub opened : (k : ℕ) → slot ≤ k → k < slot + length es → get_or new.gates.items k false ≡ true
-  pub others : (k : ℕ) → (k < slot) ⊎ (slot + length es ≤ k) → get_or new.gates.items k false ≡ get_or old.gates.items k false
+  pub others : (k : ℕ) → (k < slot) ⊎ (slot + length es ≤ k)
+      → get_or new.gates.items k false ≡ get_or old.gates.items k false
   pub entries : (x : Entry) → has_entry new x ≡ with_entries es (has_entry old) x
 
 -- a run of closed slots for these entries

@@ -13,7 +13,8 @@ use Rattle.flash_journal.specs.Layouts.{layout_form, version_seen}
 
 -- the entry of a kind; a kind that is no entry's is read as 02
 abbrev pub entry_like : ℕ → ℕ → ℕ → Entry
-entry_like kind unit segment = if kind == 1 then Begun unit else (if kind == 3 then Marked unit segment else Complete unit)
+entry_like kind unit segment =
+    if kind == 1 then Begun unit else (if kind == 3 then Marked unit segment else Complete unit)
 
 -- what the tables hold of all slots
 pub record HasSlots (F : Form) (bytes : List ℕ) (t : Tables) : Type 0 where
@@ -47,10 +48,12 @@ AreStanding P bytes (Some r) = (is_standing P bytes ≡ true) × IsReading P byt
 
 -- the tests in order: of the header, of the digest, of the slots
 abbrev pub IsNotJournal : Label → List ℕ → Type 0
-IsNotJournal P bytes = (is_fresh bytes ≡ false) × ((is_headed bytes ≡ false) ⊎ (says_digest P bytes 0 ≡ true) × (is_standing P bytes ≡ false))
+IsNotJournal P bytes = (is_fresh bytes ≡ false)
+    × ((is_headed bytes ≡ false) ⊎ (says_digest P bytes 0 ≡ true) × (is_standing P bytes ≡ false))
 
 abbrev pub IsOtherPlan : Label → List ℕ → List ℕ → Type 0
-IsOtherPlan P bytes said = (is_fresh bytes ≡ false) × (is_headed bytes ≡ true) × (says_digest P bytes 0 ≡ false) × (stands_at bytes 16 32 said ≡ true)
+IsOtherPlan P bytes said = (is_fresh bytes ≡ false) × (is_headed bytes ≡ true)
+    × (says_digest P bytes 0 ≡ false) × (stands_at bytes 16 32 said ≡ true)
 
 abbrev pub IsVerdict : Label → List ℕ → Verdict → Type 0
 IsVerdict P bytes Fresh = is_fresh bytes ≡ true

@@ -142,10 +142,12 @@ impl Journal {
         ensures any_moment { IsTrue S.tells_disk → HoldsOnDisk (S.history shop.old) (S.history shop.new)
             (AddsSomeOf (journal_label self.old) (has_entry self.old) entries.now) }
         ensures calls { OnOk result (MadeCalls (S.history shop.old) (S.history shop.new)
-            (append_calls (journal_form self.old) slot (bodies_of entries.now) (replicate (length entries.now) 165))) }
+            (append_calls (journal_form self.old) slot (bodies_of entries.now)
+            (replicate (length entries.now) 165))) }
         ensures few { (S.history shop.new).moment ≤ (S.history shop.old).moment + 4 }
         ensures err { OnErr result (IsClosed self.old self.new) }
-        ensures fault { IsErr result → Rises (S.history shop.old).disk_faults (S.history shop.new).disk_faults }
+        ensures fault { IsErr result → Rises (S.history shop.old).disk_faults
+            (S.history shop.new).disk_faults }
         ensures later { IsDiskLater (S.history shop.old) (S.history shop.new) }
     {
         let bodies = bodies_of(entries);
@@ -200,7 +202,8 @@ impl Journal {
             AppendsInOrder self.old (take n entries.now) (S.history shop.old) (S.history shop.new)) }
         ensures few { (S.history shop.new).moment ≤ (S.history shop.old).moment + 4 }
         ensures err { OnErr result (IsClosed self.old self.new) }
-        ensures fault { IsErr result → Rises (S.history shop.old).disk_faults (S.history shop.new).disk_faults }
+        ensures fault { IsErr result → Rises (S.history shop.old).disk_faults
+            (S.history shop.new).disk_faults }
         ensures later { IsDiskLater (S.history shop.old) (S.history shop.new) }
     {
         let slot = open_run(&self.gates);
@@ -235,7 +238,8 @@ impl Journal {
             (AppendsInOrder self.old (entry ∷ []) (S.history shop.old) (S.history shop.new)) }
         ensures few { (S.history shop.new).moment ≤ (S.history shop.old).moment + 4 }
         ensures err { OnErr result (IsClosed self.old self.new) }
-        ensures fault { IsErr result → Rises (S.history shop.old).disk_faults (S.history shop.new).disk_faults }
+        ensures fault { IsErr result → Rises (S.history shop.old).disk_faults
+            (S.history shop.new).disk_faults }
         ensures later { IsDiskLater (S.history shop.old) (S.history shop.new) }
     {
         match self.append_group(shop, &[entry]) {

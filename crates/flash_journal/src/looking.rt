@@ -32,7 +32,8 @@ pub enum OpenFault {
 /// read and not migrated.
 pub fn look<S: Shop>(alloc: Global, shop: &mut S, plan: &Plan) -> Result<Entries, OpenFault>
     // The entries are the records of what a read gives; a refusal is answered exactly where the tests find it.
-    ensures answer { IsTrue S.tells_disk → IsLookAnswer (label_of plan.now) (disk_now (S.history shop.old)).bytes result }
+    ensures answer { IsTrue S.tells_disk
+        → IsLookAnswer (label_of plan.now) (disk_now (S.history shop.old)).bytes result }
     ensures read { CameOfRead S.tells_disk (label_of plan.now) (disk_now (S.history shop.old)).bytes result }
     ensures other { IfErr result (SaysOther (label_of plan.now).digest) }
     ensures cause { IfErr result (HasCause (S.history shop.old) (S.history shop.new)) }

@@ -51,9 +51,11 @@ fn clear_first<S: Shop>(shop: &mut S) -> Result<(), DeviceFault>
 // Writes the rest of the file from a place on, and then opens the header's gate.
 fn fill<S: Shop>(shop: &mut S, start: u64, rest: &[u8]) -> Result<(), DeviceFault>
     requires { IsTrue S.tells_disk → start ≤ length (disk_now (S.history shop.old)).bytes }
-    ensures any_moment { IsTrue S.tells_disk → (P : Label) → CanMake P (disk_now (S.history shop.old)) start rest.now
+    ensures any_moment { IsTrue S.tells_disk → (P : Label)
+        → CanMake P (disk_now (S.history shop.old)) start rest.now
         → HoldsOnDisk (S.history shop.old) (S.history shop.new) (Starts P) }
-    ensures made { OnOk result (IsTrue S.tells_disk → (P : Label) → CanMake P (disk_now (S.history shop.old)) start rest.now
+    ensures made { OnOk result (IsTrue S.tells_disk → (P : Label)
+        → CanMake P (disk_now (S.history shop.old)) start rest.now
         → IsNew P (disk_now (S.history shop.new))) }
     ensures fault { IsErr result → Rises (S.history shop.old).disk_faults (S.history shop.new).disk_faults }
     ensures later { IsDiskLater (S.history shop.old) (S.history shop.new) }
@@ -79,9 +81,11 @@ pub fn make_file<S: Shop>(shop: &mut S, way: Way, file: &[u8]) -> Result<(), Dev
     requires settled { IsTrue S.tells_disk → IsSettled (disk_now (S.history shop.old)) }
 
     // At each moment each image is a file that is not made yet, or a journal without entries.
-    ensures any_moment { IsTrue S.tells_disk → (P : Label) → CanStart P (disk_now (S.history shop.old)) file.now
+    ensures any_moment { IsTrue S.tells_disk → (P : Label)
+        → CanStart P (disk_now (S.history shop.old)) file.now
         → HoldsOnDisk (S.history shop.old) (S.history shop.new) (Starts P) }
-    ensures made { OnOk result (IsTrue S.tells_disk → (P : Label) → CanStart P (disk_now (S.history shop.old)) file.now
+    ensures made { OnOk result (IsTrue S.tells_disk → (P : Label)
+        → CanStart P (disk_now (S.history shop.old)) file.now
         → IsNew P (disk_now (S.history shop.new))) }
     ensures fault { IsErr result → Rises (S.history shop.old).disk_faults (S.history shop.new).disk_faults }
     ensures later { IsDiskLater (S.history shop.old) (S.history shop.new) }

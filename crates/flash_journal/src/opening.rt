@@ -32,11 +32,13 @@ fn make_journal<S: Shop>(
 ) -> Result<Journal, OpenFault>
     requires fresh { is_fresh front.now ≡ true }
     requires settled { IsTrue S.tells_disk → IsSettled (disk_now (S.history shop.old)) }
-    requires front { IsTrue S.tells_disk → IsFront (limit_of (label_of plan.now)) (disk_now (S.history shop.old)).bytes front.now }
+    requires front { IsTrue S.tells_disk
+        → IsFront (limit_of (label_of plan.now)) (disk_now (S.history shop.old)).bytes front.now }
     ensures of { IfOk result (IsOf (label_of plan.now)) }
     ensures none { IfOk result IsEmpty }
     ensures kept { IfOk result (λ j. IsTrue S.tells_disk → IsKeptOn j (disk_now (S.history shop.new))) }
-    ensures any_moment { IsTrue S.tells_disk → HoldsOnDisk (S.history shop.old) (S.history shop.new) (Starts (label_of plan.now)) }
+    ensures any_moment { IsTrue S.tells_disk
+        → HoldsOnDisk (S.history shop.old) (S.history shop.new) (Starts (label_of plan.now)) }
     ensures want { IfErr result IsWant }
     ensures untouched { OnRefusal result (SameDisk (S.history shop.old) (S.history shop.new)) }
     ensures cause { IfErr result (HasCause (S.history shop.old) (S.history shop.new)) }
@@ -68,11 +70,13 @@ fn migrate<S: Shop>(
     requires journal { is_journal (label_of plan.now) front.now ≡ true }
     requires reading { IsReading (label_of plan.now) front.now reading }
     requires settled { IsTrue S.tells_disk → IsSettled (disk_now (S.history shop.old)) }
-    requires front { IsTrue S.tells_disk → IsFront (limit_of (label_of plan.now)) (disk_now (S.history shop.old)).bytes front.now }
+    requires front { IsTrue S.tells_disk
+        → IsFront (limit_of (label_of plan.now)) (disk_now (S.history shop.old)).bytes front.now }
     ensures of { IfOk result (IsOf (label_of plan.now)) }
     ensures ordered { IfOk result IsOrdered }
     ensures opened { IfOk result (λ j. IsTrue S.tells_disk
-        → IsOpened (label_of plan.now) (disk_now (S.history shop.old)).bytes j (disk_now (S.history shop.new))) }
+        → IsOpened (label_of plan.now) (disk_now (S.history shop.old)).bytes j
+        (disk_now (S.history shop.new))) }
     ensures any_moment { IsTrue S.tells_disk → HoldsOnDisk (S.history shop.old) (S.history shop.new)
         (AllFollow (label_of plan.now) (disk_now (S.history shop.old))) }
     ensures want { IfErr result IsWant }
@@ -129,11 +133,13 @@ fn take_up<S: Shop>(
     requires journal { is_journal (label_of plan.now) front.now ≡ true }
     requires reading { IsReading (label_of plan.now) front.now reading }
     requires settled { IsTrue S.tells_disk → IsSettled (disk_now (S.history shop.old)) }
-    requires front { IsTrue S.tells_disk → IsFront (limit_of (label_of plan.now)) (disk_now (S.history shop.old)).bytes front.now }
+    requires front { IsTrue S.tells_disk
+        → IsFront (limit_of (label_of plan.now)) (disk_now (S.history shop.old)).bytes front.now }
     ensures of { IfOk result (IsOf (label_of plan.now)) }
     ensures ordered { IfOk result IsOrdered }
     ensures opened { IfOk result (λ j. IsTrue S.tells_disk
-        → IsOpened (label_of plan.now) (disk_now (S.history shop.old)).bytes j (disk_now (S.history shop.new))) }
+        → IsOpened (label_of plan.now) (disk_now (S.history shop.old)).bytes j
+        (disk_now (S.history shop.new))) }
     ensures any_moment { IsTrue S.tells_disk → HoldsOnDisk (S.history shop.old) (S.history shop.new)
         (AllFollow (label_of plan.now) (disk_now (S.history shop.old))) }
     ensures want { IfErr result IsWant }
@@ -152,7 +158,8 @@ fn open_synced<S: Shop>(alloc: Global, shop: &mut S, plan: &Plan) -> Result<Jour
     requires { IsTrue S.tells_disk → IsSettled (disk_now (S.history shop.old)) }
     ensures of { IfOk result (IsOf (label_of plan.now)) }
     ensures ordered { IfOk result IsOrdered }
-    ensures answer { IsTrue S.tells_disk → OpenAnswer (label_of plan.now) (disk_now (S.history shop.old)).bytes result
+    ensures answer { IsTrue S.tells_disk
+        → OpenAnswer (label_of plan.now) (disk_now (S.history shop.old)).bytes result
         (disk_now (S.history shop.new)) }
     ensures any_moment { IsTrue S.tells_disk → HoldsOnDisk (S.history shop.old) (S.history shop.new)
         (AllFollow (label_of plan.now) (disk_now (S.history shop.old))) }
@@ -188,7 +195,8 @@ impl Journal {
 
         // The journal has the entries of what a read gave, and so has each image from now on. A refusal is
         // answered exactly where the tests find it.
-        ensures answer { IsTrue S.tells_disk → OpenAnswer (label_of plan.now) (disk_now (S.history shop.old)).bytes result
+        ensures answer { IsTrue S.tells_disk
+            → OpenAnswer (label_of plan.now) (disk_now (S.history shop.old)).bytes result
             (disk_now (S.history shop.new)) }
 
         // At each moment each image has the entries of some image at the start, and can be opened if that one
@@ -198,7 +206,8 @@ impl Journal {
 
         // Nothing is written to a file that is refused, nor where memory is wanting.
         ensures untouched { IsTrue S.tells_disk → OnRefusal result
-            (HoldsOnDisk (S.history shop.old) (S.history shop.new) (HasBytes (disk_now (S.history shop.old)).bytes)) }
+            (HoldsOnDisk (S.history shop.old) (S.history shop.new)
+            (HasBytes (disk_now (S.history shop.old)).bytes)) }
         ensures other { IfErr result (SaysOther (label_of plan.now).digest) }
         ensures cause { IfErr result (HasCause (S.history shop.old) (S.history shop.new)) }
         ensures later { IsDiskLater (S.history shop.old) (S.history shop.new) }

@@ -17,7 +17,8 @@ pub enum ReadFault {
 
 /// Reads the beginning of the file in one read, up to `limit` bytes.
 pub fn read_front<S: Shop>(alloc: Global, shop: &mut S, limit: u64) -> Result<Vec<u8>, ReadFault>
-    ensures bytes { IfOk result (λ v. IsTrue S.tells_disk → IsFront limit (disk_now (S.history shop.old)).bytes v.items) }
+    ensures bytes { IfOk result (λ v. IsTrue S.tells_disk
+        → IsFront limit (disk_now (S.history shop.old)).bytes v.items) }
     ensures disk { disk_now (S.history shop.new) ≡ disk_now (S.history shop.old) }
     ensures same { SameDisk (S.history shop.old) (S.history shop.new) }
     ensures later { IsDiskLater (S.history shop.old) (S.history shop.new) }

@@ -26,10 +26,13 @@ pub fn append_run<S: Shop>(
 
     // At each moment, each image records what was recorded, and some of the group.
     ensures any_moment { IsTrue S.tells_disk → (P : Label) (R : AnEntry → Bool) (at : ℕ → AnEntry) (m : ℕ)
-        → CanAppendGroup P (layout_form layout.now) R (disk_now (S.history shop.old)) slot at m bodies.now gates.now
+        → CanAppendGroup P (layout_form layout.now) R
+        (disk_now (S.history shop.old)) slot at m bodies.now gates.now
         → HoldsOnDisk (S.history shop.old) (S.history shop.new) (AddsSome P R at m) }
-    ensures added { OnOk result (IsTrue S.tells_disk → (P : Label) (R : AnEntry → Bool) (at : ℕ → AnEntry) (m : ℕ)
-        → CanAppendGroup P (layout_form layout.now) R (disk_now (S.history shop.old)) slot at m bodies.now gates.now
+    ensures added { OnOk result (IsTrue S.tells_disk
+        → (P : Label) (R : AnEntry → Bool) (at : ℕ → AnEntry) (m : ℕ)
+        → CanAppendGroup P (layout_form layout.now) R
+        (disk_now (S.history shop.old)) slot at m bodies.now gates.now
         → HasAddedGroup P (layout_form layout.now) R (disk_now (S.history shop.old)).bytes slot at m
         (disk_now (S.history shop.new))) }
     ensures calls { OnOk result (MadeCalls (S.history shop.old) (S.history shop.new)

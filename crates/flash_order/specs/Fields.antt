@@ -92,7 +92,8 @@ abbrev pub width_digit : ℕ → ℕ → Option ℕ
 width_digit last c = only_if (nat_le 49 c && nat_le c last) (c - 48)
 
 abbrev pub width_text : List ℕ → Option Width
-width_text (s ∷ a ∷ []) = width_digit 52 s >=> λ size. width_digit 53 a >=> λ at. Some (record { size = size; at = at })
+width_text (s ∷ a ∷ []) =
+    width_digit 52 s >=> λ size. width_digit 53 a >=> λ at. Some (record { size = size; at = at })
 width_text _ = None
 
 -- two digits: the bytes of a size, 1 to 4, and of an address, 1 to 5

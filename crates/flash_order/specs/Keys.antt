@@ -14,7 +14,8 @@ level d = get (codes "level") d >=> one_byte >=> λ n. only_if (n % 2 == 1 && na
 
 -- at least one byte, and at most so many
 abbrev pub some_bytes : ℕ → Data → Option (List ℕ)
-some_bytes most d = as_str d >=> bytes_text >=> λ bytes. only_if (nat_le 1 (length bytes) && nat_le (length bytes) most) bytes
+some_bytes most d =
+    as_str d >=> bytes_text >=> λ bytes. only_if (nat_le 1 (length bytes) && nat_le (length bytes) most) bytes
 
 -- how many bytes of a digest are the key
 abbrev pub key_length : Data → Option ℕ
@@ -25,11 +26,13 @@ free_rule d = only_if (has_members 1 d) Free
 
 abbrev pub xor_rule : Data → Option KeyRule
 xor_rule d =
-    if has_members 3 d then (level d >=> λ l. get (codes "mask") d >=> some_bytes 32 >=> λ mask. Some (Xor l mask)) else None
+    if has_members 3 d then (level d >=> λ l. get (codes "mask") d >=> some_bytes 32
+    >=> λ mask. Some (Xor l mask)) else None
 
 abbrev pub digest_rule : Data → Option KeyRule
 digest_rule d =
-    if has_members 4 d then (level d >=> λ l. key_length d >=> λ n. get (codes "secret") d >=> some_bytes 64 >=> λ secret. Some (Digest l n secret)) else None
+    if has_members 4 d then (level d >=> λ l. key_length d >=> λ n. get (codes "secret") d >=> some_bytes 64
+    >=> λ secret. Some (Digest l n secret)) else None
 
 abbrev pub rule_named : List ℕ → Data → Option KeyRule
 rule_named name d =

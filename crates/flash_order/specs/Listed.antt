@@ -5,16 +5,19 @@ use Rattle.serde_json.specs.Find.{as_object}
 
 abbrev pub is_order_member : List ℕ → Bool
 is_order_member name =
-    bytes_eq name (codes "tester") || bytes_eq name (codes "relinks") || bytes_eq name (codes "catalogue") || bytes_eq name (codes "tasks")
+    bytes_eq name (codes "tester") || bytes_eq name (codes "relinks") || bytes_eq name (codes "catalogue")
+    || bytes_eq name (codes "tasks")
 
 abbrev pub is_task_head : List ℕ → Bool
 is_task_head name =
-    bytes_eq name (codes "name") || bytes_eq name (codes "unit") || bytes_eq name (codes "width") || bytes_eq name (codes "check")
+    bytes_eq name (codes "name") || bytes_eq name (codes "unit") || bytes_eq name (codes "width")
+    || bytes_eq name (codes "check")
     || bytes_eq name (codes "key") || bytes_eq name (codes "after")
 
 abbrev pub is_source_member : List ℕ → Bool
 is_source_member name =
-    bytes_eq name (codes "raw") || bytes_eq name (codes "session") || bytes_eq name (codes "at") || bytes_eq name (codes "idents")
+    bytes_eq name (codes "raw") || bytes_eq name (codes "session") || bytes_eq name (codes "at")
+    || bytes_eq name (codes "idents")
     || bytes_eq name (codes "dids") || bytes_eq name (codes "fill")
 
 abbrev pub is_task_member : List ℕ → Bool

@@ -26,7 +26,8 @@ values d = as_array d >=> each_of value >=> λ vs. only_if (nat_le 1 (length vs)
 
 abbrev pub wanted : Data → Option Wanted
 wanted d =
-    if has_members 2 d then (get (codes "did") d >=> address >=> λ did. get (codes "values") d >=> values >=> λ vs. Some (record { did = did; values = vs })) else None
+    if has_members 2 d then (get (codes "did") d >=> address >=> λ did. get (codes "values") d >=> values
+    >=> λ vs. Some (record { did = did; values = vs })) else None
 
 -- identifiers with the values that are expected
 abbrev pub idents : Data → Option (List Wanted)

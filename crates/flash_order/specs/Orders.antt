@@ -33,7 +33,16 @@ task d =
     chosen (codes "key") Free key_rule d >>= λ key.
     source d >>= λ source.
     chosen (codes "after") [] names d >>= λ after.
-    unless_strange (stranger_in is_task_member d) (record { name = name; unit = unit; width = width; check = check; key = key; source = source; after = after })
+    unless_strange (stranger_in is_task_member d)
+    (record {
+      name = name;
+      unit = unit;
+      width = width;
+      check = check;
+      key = key;
+      source = source;
+      after = after;
+    })
 
 -- ------ all tasks, of which the first is task i
 abbrev pub fault_in : Option ℕ → FieldFault → OrderFault
@@ -79,7 +88,8 @@ order_with h tasks = record { tester = h.tester; relinks = h.relinks; catalogue 
 
 abbrev pub order_in : Data → Result Order OrderFault
 order_in d =
-    in_task None (head d) >>= λ h. tasks_at d >>= λ tasks. in_task None (unless_strange (stranger_in is_order_member d) (order_with h tasks))
+    in_task None (head d) >>= λ h. tasks_at d
+    >>= λ tasks. in_task None (unless_strange (stranger_in is_order_member d) (order_with h tasks))
 
 abbrev pub order_from : Option Data → Result Order OrderFault
 order_from None = Err order.NotJson

@@ -25,7 +25,8 @@ pub record IsAsked (w : Wanted) : Type 0 where
 
 abbrev pub IsSource : Source → Type 0
 IsSource (Raw file at idents) = IsTrue (file_name file) × (at < top) × Each IsAsked idents
-IsSource (Session id dids fill) = (1 ≤ length id) × (length id ≤ 128) × Each (λ d. d.1 < 65536) dids × MatchOption fill (Unit {0}) (λ b. b < 256)
+IsSource (Session id dids fill) = (1 ≤ length id) × (length id ≤ 128) × Each (λ d. d.1 < 65536) dids
+    × MatchOption fill (Unit {0}) (λ b. b < 256)
 
 pub record IsTask (t : Task) : Type 0 where
   pub name : IsTaskName t.name

@@ -75,7 +75,8 @@ fn check_of(value: &Value) -> Option<u16>
 
 /// The check routine, which is none of the two that the script starts itself.
 pub(crate) fn check_at(alloc: Global, value: &Value) -> Result<u16, FieldFault>
-    ensures is { (result ≡ Err FieldFault.NoMemory) ⊎ (result ≡ needed (codes "check") check (view value.now)) }
+    ensures is { (result ≡ Err FieldFault.NoMemory)
+        ⊎ (result ≡ needed (codes "check") check (view value.now)) }
     ensures form { IfOk result IsCheck }
 {
     let Some(found) = value.get("check") else {
@@ -107,7 +108,8 @@ fn relinks_of(value: &Value) -> Option<u8>
 
 /// How many lost connections are made anew: 1 where nothing is said.
 pub(crate) fn relinks_at(alloc: Global, value: &Value) -> Result<u8, FieldFault>
-    ensures is { (result ≡ Err FieldFault.NoMemory) ⊎ (result ≡ chosen (codes "relinks") 1 relinks (view value.now)) }
+    ensures is { (result ≡ Err FieldFault.NoMemory)
+        ⊎ (result ≡ chosen (codes "relinks") 1 relinks (view value.now)) }
     ensures small { IfOk result (λ n. n ≤ 8) }
 {
     let Some(found) = value.get("relinks") else {
@@ -216,7 +218,8 @@ fn width_of(value: &Value) -> Option<Width>
 
 /// How many bytes size and address take in a request: 4 each where nothing is said.
 pub(crate) fn width_at(alloc: Global, value: &Value) -> Result<Width, FieldFault>
-    ensures is { (result ≡ Err FieldFault.NoMemory) ⊎ (result ≡ chosen (codes "width") (record { size = 4; at = 4 }) width (view value.now)) }
+    ensures is { (result ≡ Err FieldFault.NoMemory)
+        ⊎ (result ≡ chosen (codes "width") (record { size = 4; at = 4 }) width (view value.now)) }
     ensures form { IfOk result IsWidth }
 {
     let Some(found) = value.get("width") else {

@@ -145,7 +145,8 @@ fn key_of(alloc: Global, value: &Value) -> Result<Option<KeyRule>, NoMemory>
 
 /// The key rule: none where nothing is said.
 pub(crate) fn key_at(alloc: Global, value: &Value) -> Result<KeyRule, FieldFault>
-    ensures is { (result ≡ Err FieldFault.NoMemory) ⊎ (result ≡ chosen (codes "key") Free key_rule (view value.now)) }
+    ensures is { (result ≡ Err FieldFault.NoMemory)
+        ⊎ (result ≡ chosen (codes "key") Free key_rule (view value.now)) }
     ensures form { IfOk result IsKeyRule }
 {
     let Some(found) = value.get("key") else {

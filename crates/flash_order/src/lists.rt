@@ -38,7 +38,8 @@ fn names_of(alloc: Global, value: &Value) -> Result<Option<Names>, NoMemory>
 
 /// The names of the tasks that come before: none where nothing is said.
 pub(crate) fn after_at(alloc: Global, value: &Value) -> Result<Names, FieldFault>
-    ensures { (result ≡ Err FieldFault.NoMemory) ⊎ (result ≡ chosen (codes "after") [] names (view value.now)) }
+    ensures { (result ≡ Err FieldFault.NoMemory)
+        ⊎ (result ≡ chosen (codes "after") [] names (view value.now)) }
 {
     let Some(found) = value.get("after") else {
         return Ok(Names::new(alloc));
@@ -144,7 +145,8 @@ fn idents_of(alloc: Global, value: &Value) -> Result<Option<Items<Wanted>>, NoMe
 
 /// The identifiers that a unit must answer with expected values: none where nothing is said.
 pub(crate) fn idents_at(alloc: Global, value: &Value) -> Result<Items<Wanted>, FieldFault>
-    ensures is { (result ≡ Err FieldFault.NoMemory) ⊎ (result ≡ chosen (codes "idents") [] idents (view value.now)) }
+    ensures is { (result ≡ Err FieldFault.NoMemory)
+        ⊎ (result ≡ chosen (codes "idents") [] idents (view value.now)) }
     ensures form { IfOk result (Each IsAsked) }
 {
     let Some(found) = value.get("idents") else {
@@ -182,7 +184,8 @@ fn dids_of(alloc: Global, value: &Value) -> Result<Option<Items<(Text, u16)>>, N
 
 /// The data identifier of each expected ident's name: none where nothing is said.
 pub(crate) fn dids_at(alloc: Global, value: &Value) -> Result<Items<(Text, u16)>, FieldFault>
-    ensures is { (result ≡ Err FieldFault.NoMemory) ⊎ (result ≡ chosen (codes "dids") [] dids (view value.now)) }
+    ensures is { (result ≡ Err FieldFault.NoMemory)
+        ⊎ (result ≡ chosen (codes "dids") [] dids (view value.now)) }
     ensures small { IfOk result (Each (λ d. d.1 < 65536)) }
 {
     let Some(found) = value.get("dids") else {

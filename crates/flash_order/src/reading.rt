@@ -30,7 +30,8 @@ fn refusal(task: Option<u16>, fault: FieldFault) -> OrderFault
 
 /// The catalogue's file, if one is named.
 fn catalogue_at(alloc: Global, value: &Value) -> Result<Option<Text>, FieldFault>
-    ensures is { (result ≡ Err FieldFault.NoMemory) ⊎ (result ≡ chosen (codes "catalogue") None named_file (view value.now)) }
+    ensures is { (result ≡ Err FieldFault.NoMemory)
+        ⊎ (result ≡ chosen (codes "catalogue") None named_file (view value.now)) }
     ensures form { IfOk result (λ o. IfSome o (λ f. IsTrue (file_name f))) }
 {
     let Some(found) = value.get("catalogue") else {
@@ -69,7 +70,8 @@ fn task_list_of(value: &Value) -> Option<&[Value]>
 }
 
 fn task_list_at(alloc: Global, value: &Value) -> Result<&[Value], FieldFault>
-    ensures is { (result ≡ Err FieldFault.NoMemory) ⊎ (mapped (λ l. items_view l.now) result ≡ needed (codes "tasks") task_list (view value.now)) }
+    ensures is { (result ≡ Err FieldFault.NoMemory)
+        ⊎ (mapped (λ l. items_view l.now) result ≡ needed (codes "tasks") task_list (view value.now)) }
     ensures few { IfOk result (λ l. length l.now ≤ 1000) }
 {
     let Some(found) = value.get("tasks") else {

@@ -33,7 +33,8 @@ fn raw_from(alloc: Global, raw: &Value, value: &Value) -> Result<Source, FieldFa
 
 /// The byte of an address that the data lack: none where nothing is said.
 fn fill_at(alloc: Global, value: &Value) -> Result<Option<u8>, FieldFault>
-    ensures { (result ≡ Err FieldFault.NoMemory) ⊎ (result ≡ chosen (codes "fill") None fill_byte (view value.now)) }
+    ensures { (result ≡ Err FieldFault.NoMemory)
+        ⊎ (result ≡ chosen (codes "fill") None fill_byte (view value.now)) }
 {
     let Some(found) = value.get("fill") else {
         return Ok(None);
@@ -45,7 +46,8 @@ fn fill_at(alloc: Global, value: &Value) -> Result<Option<u8>, FieldFault>
 }
 
 fn session_from(alloc: Global, session: &Value, value: &Value) -> Result<Source, FieldFault>
-    ensures is { (result ≡ Err FieldFault.NoMemory) ⊎ (result ≡ session_source (view session.now) (view value.now)) }
+    ensures is { (result ≡ Err FieldFault.NoMemory)
+        ⊎ (result ≡ session_source (view session.now) (view value.now)) }
     ensures form { IfOk result IsSource }
 {
     let Some(name) = session_id_of(session) else {

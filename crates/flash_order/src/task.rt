@@ -17,7 +17,8 @@ use serde_json::Value;
 use std::alloc::Global;
 
 fn name_at(alloc: Global, value: &Value) -> Result<Text, FieldFault>
-    ensures is { (result ≡ Err FieldFault.NoMemory) ⊎ (result ≡ needed (codes "name") task_name (view value.now)) }
+    ensures is { (result ≡ Err FieldFault.NoMemory)
+        ⊎ (result ≡ needed (codes "name") task_name (view value.now)) }
     ensures form { IfOk result IsTaskName }
 {
     let Some(found) = value.get("name") else {

@@ -70,7 +70,16 @@ too_many ds =
 
 -- ------ one draft by its number
 abbrev pub no_draft : Draft
-no_draft = record { name = []; address = 0; width = record { size = 4; at = 4 }; check = 0; key = Free; idents = []; after = []; segments = [] }
+no_draft = record {
+  name = [];
+  address = 0;
+  width = record { size = 4; at = 4 };
+  check = 0;
+  key = Free;
+  idents = [];
+  after = [];
+  segments = [];
+}
 
 abbrev pub draft_of : List Draft → ℕ → Draft
 draft_of [] n = no_draft
@@ -126,10 +135,20 @@ numbers_from n (suc k) test = if test n then n ∷ numbers_from (n + 1) k test e
 
 -- the tasks that a task names, each once and ascending
 abbrev pub after_of : List Draft → Draft → List ℕ
-after_of ds d = numbers_from 0 (length ds) (λ w. list_any (λ name. bytes_eq name (draft_of ds w).name) d.after)
+after_of ds d =
+    numbers_from 0 (length ds) (λ w. list_any (λ name. bytes_eq name (draft_of ds w).name) d.after)
 
 abbrev pub unit_of : List Draft → Draft → UnitPlan
-unit_of ds d = record { name = d.name; address = d.address; width = d.width; check = d.check; key = d.key; idents = d.idents; after = after_of ds d; segments = d.segments }
+unit_of ds d = record {
+  name = d.name;
+  address = d.address;
+  width = d.width;
+  check = d.check;
+  key = d.key;
+  idents = d.idents;
+  after = after_of ds d;
+  segments = d.segments;
+}
 
 abbrev pub units_of : List Draft → List UnitPlan
 units_of ds = map (unit_of ds) ds
@@ -163,8 +182,11 @@ abbrev pub IsPlanAnswer : List Draft → Result (List UnitPlan) PlanFault → Ty
 IsPlanAnswer ds (Err NoMemory) = Unit {0}
 IsPlanAnswer ds (Err (TooMany what)) = too_many ds ≡ Some what
 IsPlanAnswer ds (Err (SameName n)) = (too_many ds ≡ None) × (first_task ds (has_same_name ds) ≡ Some n)
-IsPlanAnswer ds (Err (SameUnit address)) = IsNamed ds × ((n : ℕ) × (first_task ds (has_same_address ds) ≡ Some n) × (address ≡ (draft_of ds n).address))
+IsPlanAnswer ds (Err (SameUnit address)) =
+    IsNamed ds × ((n : ℕ) × (first_task ds (has_same_address ds) ≡ Some n)
+    × (address ≡ (draft_of ds n).address))
 IsPlanAnswer ds (Err (UnknownAfter n)) = IsAddressed ds × (first_task ds (has_unknown ds) ≡ Some n)
 IsPlanAnswer ds (Err (Cycle n)) = IsFirstCycle ds n
 IsPlanAnswer ds (Err (TooWide n)) = IsOrdered ds × (first_task ds (has_wide ds) ≡ Some n)
-IsPlanAnswer ds (Ok units) = IsOrdered ds × (first_task ds (has_wide ds) ≡ None) × (units ≡ units_of ds) × IsAccepted units
+IsPlanAnswer ds (Ok units) =
+    IsOrdered ds × (first_task ds (has_wide ds) ≡ None) × (units ≡ units_of ds) × IsAccepted units

@@ -32,7 +32,8 @@ key_bytes (Digest level size secret) = 2 ∷ level ∷ size ∷ counted secret
 
 -- address, name, width with the size's digit first, check routine, key rule
 abbrev pub unit_head : UnitPlan → List ℕ
-unit_head u = big_endian 2 u.address ++ counted u.name ++ ((u.width.size * 16 + u.width.at) ∷ []) ++ big_endian 2 u.check ++ key_bytes u.key
+unit_head u = big_endian 2 u.address ++ counted u.name ++ ((u.width.size * 16 + u.width.at) ∷ [])
+    ++ big_endian 2 u.check ++ key_bytes u.key
 
 -- what stands before a unit's segments: also its expected identifiers, the units before it, and the number of segments
 abbrev pub unit_front : UnitPlan → List ℕ

@@ -49,4 +49,5 @@ IsCycleTest P n false = StandsBefore P n n → ⊥
 -- the first that does
 abbrev pub IsFirstCycleTest : List UnitPlan → Option ℕ → Type 0
 IsFirstCycleTest P None = (n : ℕ) → StandsBefore P n n → ⊥
-IsFirstCycleTest P (Some n) = (n < count_of P) × StandsBefore P n n × ((m : ℕ) → m < n → StandsBefore P m m → ⊥)
+IsFirstCycleTest P (Some n) = (n < count_of P) × StandsBefore P n n
+    × ((m : ℕ) → m < n → StandsBefore P m m → ⊥)

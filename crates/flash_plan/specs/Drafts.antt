@@ -9,7 +9,16 @@ use Rattle.flash_plan.specs.Plan.{IsTaskName}
 
 -- the unit of a draft that waits for no other
 abbrev pub numbered : Draft → UnitPlan
-numbered d = record { name = d.name; address = d.address; width = d.width; check = d.check; key = d.key; idents = d.idents; after = []; segments = d.segments }
+numbered d = record {
+  name = d.name;
+  address = d.address;
+  width = d.width;
+  check = d.check;
+  key = d.key;
+  idents = d.idents;
+  after = [];
+  segments = d.segments;
+}
 
 -- 1 to 256 bytes, which end at most at 2^32
 pub record IsShort (s : Segment) : Type 0 where

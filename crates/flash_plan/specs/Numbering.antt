@@ -19,9 +19,19 @@ one_if false n = []
 
 -- a draft's unit, with the numbers of the units that it waits for
 abbrev pub numbered_with : Draft → List ℕ → UnitPlan
-numbered_with d after = record { name = d.name; address = d.address; width = d.width; check = d.check; key = d.key; idents = d.idents; after = after; segments = d.segments }
+numbered_with d after = record {
+  name = d.name;
+  address = d.address;
+  width = d.width;
+  check = d.check;
+  key = d.key;
+  idents = d.idents;
+  after = after;
+  segments = d.segments;
+}
 
 -- the unit of the last draft, which is taken from the drafts, as its numbers are
 abbrev pub TakesLast : List Draft → List (List ℕ) → List Draft → List (List ℕ) → Option UnitPlan → Type 0
 TakesLast old afters new rest None = (old ≡ []) ⊎ (afters ≡ [])
-TakesLast old afters new rest (Some u) = (d : Draft) × (after : List ℕ) × (old ≡ new ++ d ∷ []) × (afters ≡ rest ++ after ∷ []) × (u ≡ numbered_with d after)
+TakesLast old afters new rest (Some u) = (d : Draft) × (after : List ℕ) × (old ≡ new ++ d ∷ [])
+    × (afters ≡ rest ++ after ∷ []) × (u ≡ numbered_with d after)

@@ -12,7 +12,16 @@ use Rattle.flash_plan.specs.declared.unit.Wanted.{Wanted}
 use Rattle.flash_plan.specs.Canonical.{plan_digest}
 
 abbrev pub no_plan : UnitPlan
-no_plan = record { name = []; address = 0; width = record { size = 4; at = 4 }; check = 0; key = Free; idents = []; after = []; segments = [] }
+no_plan = record {
+  name = [];
+  address = 0;
+  width = record { size = 4; at = 4 };
+  check = 0;
+  key = Free;
+  idents = [];
+  after = [];
+  segments = [];
+}
 
 abbrev pub nth_plan : List UnitPlan → ℕ → UnitPlan
 nth_plan [] n = no_plan
@@ -80,7 +89,8 @@ total_of (u ∷ us) = size_of u.segments + total_of us
 
 -- a letter, a digit or '_' of ASCII
 abbrev pub is_name_byte : ℕ → Bool
-is_name_byte b = (nat_le 48 b && nat_le b 57) || (nat_le 65 b && nat_le b 90) || (nat_le 97 b && nat_le b 122) || b == 95
+is_name_byte b = (nat_le 48 b && nat_le b 57) || (nat_le 65 b && nat_le b 90) || (nat_le 97 b && nat_le b 122)
+    || b == 95
 
 -- 1 to 32 of them
 pub record IsTaskName (name : List ℕ) : Type 0 where
@@ -95,7 +105,8 @@ IsLevel level = (level % 2 ≡ 1) × (level ≤ 125)
 abbrev pub IsKeyRule : KeyRule → Type 0
 IsKeyRule Free = Unit {0}
 IsKeyRule (Xor level mask) = IsLevel level × (1 ≤ length mask) × (length mask ≤ 32)
-IsKeyRule (Digest level size secret) = IsLevel level × (1 ≤ size) × (size ≤ 32) × (1 ≤ length secret) × (length secret ≤ 64)
+IsKeyRule (Digest level size secret) =
+    IsLevel level × (1 ≤ size) × (size ≤ 32) × (1 ≤ length secret) × (length secret ≤ 64)
 
 abbrev pub IsWidth : Width → Type 0
 IsWidth w = (1 ≤ w.size) × (w.size ≤ 4) × (1 ≤ w.at) × (w.at ≤ 5)
@@ -147,7 +158,8 @@ pub record IsAccepted (P : List UnitPlan) : Type 0 where
   pub total : total_of P ≤ 67108864
   pub each : (n : ℕ) → n < count_of P → IsAcceptedUnit (plan_of P n)
   pub names : (m n : ℕ) → m < count_of P → n < count_of P → (plan_of P m).name ≡ (plan_of P n).name → m ≡ n
-  pub addresses : (m n : ℕ) → m < count_of P → n < count_of P → (plan_of P m).address ≡ (plan_of P n).address → m ≡ n
+  pub addresses : (m n : ℕ) → m < count_of P → n < count_of P → (plan_of P m).address ≡ (plan_of P n).address
+      → m ≡ n
   pub after : (n : ℕ) → n < count_of P → Each (λ w. w < count_of P) (plan_of P n).after
   pub no_cycle : (n : ℕ) → StandsBefore P n n → ⊥
 

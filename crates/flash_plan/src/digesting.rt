@@ -11,7 +11,8 @@ use sha2::{Digest, Sha256};
 use std::alloc::Global;
 
 fn feed_segment(alloc: Global, hasher: &mut Sha256, segment: &Segment) -> Result<(), NoMemory>
-    ensures { OnOk result ((m : List ℕ) → Holds256 hasher.old m → Holds256 hasher.new (m ++ segment_bytes segment.now)) }
+    ensures { OnOk result ((m : List ℕ) → Holds256 hasher.old m
+        → Holds256 hasher.new (m ++ segment_bytes segment.now)) }
 {
     let mut head = Bytes::new(alloc);
     put_segment_head(&mut head, segment)?;
@@ -25,7 +26,8 @@ fn feed_segments(
     hasher: &mut Sha256,
     segments: &Items<Segment>,
 ) -> Result<(), NoMemory>
-    ensures { OnOk result ((m : List ℕ) → Holds256 hasher.old m → Holds256 hasher.new (m ++ flat_map segment_bytes segments.now)) }
+    ensures { OnOk result ((m : List ℕ) → Holds256 hasher.old m
+        → Holds256 hasher.new (m ++ flat_map segment_bytes segments.now)) }
 {
     for segment in segments.as_slice().iter() {
         feed_segment(alloc, hasher, segment)?;
@@ -35,7 +37,8 @@ fn feed_segments(
 
 fn feed_unit(alloc: Global, hasher: &mut Sha256, unit: &UnitPlan) -> Result<(), NoMemory>
     requires { IsAcceptedUnit unit.now }
-    ensures { OnOk result ((m : List ℕ) → Holds256 hasher.old m → Holds256 hasher.new (m ++ unit_bytes unit.now)) }
+    ensures { OnOk result ((m : List ℕ) → Holds256 hasher.old m
+        → Holds256 hasher.new (m ++ unit_bytes unit.now)) }
 {
     let mut front = Bytes::new(alloc);
     put_front(&mut front, unit)?;
@@ -46,7 +49,8 @@ fn feed_unit(alloc: Global, hasher: &mut Sha256, unit: &UnitPlan) -> Result<(), 
 
 fn feed_units(alloc: Global, hasher: &mut Sha256, units: &Items<UnitPlan>) -> Result<(), NoMemory>
     requires { IsAccepted units.now }
-    ensures { OnOk result ((m : List ℕ) → Holds256 hasher.old m → Holds256 hasher.new (m ++ flat_map unit_bytes units.now)) }
+    ensures { OnOk result ((m : List ℕ) → Holds256 hasher.old m
+        → Holds256 hasher.new (m ++ flat_map unit_bytes units.now)) }
 {
     for unit in units.as_slice().iter() {
         feed_unit(alloc, hasher, unit)?;

@@ -23,7 +23,8 @@ blocked_by (Some w) = Blocked w
 
 -- what stopped the run, and else the lowest unit of `after` that is not complete
 abbrev pub left_outcome : RunState → ℕ → Outcome
-left_outcome r n = if is_stopped r then stop_for r n else blocked_by (first_lacking (core_of_run r).recorded (plan_of r.plan n).after)
+left_outcome r n = if is_stopped r then stop_for r n
+    else blocked_by (first_lacking (core_of_run r).recorded (plan_of r.plan n).after)
 
 abbrev pub lacks_outcome : RunState → ℕ → Bool
 lacks_outcome r n = is_none ((core_of_run r).slots n).outcome
@@ -67,8 +68,10 @@ pub record Finishes (old new : RunState) : Type 0 where
   pub are : are_ends events ≡ true
   pub takes : TakesAll old events
   pub becomes : new ≡ takes_all events old
-  pub stay : (n : ℕ) → lacks_outcome old n ≡ false → ((core_of_run new).slots n).outcome ≡ ((core_of_run old).slots n).outcome
-  pub given : (n : ℕ) → n < count_of old.plan → lacks_outcome old n ≡ true → ((core_of_run new).slots n).outcome ≡ Some (left_outcome old n)
+  pub stay : (n : ℕ) → lacks_outcome old n ≡ false
+      → ((core_of_run new).slots n).outcome ≡ ((core_of_run old).slots n).outcome
+  pub given : (n : ℕ) → n < count_of old.plan → lacks_outcome old n ≡ true
+      → ((core_of_run new).slots n).outcome ≡ Some (left_outcome old n)
 
 abbrev pub AllEnded : RunState → Type 0
 AllEnded r = (n : ℕ) → n < count_of r.plan → lacks_outcome r n ≡ false

@@ -60,7 +60,8 @@ need_by failed stopped linked a =
 
 -- the one call that is due for a unit; none where it is not claimed or has its outcome
 abbrev pub need_of : RunState → ℕ → Need
-need_of r u = if is_open r u then need_by (core_of_run r).halt.failed (is_stopped r) (is_linked (core_of_run r)) (ask_in r u) else need.Gone
+need_of r u = if is_open r u then need_by (core_of_run r).halt.failed (is_stopped r)
+    (is_linked (core_of_run r)) (ask_in r u) else need.Gone
 
 -- ------ outcomes
 abbrev pub stop_or : Option Outcome → Outcome
@@ -88,8 +89,10 @@ pub record AreDue (r : RunState) : Type 0 where
   pub begin : (u : ℕ) → need_of r u ≡ need.Begin → may_take r (Began u) ≡ true
   pub mark : (u s : ℕ) → need_of r u ≡ need.Mark → ask_in r u ≡ ask.Mark s → may_take r (Marked u s) ≡ true
   pub complete : (u : ℕ) → need_of r u ≡ need.Complete → may_take r (Completed u) ≡ true
-  pub send : (u : ℕ) (lost : Bool) → need_of r u ≡ need.Send → may_take r (Sent u ((core_of_run r).slots u).talk.number lost) ≡ true
-  pub collect : (u : ℕ) (h : Heard) → need_of r u ≡ need.Collect → fits_inbox h (has_message r.plan (core_of_run r) u) ≡ true → may_take r (Collected u h) ≡ true
+  pub send : (u : ℕ) (lost : Bool) → need_of r u ≡ need.Send
+      → may_take r (Sent u ((core_of_run r).slots u).talk.number lost) ≡ true
+  pub collect : (u : ℕ) (h : Heard) → need_of r u ≡ need.Collect
+      → fits_inbox h (has_message r.plan (core_of_run r) u) ≡ true → may_take r (Collected u h) ≡ true
   pub end : (u : ℕ) → need_of r u ≡ need.End → may_take r (Ended u (due_outcome r u)) ≡ true
   -- want of memory may end each unit that is open
   pub want : (u : ℕ) → is_open r u ≡ true → may_take r (Ended u NoMemory) ≡ true

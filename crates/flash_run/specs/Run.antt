@@ -37,7 +37,8 @@ abbrev pub seen_core : List UnitPlan → Bool → Core → Core
 seen_core P starved c = if starved then shut P c else c
 
 abbrev pub told_seen : List UnitPlan → LinkRules → List Entry → List Event → Bool → Told
-told_seen P rules found events starved = record { rules = rules; core = seen_core P starved (core_by rules P found events) }
+told_seen P rules found events starved =
+    record { rules = rules; core = seen_core P starved (core_by rules P found events) }
 
 -- ------ which events may come
 abbrev pub is_complete_entry : Entry → Bool
@@ -113,7 +114,8 @@ pub record IsSettled (rules : LinkRules) (c : Core) : Type 0 where
   pub early : (n : ℕ) → is_early (c.slots n).talk.place ≡ true → c.recorded (entry.Begun n) ≡ false
 
 -- The plan is accepted, the events are legal and make what is kept, and there is room for each that wants no memory.
-pub record IsLogged (P : List UnitPlan) (rules : LinkRules) (found : List Entry) (notes : NotesState) (starved : Bool) (k : kept.Core) : Type 0 where
+pub record IsLogged (P : List UnitPlan) (rules : LinkRules) (found : List Entry) (notes : NotesState)
+    (starved : Bool) (k : kept.Core) : Type 0 where
   pub accepted : IsAccepted P
   pub legal : is_legal rules P (core_start P (has_entry found)) notes.events ≡ true
   pub holds : Holds P k (told_seen P rules found notes.events starved)
@@ -124,21 +126,31 @@ pub record IsLogged (P : List UnitPlan) (rules : LinkRules) (found : List Entry)
 -- ------ the calls
 -- before any event: room for one claim, one completion, one failed append and one end of each unit
 abbrev pub run_start : List UnitPlan → LinkRules → List Entry → RunState
-run_start P rules found = record { plan = P; rules = rules; found = found; events = []; starved = false; room = 4 * count_of P }
+run_start P rules found = record {
+  plan = P;
+  rules = rules;
+  found = found;
+  events = [];
+  starved = false;
+  room = 4 * count_of P;
+}
 
 -- the lowest unit that is ready was claimed, or none may be claimed and nothing changed
 abbrev pub ClaimsNext : RunState → Claimed → RunState → Type 0
-ClaimsNext old (Took u) new = (may_take old (Claimed_event u) ≡ true) × (new ≡ with_event (Claimed_event u) old)
+ClaimsNext old (Took u) new = (may_take old (Claimed_event u) ≡ true)
+    × (new ≡ with_event (Claimed_event u) old)
 ClaimsNext old Nothing new = (new ≡ old) × ((u : ℕ) → may_take old (Claimed_event u) ≡ false)
 
 -- the lowest unit that is open, if there is one
 abbrev pub IsUnfinished : RunState → Option ℕ → Type 0
 IsUnfinished r None = (n : ℕ) → is_open r n ≡ false
-IsUnfinished r (Some u) = (u < count_of r.plan) × (is_open r u ≡ true) × ((n : ℕ) → n < u → is_open r n ≡ false)
+IsUnfinished r (Some u) = (u < count_of r.plan) × (is_open r u ≡ true)
+    × ((n : ℕ) → n < u → is_open r n ≡ false)
 
 -- a unit's outcome is Complete exactly where that is recorded
 abbrev pub IsCompleteKept : List UnitPlan → Core → Type 0
-IsCompleteKept P c = (n : ℕ) → n < count_of P → says_complete (c.slots n).outcome ≡ c.recorded (entry.Complete n)
+IsCompleteKept P c = (n : ℕ) → n < count_of P
+    → says_complete (c.slots n).outcome ≡ c.recorded (entry.Complete n)
 
 -- what every run keeps, for callers
 pub record IsKept (r : RunState) : Type 0 where

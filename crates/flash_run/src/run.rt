@@ -45,7 +45,14 @@ impl Model for Run {
 
     ghost Value = { RunState };
 
-    ghost view = { λ r. record { plan = r.plan.value; rules = r.rules; found = r.found; events = r.notes.events; starved = r.starved; room = r.notes.room } };
+    ghost view = { λ r. record {
+      plan = r.plan.value;
+      rules = r.rules;
+      found = r.found;
+      events = r.notes.events;
+      starved = r.starved;
+      room = r.notes.room;
+    } };
 
     ghost invariant = { λ r. IsLogged r.plan.value r.rules r.found r.notes r.starved r.core };
 }
@@ -229,7 +236,8 @@ impl Run {
         requires plan { plan.now ≡ self.old.plan }
         requires allowed { may_take self.old event ≡ true }
         requires free { has_bytes event ≡ false }
-        requires room { left_in self.old.plan (core_after self.old.rules self.old.plan event (core_of_run self.old)) + 1 ≤ self.old.room }
+        requires room { left_in self.old.plan
+            (core_after self.old.rules self.old.plan event (core_of_run self.old)) + 1 ≤ self.old.room }
         ensures { self.new ≡ with_event event self.old }
     {
         let few = self.notes.count();
@@ -251,7 +259,8 @@ impl Run {
         requires plan { plan.now ≡ self.old.plan }
         requires fed { self.old.starved ≡ false }
         requires allowed { may_take self.old event ≡ true }
-        requires room { left_in self.old.plan (core_after self.old.rules self.old.plan event (core_of_run self.old)) + 1 ≤ self.old.room }
+        requires room { left_in self.old.plan
+            (core_after self.old.rules self.old.plan event (core_of_run self.old)) + 1 ≤ self.old.room }
         requires spare { left_in self.old.plan (core_of_run self.old) + 1 ≤ self.old.room }
         ensures ok { OnOk result (self.new ≡ with_event event self.old) }
         ensures wants { OnErr result (self.new ≡ starving self.old) }

@@ -29,7 +29,8 @@ impl Run {
         requires plan { plan.now ≡ self.now.plan }
         requires within { unit < count_of plan.now }
         requires fed { self.now.starved ≡ false }
-        ensures { IsSpotOf (plan_of self.now.plan unit) ((core_of_run self.now).slots unit).talk.place result }
+        ensures { IsSpotOf (plan_of self.now.plan unit)
+            ((core_of_run self.now).slots unit).talk.place result }
     {
         plan.is_accepted();
         let session = conversation_in(

@@ -76,4 +76,5 @@ command_of words = None
 
 -- a list of words is a command just where it is the words of it, and what stands in them is in its form
 abbrev pub Law : Type 0
-Law = (words : List (List ℕ)) (c : Command) → (command_of words ≡ Some c) ↔ (IsCommand c × (words ≡ words_of c))
+Law = (words : List (List ℕ)) (c : Command)
+    → (command_of words ≡ Some c) ↔ (IsCommand c × (words ≡ words_of c))

@@ -32,7 +32,8 @@ pub record IsContinued (old new : RunState) : Type 0 where
 
 -- The run of the bay went on until each unit had its outcome. The board has these, and of them all is said
 -- that a bay says, from the shop at its opening to the shop that is handed out.
-pub record IsWorked {S : Type 0} (tells_disk tells_vehicle : Bool) (history : S → History) (bay : BayState S) (shop : S) (posts : List Post) : Type 0 where
+pub record IsWorked {S : Type 0} (tells_disk tells_vehicle : Bool) (history : S → History) (bay : BayState S)
+    (shop : S) (posts : List Post) : Type 0 where
   pub run : RunState
   pub continued : IsContinued bay.run run
   pub ended : AllEnded run

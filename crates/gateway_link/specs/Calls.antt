@@ -38,7 +38,8 @@ pub record ReceivesOnce (tells_vehicle : Bool) (old new : History) (c : Came) : 
   pub size : length out ≡ 4096
   pub call : LinkCall Receive old new answer
   pub linked : new.linked ≡ old.linked
-  pub vehicle : IsTrue tells_vehicle → Received out (¬ Rises old.link_faults new.link_faults) (vehicle_now old) (vehicle_now new) answer
+  pub vehicle : IsTrue tells_vehicle
+      → Received out (¬ Rises old.link_faults new.link_faults) (vehicle_now old) (vehicle_now new) answer
 
 -- a receive brought bytes for which there was no memory
 pub record StraysOnce (tells_vehicle : Bool) (old new : History) : Type 0 where
@@ -48,7 +49,8 @@ pub record StraysOnce (tells_vehicle : Bool) (old new : History) : Type 0 where
   pub says : answer ≡ Ok (Bytes size)
   pub call : LinkCall Receive old new answer
   pub linked : new.linked ≡ old.linked
-  pub vehicle : IsTrue tells_vehicle → Received out (¬ Rises old.link_faults new.link_faults) (vehicle_now old) (vehicle_now new) answer
+  pub vehicle : IsTrue tells_vehicle
+      → Received out (¬ Rises old.link_faults new.link_faults) (vehicle_now old) (vehicle_now new) answer
 
 -- these are the bytes of a frame, as many as one send takes
 pub record Spells (frame bytes : List ℕ) : Type 0 where

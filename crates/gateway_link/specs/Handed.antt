@@ -45,7 +45,8 @@ module _ (tester : ℕ) (units : List ℕ) where
   -- the messages of a unit that a receive brought, of the frames that are looked at
   abbrev pub brought : ℕ → Came → Link → List UnitMessage
   brought a Quiet l = []
-  brought a (Piece bytes) l = messages_in tester a (looked tester units (stream_of (l.rest ++ bytes)).frames l)
+  brought a (Piece bytes) l =
+      messages_in tester a (looked tester units (stream_of (l.rest ++ bytes)).frames l)
   brought a Lost l = []
 
   abbrev pub came_by : ℕ → Step → Link → List UnitMessage
@@ -76,6 +77,8 @@ module _ (tester : ℕ) (units : List ℕ) where
 -- Since a dial, whatever the link was before it: what was handed out for a unit, and behind it what its inbox has, are the messages
 -- that came for it since, in their order and each once.
 pub record AreHanded : Type 0 where
-  pub in_order : (tester : ℕ) (units : List ℕ) (a : ℕ) (lost : Bool) (before : Link) (steps : List Step) → is_known units a ≡ true → has_dial steps ≡ false
+  pub in_order : (tester : ℕ) (units : List ℕ) (a : ℕ) (lost : Bool) (before : Link) (steps : List Step)
+      → is_known units a ≡ true → has_dial steps ≡ false
       → came tester units a steps (dialed_link lost before)
-      ≡ handed tester units a steps (dialed_link lost before) ++ messages_from a (after tester units steps (dialed_link lost before)).inbox
+      ≡ handed tester units a steps (dialed_link lost before) ++ messages_from a
+      (after tester units steps (dialed_link lost before)).inbox

@@ -35,7 +35,8 @@ with_piece bytes l = record l { got = l.got ++ bytes; rest = (stream_of (l.rest 
 abbrev pub breaks : ℕ → List ℕ → List ℕ → Link → Bool
 breaks tester units bytes l =
     refuses_header (looked tester units (stream_of (l.rest ++ bytes)).frames (with_piece bytes l))
-    || (is_some (stream_of (l.rest ++ bytes)).bad && is_open (see_all tester units (stream_of (l.rest ++ bytes)).frames (with_piece bytes l)).phase)
+    || (is_some (stream_of (l.rest ++ bytes)).bad
+    && is_open (see_all tester units (stream_of (l.rest ++ bytes)).frames (with_piece bytes l)).phase)
 
 -- the link is lost: the call failed, its bytes end the connection, or the activation is unanswered after 1,000 ticks
 abbrev pub is_lost_by : ℕ → List ℕ → Came → Link → Bool
@@ -52,24 +53,29 @@ polled_as Lost lost = polled.Lost None
 
 -- ------ the steps
 -- The connection was made new. Where that failed, the link is lost.
-pub record Dials (tells_vehicle : Bool) (old new : History) (before after : LinkState) (ok : Bool) : Type 0 where
+pub record Dials (tells_vehicle : Bool) (old new : History) (before after : LinkState)
+    (ok : Bool) : Type 0 where
   pub call : RedialsOnce tells_vehicle old new (not ok)
   pub shows : (l : Link) → Shows before l → Shows after (dialed_link (not ok) l)
   pub labels : SameLabels before after
 
 -- A frame was sent. Where that failed, the link is lost.
-pub record Sends (tells_vehicle : Bool) (frame : List ℕ) (then_link : Bool → Link → Link) (old new : History) (before after : LinkState) (ok : Bool) : Type 0 where
+pub record Sends (tells_vehicle : Bool) (frame : List ℕ) (then_link : Bool → Link → Link) (old new : History)
+    (before after : LinkState) (ok : Bool) : Type 0 where
   pub call : SendsOnce tells_vehicle frame old new (not ok)
   pub shows : (l : Link) → Shows before l → Shows after (then_link (not ok) l)
   pub labels : SameLabels before after
 
 -- what a receive brought, and what it makes of the link
 pub record Hears (came : Came) (before after : LinkState) (result : Polled) : Type 0 where
-  pub shows : (l : Link) → Shows before l → Shows after (heard_link (tester_of before) (units_of before) came l)
-  pub says : (l : Link) → Shows before l → result ≡ polled_as came (is_lost_by (tester_of before) (units_of before) came l)
+  pub shows : (l : Link) → Shows before l
+      → Shows after (heard_link (tester_of before) (units_of before) came l)
+  pub says : (l : Link) → Shows before l
+      → result ≡ polled_as came (is_lost_by (tester_of before) (units_of before) came l)
 
 -- A receive was made, and the link is what it makes of it.
-pub record Polls (tells_vehicle : Bool) (old new : History) (before after : LinkState) (result : Polled) : Type 0 where
+pub record Polls (tells_vehicle : Bool) (old new : History) (before after : LinkState)
+    (result : Polled) : Type 0 where
   pub came : Came
   pub call : ReceivesOnce tells_vehicle old new came
   pub hears : Hears came before after result

@@ -95,9 +95,11 @@ impl Link {
     pub fn dial<S: Shop>(&mut self, shop: &mut S) -> bool
         requires down { is_down (phase_now self.old) ≡ true }
         requires losses { loss_count self.old < 2 ^ 31 }
-        ensures dials { Dials S.tells_vehicle (S.history shop.old) (S.history shop.new) self.old self.new result }
+        ensures dials { Dials S.tells_vehicle (S.history shop.old)
+            (S.history shop.new) self.old self.new result }
         ensures linked { result ≡ true → IsTrue (S.history shop.new).linked }
-        ensures cause { result ≡ false → Rises (S.history shop.old).link_faults (S.history shop.new).link_faults }
+        ensures cause { result ≡ false → Rises (S.history shop.old).link_faults
+            (S.history shop.new).link_faults }
     {
         let lost = redial(shop);
         self.state.dialed(lost);
@@ -148,7 +150,8 @@ impl Link {
         requires some { 1 ≤ length body.now }
         requires few { length body.now ≤ 65535 }
         requires linked { IsTrue (S.history shop.old).linked }
-        ensures sends { IfOk result (Sends S.tells_vehicle (message_bytes (tester_of self.old) unit body.now) lost_or
+        ensures sends { IfOk result (Sends S.tells_vehicle
+            (message_bytes (tester_of self.old) unit body.now) lost_or
             (S.history shop.old) (S.history shop.new) self.old self.new) }
         ensures cause { IfOk result (λ ok. ok ≡ false
             → Rises (S.history shop.old).link_faults (S.history shop.new).link_faults) }
@@ -180,8 +183,10 @@ impl Link {
         requires ticks { tick_count self.old < 2 ^ 63 }
         requires losses { loss_count self.old < 2 ^ 31 }
         requires linked { IsTrue (S.history shop.old).linked }
-        ensures polls { IfOk result (Polls S.tells_vehicle (S.history shop.old) (S.history shop.new) self.old self.new) }
-        ensures starves { OnErr result (Starves S.tells_vehicle (S.history shop.old) (S.history shop.new) self.old self.new) }
+        ensures polls { IfOk result (Polls S.tells_vehicle (S.history shop.old)
+            (S.history shop.new) self.old self.new) }
+        ensures starves { OnErr result (Starves S.tells_vehicle (S.history shop.old)
+            (S.history shop.new) self.old self.new) }
     {
         let came = receive(self.alloc, shop)?;
         self.hear(came)
@@ -249,7 +254,8 @@ impl Link {
     /// Takes the oldest message of a unit out of its inbox.
     pub fn take(&mut self, unit: u16) -> Option<Message>
         requires { is_known (units_of self.old) unit ≡ true }
-        ensures word { (l : model.Link) → Shows self.old l → option_message result ≡ first_message unit l.inbox }
+        ensures word { (l : model.Link) → Shows self.old l
+            → option_message result ≡ first_message unit l.inbox }
         ensures shows { (l : model.Link) → Shows self.old l → Shows self.new (take_message unit l) }
         ensures labels { SameLabels self.old self.new }
     {

@@ -7,7 +7,8 @@ use Rattle.gateway_sim.specs.declared.trouble.Answer.TheVariants as answer
 
 -- the answer to the next activation request, where the trouble stands for it; one that says 10 is the obedient answer
 abbrev pub turn_of : GatewayTrouble → Option Answer
-turn_of (Deny nth code) = if nth == 1 then Some (if code == 16 then answer.Accept else answer.Deny code) else None
+turn_of (Deny nth code) =
+    if nth == 1 then Some (if code == 16 then answer.Accept else answer.Deny code) else None
 turn_of (Silent nth) = if nth == 1 then Some answer.Ignore else None
 turn_of (Nack unit nth code) = None
 turn_of (Alive tick) = None
@@ -47,7 +48,8 @@ lowered_activation (Alive tick) = Alive tick
 abbrev pub lowered_message : ℕ → GatewayTrouble → GatewayTrouble
 lowered_message target (Deny nth code) = Deny nth code
 lowered_message target (Silent nth) = Silent nth
-lowered_message target (Nack unit nth code) = if unit == target then Nack unit (nth - 1) code else Nack unit nth code
+lowered_message target (Nack unit nth code) =
+    if unit == target then Nack unit (nth - 1) code else Nack unit nth code
 lowered_message target (Alive tick) = Alive tick
 
 abbrev pub remains : GatewayTrouble → Bool

@@ -63,7 +63,8 @@ cut_off g bytes = at_front (held_after (front_of g.gateway) bytes) g
 -- the frames are handled, and then a refused header
 pub record IsFed (bytes : List ℕ) (old new : Gate) (orders : List (ℕ × List ℕ)) : Type 0 where
   pub orders_are : orders ≡ orders_of (ended old bytes) (cut_off old bytes)
-  pub becomes : new ≡ refusing (bad_in (front_of old.gateway) bytes) (frames_handled (ended old bytes) (cut_off old bytes))
+  pub becomes : new ≡ refusing (bad_in (front_of old.gateway) bytes)
+      (frames_handled (ended old bytes) (cut_off old bytes))
 
 -- the first of the frames were handled
 pub record IsHandledPart (fs : List Frame) (old new : Gate) : Type 0 where
@@ -90,7 +91,8 @@ abbrev pub Polled : List ℕ → List ℕ → Gate → Gate → Got → Type 0
 Polled more out old new Quiet = (old.gateway.ready ≡ []) × (new ≡ ticks more old)
 Polled more out old new (Bytes n) =
     (old.gateway.ready ≡ take n out ++ new.gateway.ready)
-    × (new ≡ with_gateway old (record old.gateway { ready = new.gateway.ready; carried = old.gateway.carried ++ take n out }))
+    × (new ≡ with_gateway old (record
+    old.gateway { ready = new.gateway.ready; carried = old.gateway.carried ++ take n out }))
 
 -- the tester received a piece that is none of the gateway's bytes
 abbrev pub garbled : List ℕ → Gate → Gate

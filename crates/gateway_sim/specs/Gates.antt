@@ -59,4 +59,15 @@ made_of spec = record {
 
 -- a new connection
 abbrev pub redialed_gate : Gate → Gate
-redialed_gate g = record g { gateway = record g.gateway { active = None; deaf = false; unfinished = []; ready = []; later = []; held = []; carried = [] } }
+redialed_gate g = record g {
+  gateway =
+      record g.gateway {
+        active = None;
+        deaf = false;
+        unfinished = [];
+        ready = [];
+        later = [];
+        held = [];
+        carried = [];
+      };
+}

@@ -40,12 +40,21 @@ says g frame = with_gateway g (saying g.gateway frame)
 
 -- an activation request is answered
 abbrev pub answered : Answer → ℕ → Gateway → Gateway
-answered Accept source h = record h { active = Some source; ready = h.ready ++ activated_bytes source h.entity 16 }
-answered (Deny code) source h = record h { denied = raise_code code h.denied; ready = h.ready ++ activated_bytes source h.entity code }
+answered Accept source h = record h {
+  active = Some source;
+  ready = h.ready ++ activated_bytes source h.entity 16;
+}
+answered (Deny code) source h = record h {
+  denied = raise_code code h.denied;
+  ready = h.ready ++ activated_bytes source h.entity code;
+}
 answered Ignore source h = record h { silent = one_more h.silent }
 
 abbrev pub activates : ℕ → Gate → Gate
-activates source g = record g { gateway = answered (how g.troubles) source g.gateway; troubles = counted_activation g.troubles }
+activates source g = record g {
+  gateway = answered (how g.troubles) source g.gateway;
+  troubles = counted_activation g.troubles;
+}
 
 -- what a frame makes of a gateway, and what it means for a unit
 abbrev pub Step : Type 0
@@ -53,14 +62,23 @@ Step = Gate × Sent
 
 -- a message that comes to a unit, refused or not
 abbrev pub comes : ℕ → ℕ → List ℕ → Option ℕ → Gate → Step
-comes source target body None g = (record (says g (ack_bytes target source)) { troubles = counted_message target g.troubles }, Heard target body)
-comes source target body (Some code) g = (record (says g (nack_bytes target source code)) { troubles = counted_message target g.troubles }, Refused target code)
+comes source target body None g = (
+  record (says g (ack_bytes target source)) { troubles = counted_message target g.troubles },
+  Heard target
+      body,
+)
+comes source target body (Some code) g = (
+  record (says g (nack_bytes target source code)) { troubles = counted_message target g.troubles },
+  Refused
+      target code,
+)
 
 -- known: there is a unit with the target's address
 abbrev pub delivers : ℕ → ℕ → List ℕ → Bool → Option ℕ → Gate → Step
 delivers source target body known None g = (says g (nack_bytes target source 2), Nothing)
 delivers source target body known (Some tester) g =
-    if known then comes source target body (nack_for target g.troubles) g else (says g (nack_bytes target source 3), Nothing)
+    if known then comes source target body (nack_for target g.troubles) g
+    else (says g (nack_bytes target source 3), Nothing)
 
 abbrev pub handled : Frame → Bool → Gate → Step
 handled (Activate source kind oem) known g = (activates source g, Nothing)
@@ -91,7 +109,8 @@ refusing bad g = refused (code_of bad) g
 
 -- a reply of a unit is queued
 abbrev pub queued : ℕ → ℕ → List ℕ → Gate → Gate
-queued unit due body g = with_gateway g (enqueue g.gateway due (message_bytes unit (tester_of g.gateway) body))
+queued unit due body g =
+    with_gateway g (enqueue g.gateway due (message_bytes unit (tester_of g.gateway) body))
 
 -- a tick passes; `more` comes behind the alive check
 abbrev pub ticking : ℕ → List ℕ → Gateway → Gateway

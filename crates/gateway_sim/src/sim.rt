@@ -139,19 +139,22 @@ impl GatewaySim {
     }
 
     fn count_activation(&mut self)
-        ensures { gate_of self.new ≡ record (gate_of self.old) { troubles = counted_activation (gate_of self.old).troubles } }
+        ensures { gate_of self.new
+            ≡ record (gate_of self.old) { troubles = counted_activation (gate_of self.old).troubles } }
     {
         count_activation(&mut self.troubles);
     }
 
     fn count_message(&mut self, target: u16)
-        ensures { gate_of self.new ≡ record (gate_of self.old) { troubles = counted_message target (gate_of self.old).troubles } }
+        ensures { gate_of self.new
+            ≡ record (gate_of self.old) { troubles = counted_message target (gate_of self.old).troubles } }
     {
         count_message(&mut self.troubles, target);
     }
 
     fn say_activated(&mut self, source: u16, code: u8) -> Result<(), NoMemory>
-        ensures ok { OnOk result (gate_of self.new ≡ says (gate_of self.old) (written (Frame.Activated source (gate_of self.old).gateway.entity code None))) }
+        ensures ok { OnOk result (gate_of self.new ≡ says (gate_of self.old)
+            (written (Frame.Activated source (gate_of self.old).gateway.entity code None))) }
         ensures err { OnErr result (gate_of self.new ≡ gate_of self.old) }
     {
         self.say(&Frame::Activated {
@@ -163,7 +166,8 @@ impl GatewaySim {
     }
 
     fn answer(&mut self, answer: Answer, source: u16) -> Result<(), NoMemory>
-        ensures ok { OnOk result (gate_of self.new ≡ with_gateway (gate_of self.old) (answered answer source (gateway_of self.old))) }
+        ensures ok { OnOk result (gate_of self.new ≡ with_gateway (gate_of self.old)
+            (answered answer source (gateway_of self.old))) }
         ensures err { OnErr result (gate_of self.new ≡ gate_of self.old) }
     {
         match answer {
@@ -206,7 +210,8 @@ impl GatewaySim {
 
     /// The message was not delivered (ISO 13400-2:2019, payload type 0x8003).
     fn refuse(&mut self, source: u16, target: u16, code: u8) -> Result<(), NoMemory>
-        ensures ok { OnOk result (gate_of self.new ≡ says (gate_of self.old) (nack_bytes target source code)) }
+        ensures ok { OnOk result (gate_of self.new ≡ says (gate_of self.old)
+            (nack_bytes target source code)) }
         ensures err { OnErr result (gate_of self.new ≡ gate_of self.old) }
     {
         self.say(&Frame::Nack {
@@ -224,7 +229,8 @@ impl GatewaySim {
         target: u16,
         body: &'a [u8],
     ) -> Result<Delivery<'a>, NoMemory>
-        ensures ok { IfOk result (λ d. (gate_of self.new, sent_of d) ≡ comes source target body.now (nack_for target (gate_of self.old).troubles) (gate_of self.old)) }
+        ensures ok { IfOk result (λ d. (gate_of self.new, sent_of d) ≡ comes source target body.now
+            (nack_for target (gate_of self.old).troubles) (gate_of self.old)) }
         ensures err { OnErr result (gate_of self.new ≡ gate_of self.old) }
     {
         match nack_for(self.troubles.as_slice(), target) {
@@ -249,7 +255,8 @@ impl GatewaySim {
         body: &'a [u8],
         known: bool,
     ) -> Result<Delivery<'a>, NoMemory>
-        ensures ok { IfOk result (λ d. (gate_of self.new, sent_of d) ≡ delivers source target body.now known (gate_of self.old).gateway.active (gate_of self.old)) }
+        ensures ok { IfOk result (λ d. (gate_of self.new, sent_of d) ≡ delivers source target body.now known
+            (gate_of self.old).gateway.active (gate_of self.old)) }
         ensures err { OnErr result (gate_of self.new ≡ gate_of self.old) }
     {
         let Some(_) = self.active else {
@@ -266,7 +273,8 @@ impl GatewaySim {
     /// Handles one frame; `known` says whether there is a unit with the address that a message is for. Where there is no
     /// memory nothing has changed.
     pub fn handle<'a>(&mut self, frame: &'a Frame, known: bool) -> Result<Delivery<'a>, NoMemory>
-        ensures ok { IfOk result (λ d. (gate_of self.new, sent_of d) ≡ handled frame.now known (gate_of self.old)) }
+        ensures ok { IfOk result (λ d. (gate_of self.new, sent_of d) ≡ handled frame.now known
+            (gate_of self.old)) }
         ensures err { OnErr result (gate_of self.new ≡ gate_of self.old) }
     {
         match frame {
@@ -292,9 +300,11 @@ impl GatewaySim {
     /// Cuts the bytes into frames behind those that came before, and handles none yet. Where there is no memory nothing has
     /// changed.
     pub fn cut(&mut self, bytes: &[u8]) -> Result<Fed, NoMemory>
-        ensures frames { IfOk result (λ fed. fed.frames ≡ frames_in (front_of (gateway_of self.old)) bytes.now) }
+        ensures frames { IfOk result (λ fed. fed.frames ≡ frames_in
+            (front_of (gateway_of self.old)) bytes.now) }
         ensures bad { IfOk result (λ fed. fed.bad ≡ bad_in (front_of (gateway_of self.old)) bytes.now) }
-        ensures ok { OnOk result (gate_of self.new ≡ at_front (held_after (front_of (gateway_of self.old)) bytes.now) (gate_of self.old)) }
+        ensures ok { OnOk result (gate_of self.new ≡ at_front
+            (held_after (front_of (gateway_of self.old)) bytes.now) (gate_of self.old)) }
         ensures err { OnErr result (gate_of self.new ≡ gate_of self.old) }
     {
         self.deframer.feed(bytes)
@@ -370,7 +380,8 @@ impl GatewaySim {
 
     /// An alive check is sent at the tick.
     fn is_checked(&self, tick: u64) -> bool
-        ensures { result ≡ (is_some (gateway_of self.now).active && has_tick tick (gateway_of self.now).alive) }
+        ensures { result ≡ (is_some (gateway_of self.now).active
+            && has_tick tick (gateway_of self.now).alive) }
     {
         if self.active.is_none() {
             return false;
@@ -418,8 +429,10 @@ impl GatewaySim {
 
     /// Handles a frame, and keeps its order.
     fn handle_one(&mut self, frame: &Frame, orders: &mut Orders) -> Result<(), NoMemory>
-        ensures ok { OnOk result ((gate_of self.new ≡ (one_handled frame.now (gate_of self.old)).0) × (orders.new ≡ orders.old ++ order_in (one_handled frame.now (gate_of self.old)).1)) }
-        ensures err { OnErr result ((gate_of self.new ≡ gate_of self.old) ⊎ (gate_of self.new ≡ (one_handled frame.now (gate_of self.old)).0)) }
+        ensures ok { OnOk result ((gate_of self.new ≡ (one_handled frame.now (gate_of self.old)).0)
+            × (orders.new ≡ orders.old ++ order_in (one_handled frame.now (gate_of self.old)).1)) }
+        ensures err { OnErr result ((gate_of self.new ≡ gate_of self.old)
+            ⊎ (gate_of self.new ≡ (one_handled frame.now (gate_of self.old)).0)) }
     {
         let known = is_one_of(self.units.as_slice(), target_of(frame));
         match self.handle(frame, known)? {
@@ -432,7 +445,8 @@ impl GatewaySim {
     }
 
     fn handle_all(&mut self, fed: &Fed) -> Result<Orders, NoMemory>
-        ensures ok { IfOk result (λ orders. (orders ≡ orders_of fed.now.frames (gate_of self.old)) × (gate_of self.new ≡ refusing fed.now.bad (frames_handled fed.now.frames (gate_of self.old)))) }
+        ensures ok { IfOk result (λ orders. (orders ≡ orders_of fed.now.frames (gate_of self.old))
+            × (gate_of self.new ≡ refusing fed.now.bad (frames_handled fed.now.frames (gate_of self.old)))) }
         ensures err { OnErr result (IsHandledPart fed.now.frames (gate_of self.old) (gate_of self.new)) }
     {
         let mut orders = Items::new(self.alloc);

@@ -25,7 +25,8 @@ value_of bytes = slice_index bytes 4 * 256 + slice_index bytes 5
 -- every line is empty, or a record that is no end
 abbrev pub AreRecords : List (List ℕ) → Type 0
 AreRecords [] = Unit {0}
-AreRecords (line ∷ more) = ((line ≡ []) ⊎ ((bytes : List ℕ) × IsRecord line bytes × (kind_of bytes ≢ 1))) × AreRecords more
+AreRecords (line ∷ more) = ((line ≡ []) ⊎ ((bytes : List ℕ) × IsRecord line bytes × (kind_of bytes ≢ 1)))
+    × AreRecords more
 
 abbrev pub AreEmpty : List (List ℕ) → Type 0
 AreEmpty [] = Unit {0}
@@ -39,7 +40,8 @@ Sets bytes (Linear base) = (kind_of bytes ≡ 4) × (base ≡ value_of bytes * 6
 -- no line sets the base
 abbrev pub SetNone : List (List ℕ) → Type 0
 SetNone [] = Unit {0}
-SetNone (line ∷ more) = ((bytes : List ℕ) (base : Base) → IsRecord line bytes → Sets bytes base → ⊥) × SetNone more
+SetNone (line ∷ more) = ((bytes : List ℕ) (base : Base) → IsRecord line bytes → Sets bytes base → ⊥)
+    × SetNone more
 
 -- the base behind these lines: that of the last line which sets it, or else linear 0
 abbrev pub HasBase : List (List ℕ) → Base → Type 0
@@ -56,9 +58,12 @@ address (Segment base) offset k = base + (offset + k) % 2 ^ 16
 -- some data line gives this byte at this address
 abbrev pub Gives : List (List ℕ) → ℕ → ℕ → Type 0
 Gives ls a b =
-    (front : List (List ℕ)) × (line : List ℕ) × (back : List (List ℕ)) × (bytes : List ℕ) × (base : Base) × (k : ℕ)
-    × (ls ≡ front ++ line ∷ back) × IsRecord line bytes × (kind_of bytes ≡ 0) × HasBase front base × (k < slice_index bytes 0)
-    × (a ≡ address base (slice_index bytes 1 * 256 + slice_index bytes 2) k) × (slice_get bytes (4 + k) ≡ Some b)
+    (front : List (List ℕ)) × (line : List ℕ) × (back : List (List ℕ)) × (bytes : List ℕ) × (base : Base)
+    × (k : ℕ)
+    × (ls ≡ front ++ line ∷ back) × IsRecord line bytes × (kind_of bytes ≡ 0) × HasBase front base
+    × (k < slice_index bytes 0)
+    × (a ≡ address base (slice_index bytes 1 * 256 + slice_index bytes 2) k)
+    × (slice_get bytes (4 + k) ≡ Some b)
 
 -- Records, one end, and nothing behind it.
 pub record HasShape (text : List ℕ) : Type 0 where

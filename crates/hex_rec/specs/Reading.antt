@@ -25,7 +25,9 @@ abbrev pub applied : State → List ℕ → Result State RecFault
 applied s bytes =
     let kind = slice_index bytes 3 in
     let value = slice_index bytes 4 * 256 + slice_index bytes 5 in
-    if nat_eq kind 0 then with_map s (put_line s.spans s.base (slice_index bytes 1 * 256 + slice_index bytes 2) (take (slice_index bytes 0) (drop 4 bytes)))
+    if nat_eq kind 0 then with_map s
+    (put_line s.spans s.base (slice_index bytes 1 * 256 + slice_index bytes 2)
+    (take (slice_index bytes 0) (drop 4 bytes)))
     else (if nat_eq kind 1 then Ok (record s { ended = true })
     else (if nat_eq kind 2 then Ok (record s { base = Segment (value * 16) })
     else (if nat_eq kind 4 then Ok (record s { base = Linear (value * 65536) })

@@ -14,11 +14,13 @@ is_kind kind count =
 
 -- whether the bytes are a count, an offset, a kind, that many bytes and a checksum
 abbrev pub is_record : List ℕ → Bool
-is_record bytes = nat_eq (length bytes) (slice_index bytes 0 + 5) && is_kind (slice_index bytes 3) (slice_index bytes 0)
+is_record bytes =
+    nat_eq (length bytes) (slice_index bytes 0 + 5) && is_kind (slice_index bytes 3) (slice_index bytes 0)
 
 abbrev pub checked : ℕ → Option (List ℕ) → Result (List ℕ) RecFault
 checked n None = Err (BadLine n)
-checked n (Some bytes) = if is_record bytes then (if nat_eq (sum bytes % 256) 0 then Ok bytes else Err (BadSum n)) else Err (BadLine n)
+checked n (Some bytes) = if is_record bytes
+    then (if nat_eq (sum bytes % 256) 0 then Ok bytes else Err (BadSum n)) else Err (BadLine n)
 
 -- the bytes of line n
 abbrev pub record_of : ℕ → List ℕ → Result (List ℕ) RecFault

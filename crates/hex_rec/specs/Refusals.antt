@@ -30,21 +30,26 @@ pub record HasForm (line bytes : List ℕ) : Type 0 where
 -- a data line gives another byte than stands at an address
 abbrev pub Differs : ByteMap → Base → List ℕ → ℕ → Type 0
 Differs m base bytes a =
-    (k : ℕ) × (b : ℕ) × (old : ℕ) × (k < slice_index bytes 0) × (a ≡ address base (slice_index bytes 1 * 256 + slice_index bytes 2) k)
+    (k : ℕ) × (b : ℕ) × (old : ℕ) × (k < slice_index bytes 0)
+    × (a ≡ address base (slice_index bytes 1 * 256 + slice_index bytes 2) k)
     × (slice_get bytes (4 + k) ≡ Some b) × (get m a ≡ Some old) × (old ≢ b)
 
 -- what is wrong with a line behind others
 abbrev pub IsWrong : RecFault → List (List ℕ) → List ℕ → Type 0
-IsWrong (BadLine n) front line = (n ≡ length front + 1) × AreRight front × (line ≢ []) × ((bytes : List ℕ) → HasForm line bytes → ⊥)
-IsWrong (BadSum n) front line = (n ≡ length front + 1) × AreRight front × ((bytes : List ℕ) × HasForm line bytes × (sum bytes % 256 ≢ 0))
+IsWrong (BadLine n) front line = (n ≡ length front + 1) × AreRight front × (line ≢ [])
+    × ((bytes : List ℕ) → HasForm line bytes → ⊥)
+IsWrong (BadSum n) front line = (n ≡ length front + 1) × AreRight front
+    × ((bytes : List ℕ) × HasForm line bytes × (sum bytes % 256 ≢ 0))
 IsWrong (BadCount said seen) front line = ⊥
 IsWrong (AfterEnd n) front line =
     (n ≡ length front + 1) × (line ≢ [])
-    × ((early : List (List ℕ)) × (last : List ℕ) × (empty : List (List ℕ)) × (front ≡ early ++ last ∷ empty) × AreRight early
+    × ((early : List (List ℕ)) × (last : List ℕ) × (empty : List (List ℕ)) × (front ≡ early ++ last ∷ empty)
+    × AreRight early
     × ((bytes : List ℕ) × IsRecord last bytes × (kind_of bytes ≡ 1)) × AreEmpty empty)
 IsWrong (Conflict a) front line =
     (m : ByteMap) × Stands front m
-    × ((bytes : List ℕ) × (base : Base) × IsRecord line bytes × (kind_of bytes ≡ 0) × HasBase front base × IsLowest (Differs m base bytes) (Some a))
+    × ((bytes : List ℕ) × (base : Base) × IsRecord line bytes × (kind_of bytes ≡ 0) × HasBase front base
+    × IsLowest (Differs m base bytes) (Some a))
 IsWrong NoEnd front line = ⊥
 IsWrong NoMemory front line = ⊥
 
@@ -52,4 +57,5 @@ IsWrong NoMemory front line = ⊥
 abbrev pub IsRefused : List ℕ → RecFault → Type 0
 IsRefused text fault =
     ((fault ≡ NoEnd) × AreRight (lines text))
-    ⊎ ((front : List (List ℕ)) × (line : List ℕ) × (back : List (List ℕ)) × (lines text ≡ front ++ line ∷ back) × IsWrong fault front line)
+    ⊎ ((front : List (List ℕ)) × (line : List ℕ) × (back : List (List ℕ))
+    × (lines text ≡ front ++ line ∷ back) × IsWrong fault front line)

@@ -35,7 +35,9 @@ fn push_line(text: &mut Bytes, head: &[u8], rest: &[u8]) -> Result<(), NoMemory>
 /// Puts the base line of an address at the end of a text, where the last upper bits are others.
 fn push_base(text: &mut Bytes, at: u64, upper: u64) -> Result<(), NoMemory>
     requires { at < 2 ^ 32 }
-    ensures { OnOk result (text.new ≡ text.old ++ (if nat_eq (at / 65536) upper then [] else line_of (2 ∷ 0 ∷ 0 ∷ 4 ∷ at / 65536 / 256 ∷ at / 65536 % 256 ∷ []))) }
+    ensures { OnOk result (text.new ≡ text.old
+        ++ (if nat_eq (at / 65536) upper then []
+        else line_of (2 ∷ 0 ∷ 0 ∷ 4 ∷ at / 65536 / 256 ∷ at / 65536 % 256 ∷ []))) }
 {
     let needed = at / 65536;
     if needed == upper {
@@ -51,7 +53,8 @@ fn push_base(text: &mut Bytes, at: u64, upper: u64) -> Result<(), NoMemory>
 /// Puts a data line at the end of a text.
 fn push_data(text: &mut Bytes, at: u64, bytes: &[u8]) -> Result<(), NoMemory>
     requires { length bytes.now ≤ 16 }
-    ensures pushed { OnOk result (text.new ≡ text.old ++ line_of (length bytes.now ∷ at % 65536 / 256 ∷ at % 256 ∷ 0 ∷ bytes.now)) }
+    ensures pushed { OnOk result (text.new ≡ text.old ++ line_of
+        (length bytes.now ∷ at % 65536 / 256 ∷ at % 256 ∷ 0 ∷ bytes.now)) }
     ensures small { All (λ b. b < 2 ^ 8) bytes.now }
 {
     let head = [
@@ -92,5 +95,6 @@ pub fn write(alloc: Global, spans: &Spans) -> Result<Bytes, NoMemory>
 /// A map has one text, and reading that text gives the map.
 pub fn writing_law()
     ensures one { (m : ByteMap) (s t : List ℕ) → IsWritten m s → IsWritten m t → s ≡ t }
-    ensures read { (m : ByteMap) (text : List ℕ) → ((a b : ℕ) → map.get m a ≡ Some b → b < 256) → IsWritten m text → reading_of text ≡ Ok m }
+    ensures read { (m : ByteMap) (text : List ℕ) → ((a b : ℕ) → map.get m a ≡ Some b → b < 256)
+        → IsWritten m text → reading_of text ≡ Ok m }
 {}

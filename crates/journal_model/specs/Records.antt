@@ -80,7 +80,8 @@ is_fresh image = nat_le (length image) 1 || slice_index image 0 == 0
 
 -- a header of this version from a place on: its gate is open, and its fixed parts stand, but for its last byte
 abbrev pub is_header : List ℕ → ℕ → ℕ → Bool
-is_header image at v = slice_index image at == 165 && stands_at image (at + 1) 11 (magic_and_version v) && stands_at image (at + 48) 15 (replicate 15 0)
+is_header image at v = slice_index image at == 165 && stands_at image (at + 1) 11 (magic_and_version v)
+    && stands_at image (at + 48) 15 (replicate 15 0)
 
 -- a version 2 header; its last byte is 0
 abbrev pub is_new_header : List ℕ → ℕ → Bool
@@ -105,7 +106,8 @@ abbrev pub is_migrated : List ℕ → Bool
 is_migrated image = not (is_new image) && slice_index image 63 == 165
 
 abbrev pub form_of : Label → List ℕ → Form
-form_of P image = if is_new image then new_form P 0 else (if is_migrated image then new_form P (behind P) else old_form P)
+form_of P image =
+    if is_new image then new_form P 0 else (if is_migrated image then new_form P (behind P) else old_form P)
 
 -- ------ the slots of a form
 -- the entry is of a unit and a segment that the form has
@@ -148,7 +150,8 @@ is_formed F image = each_below (slots_of F) (λ k. not (is_open F image k) || is
 
 -- no open body stands twice
 abbrev pub is_distinct : Form → List ℕ → Bool
-is_distinct F image = each_below (slots_of F) (λ k. not (is_open F image k) || each_below k (λ l. not (is_open F image l)
+is_distinct F image =
+    each_below (slots_of F) (λ k. not (is_open F image k) || each_below k (λ l. not (is_open F image l)
     || not (each_below 16 (λ j. slice_index image (body_at F k + j) == slice_index image (body_at F l + j)))))
 
 -- none is complete or marked that is not begun
@@ -158,7 +161,8 @@ is_ordered F image = each_below F.units (λ u. has F image (Begun u)
 
 -- the length and the open bodies are right
 abbrev pub is_filled : Form → List ℕ → Bool
-is_filled F image = nat_le (end_of F) (length image) && is_formed F image && is_distinct F image && is_ordered F image
+is_filled F image =
+    nat_le (end_of F) (length image) && is_formed F image && is_distinct F image && is_ordered F image
 
 -- ------ a journal of the plan
 -- the first header says the number of slots of its version
@@ -168,7 +172,8 @@ counts P image = says_slots image 0 (if is_new image then slots_of (new_form P 0
 -- a migrated file has a second header, of version 2, with this digest and number of slots
 abbrev pub has_second : Label → List ℕ → Bool
 has_second P image = not (is_migrated image)
-    || (is_new_header image (behind P) && says_digest P image (behind P) && says_slots image (behind P) (slots_of (new_form P 0)))
+    || (is_new_header image (behind P) && says_digest P image (behind P)
+    && says_slots image (behind P) (slots_of (new_form P 0)))
 
 abbrev pub is_standing : Label → List ℕ → Bool
 is_standing P image = counts P image && has_second P image && is_filled (form_of P image) image

@@ -11,7 +11,8 @@ one_unit = record { digest = replicate 32 7; segments = 1 ∷ [] }
 -- a header of 64 bytes with this gate, version, number of slots and last byte
 abbrev pub header : ℕ → ℕ → ℕ → ℕ → List ℕ
 header gate version slots last =
-    (gate ∷ 79 ∷ 68 ∷ 88 ∷ 70 ∷ 74 ∷ 78 ∷ 76 ∷ version ∷ 0 ∷ 0 ∷ 0 ∷ 0 ∷ 0 ∷ 0 ∷ slots ∷ []) ++ (replicate 32 7 ++ (replicate 15 0 ++ (last ∷ [])))
+    (gate ∷ 79 ∷ 68 ∷ 88 ∷ 70 ∷ 74 ∷ 78 ∷ 76 ∷ version ∷ 0 ∷ 0 ∷ 0 ∷ 0 ∷ 0 ∷ 0 ∷ slots ∷ [])
+    ++ (replicate 32 7 ++ (replicate 15 0 ++ (last ∷ [])))
 
 -- 01, 03 and 02: unit 0 is begun, its segment 0 is marked, it is complete
 abbrev pub begun : List ℕ
@@ -32,11 +33,13 @@ next_marked = 3 ∷ 0 ∷ 0 ∷ 0 ∷ 0 ∷ 1 ∷ 0 ∷ 0 ∷ 0 ∷ 0 ∷ 0 ∷ 
 
 -- version 1: two gates and two bodies, and what stands behind
 abbrev pub old_file : ℕ → ℕ → ℕ → List ℕ → List ℕ → List ℕ → List ℕ
-old_file last first second body next rest = header 165 1 2 last ++ ((first ∷ second ∷ []) ++ (body ++ (next ++ rest)))
+old_file last first second body next rest =
+    header 165 1 2 last ++ ((first ∷ second ∷ []) ++ (body ++ (next ++ rest)))
 
 -- version 2: three gates and three bodies
 abbrev pub new_file : ℕ → ℕ → ℕ → List ℕ → List ℕ → List ℕ → List ℕ
-new_file first second third body next last = header 165 2 3 0 ++ ((first ∷ second ∷ third ∷ []) ++ (body ++ (next ++ last)))
+new_file first second third body next last =
+    header 165 2 3 0 ++ ((first ∷ second ∷ third ∷ []) ++ (body ++ (next ++ last)))
 
 -- the gate of the second slot, while it is written: the old byte, any other, or A5
 abbrev pub gate_written : ℕ → List ℕ
@@ -47,9 +50,12 @@ abbrev pub last_written : ℕ → List ℕ
 last_written last = old_file last 165 0 begun complete (new_file 165 0 0 begun marked complete)
 
 pub record AreRecordsWorked : Type 0 where
-  pub old_gate : (records one_unit (gate_written 0) (Begun 0) ≡ true) × (records one_unit (gate_written 0) (Complete 0) ≡ false)
-  pub junk_gate : (records one_unit (gate_written 90) (Begun 0) ≡ true) × (records one_unit (gate_written 90) (Complete 0) ≡ false)
-  pub new_gate : (records one_unit (gate_written 165) (Begun 0) ≡ true) × (records one_unit (gate_written 165) (Complete 0) ≡ true)
+  pub old_gate : (records one_unit (gate_written 0) (Begun 0) ≡ true)
+      × (records one_unit (gate_written 0) (Complete 0) ≡ false)
+  pub junk_gate : (records one_unit (gate_written 90) (Begun 0) ≡ true)
+      × (records one_unit (gate_written 90) (Complete 0) ≡ false)
+  pub new_gate : (records one_unit (gate_written 165) (Begun 0) ≡ true)
+      × (records one_unit (gate_written 165) (Complete 0) ≡ true)
   -- a body behind a closed gate may be anything, and the last byte of a version 1 header may be any but A5
   pub hidden : records one_unit (old_file 9 165 0 begun (replicate 16 90) []) (Begun 0) ≡ true
   -- no other entry is there
@@ -85,12 +91,18 @@ pub record AreMigrationsWorked : Type 0 where
   pub old_size : length (old_file 0 165 0 begun complete []) ≡ 98
   pub size : length (last_written 165) ≡ 213
   -- whatever stands at place 63 meanwhile, the entries are the same
-  pub old_byte : (records one_unit (last_written 0) (Begun 0) ≡ true) × (records one_unit (last_written 0) (Complete 0) ≡ false)
-  pub junk_byte : (records one_unit (last_written 90) (Begun 0) ≡ true) × (records one_unit (last_written 90) (Complete 0) ≡ false)
-  pub new_byte : (records one_unit (last_written 165) (Begun 0) ≡ true) × (records one_unit (last_written 165) (Complete 0) ≡ false)
+  pub old_byte : (records one_unit (last_written 0) (Begun 0) ≡ true)
+      × (records one_unit (last_written 0) (Complete 0) ≡ false)
+  pub junk_byte : (records one_unit (last_written 90) (Begun 0) ≡ true)
+      × (records one_unit (last_written 90) (Complete 0) ≡ false)
+  pub new_byte : (records one_unit (last_written 165) (Begun 0) ≡ true)
+      × (records one_unit (last_written 165) (Complete 0) ≡ false)
   -- of a migrated file the slots of version 1 count no more, whatever they say
-  pub first_free : records one_unit (old_file 165 0 165 begun marked (new_file 165 165 0 begun marked complete)) (Marked 0 0) ≡ true
+  pub first_free : records one_unit
+      (old_file 165 0 165 begun marked (new_file 165 165 0 begun marked complete)) (Marked 0 0) ≡ true
   -- no journal: the second header is of version 1, its gate is closed, or it is not there
-  pub second_old : is_journal one_unit (old_file 165 165 0 begun complete (header 165 1 3 0 ++ replicate 51 0)) ≡ false
-  pub second_closed : is_journal one_unit (old_file 165 165 0 begun complete (header 0 2 3 0 ++ replicate 51 0)) ≡ false
+  pub second_old : is_journal one_unit
+      (old_file 165 165 0 begun complete (header 165 1 3 0 ++ replicate 51 0)) ≡ false
+  pub second_closed : is_journal one_unit
+      (old_file 165 165 0 begun complete (header 0 2 3 0 ++ replicate 51 0)) ≡ false
   pub second_gone : is_journal one_unit (old_file 165 165 0 begun complete []) ≡ false

@@ -33,7 +33,8 @@ with_entries es R x = is_among es x || R x
 
 -- each image has the entries, or the entry too
 abbrev pub AddsAtMost : Label → (Entry → Bool) → Entry → DiskState → Type 0
-AddsAtMost P R e disk = (image : List ℕ) → IsCrashImage disk image → Records P R image ⊎ Records P (with_entry e R) image
+AddsAtMost P R e disk = (image : List ℕ) → IsCrashImage disk image → Records P R image
+    ⊎ Records P (with_entry e R) image
 
 -- the image has all the entries, and no others but some of the list
 pub record HasSomeOf (P : Label) (R : Entry → Bool) (es : List Entry) (image : List ℕ) : Type 0 where
@@ -58,7 +59,8 @@ abbrev pub AddsSome : Label → (Entry → Bool) → (ℕ → Entry) → ℕ →
 AddsSome P R at m disk = (image : List ℕ) → IsCrashImage disk image → HasSome P R at m image
 
 -- a settled journal in the form F with m closed slots from k on, and m entries that it lacks
-pub record CanAppendGroup (P : Label) (F : Form) (R : Entry → Bool) (disk : DiskState) (k : ℕ) (at : ℕ → Entry) (m : ℕ) (bodies gates : List ℕ) : Type 0 where
+pub record CanAppendGroup (P : Label) (F : Form) (R : Entry → Bool) (disk : DiskState) (k : ℕ)
+    (at : ℕ → Entry) (m : ℕ) (bodies gates : List ℕ) : Type 0 where
   pub settled : IsSettled disk
   pub holds : Records P R disk.bytes
   pub form : form_of P disk.bytes ≡ F
@@ -74,7 +76,8 @@ pub record CanAppendGroup (P : Label) (F : Form) (R : Entry → Bool) (disk : Di
   pub opens : (j : ℕ) → j < m → slice_index gates j ≡ 165
 
 -- the disk is settled, and has all of the group
-pub record HasAddedGroup (P : Label) (F : Form) (R : Entry → Bool) (old : List ℕ) (k : ℕ) (at : ℕ → Entry) (m : ℕ) (disk : DiskState) : Type 0 where
+pub record HasAddedGroup (P : Label) (F : Form) (R : Entry → Bool) (old : List ℕ) (k : ℕ) (at : ℕ → Entry)
+    (m : ℕ) (disk : DiskState) : Type 0 where
   pub settled : IsSettled disk
   pub holds : Records P (and_some R (λ j. true) at m) disk.bytes
   pub form : form_of P disk.bytes ≡ F

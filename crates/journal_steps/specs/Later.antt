@@ -43,4 +43,5 @@ pub record MadeCalls (old new : History) (calls : List Call) : Type 0 where
 
 -- the calls that record entries in a run of slots of a journal: bodies, sync, gates, sync
 abbrev pub append_calls : Form → ℕ → List ℕ → List ℕ → List Call
-append_calls F slot bodies gates = WriteAt (body_at F slot) bodies ∷ Sync ∷ WriteAt (gate_at F slot) gates ∷ Sync ∷ []
+append_calls F slot bodies gates =
+    WriteAt (body_at F slot) bodies ∷ Sync ∷ WriteAt (gate_at F slot) gates ∷ Sync ∷ []

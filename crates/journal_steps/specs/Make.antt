@@ -43,7 +43,8 @@ AllFollow P old disk = (image : List ℕ) → IsCrashImage disk image → Follow
 pub record CanFill (bytes : List ℕ) (start : ℕ) : Type 0 where
   pub kept : 1 ≤ start
   pub within : start ≤ length bytes
-  pub head : (start ≡ 1) × (slice_index bytes 0 ≡ 0) ⊎ (start ≡ 8) × (stands_at bytes 1 7 magic ≡ true) × (slice_index bytes 0 ≡ 165 → ⊥)
+  pub head : (start ≡ 1) × (slice_index bytes 0 ≡ 0) ⊎ (start ≡ 8) × (stands_at bytes 1 7 magic ≡ true)
+      × (slice_index bytes 0 ≡ 165 → ⊥)
 
 -- a settled file that may be filled with the bytes of a new journal from this place
 pub record CanMake (P : Label) (disk : DiskState) (start : ℕ) (written : List ℕ) : Type 0 where

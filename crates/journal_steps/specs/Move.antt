@@ -22,8 +22,11 @@ pub record IsSecond (P : Label) (old second : List ℕ) : Type 0 where
   pub digest : says_digest P second 0 ≡ true
   pub count : says_slots second 0 (slots_of (new_form P 0)) ≡ true
   pub gates : (j : ℕ) → j < slots_of (old_form P) → slice_index second (64 + j) ≡ slice_index old (64 + j)
-  pub closed : (j : ℕ) → slots_of (old_form P) ≤ j → j < slots_of (new_form P 0) → slice_index second (64 + j) ≡ 0
-  pub bodies : (i : ℕ) → i < 16 * slots_of (old_form P) → slice_index second (64 + slots_of (new_form P 0) + i) ≡ slice_index old (64 + slots_of (old_form P) + i)
+  pub closed : (j : ℕ) → slots_of (old_form P) ≤ j → j < slots_of (new_form P 0)
+      → slice_index second (64 + j) ≡ 0
+  pub bodies : (i : ℕ) → i < 16 * slots_of (old_form P)
+      → slice_index second (64 + slots_of (new_form P 0) + i) ≡ slice_index old
+      (64 + slots_of (old_form P) + i)
 
 -- the bytes of such a journal, from the gates and the bodies of the old one
 abbrev pub second_bytes : Label → List ℕ → List ℕ → List ℕ
@@ -43,5 +46,7 @@ pub record HasMoved (P : Label) (R : Entry → Bool) (old : List ℕ) (disk : Di
   pub settled : IsSettled disk
   pub holds : Records P R disk.bytes
   pub form : form_of P disk.bytes ≡ new_form P (behind P)
-  pub same : (j : ℕ) → j < slots_of (old_form P) → is_open (new_form P (behind P)) disk.bytes j ≡ is_open (old_form P) old j
-  pub closed : (j : ℕ) → slots_of (old_form P) ≤ j → j < slots_of (new_form P 0) → is_open (new_form P (behind P)) disk.bytes j ≡ false
+  pub same : (j : ℕ) → j < slots_of (old_form P)
+      → is_open (new_form P (behind P)) disk.bytes j ≡ is_open (old_form P) old j
+  pub closed : (j : ℕ) → slots_of (old_form P) ≤ j → j < slots_of (new_form P 0)
+      → is_open (new_form P (behind P)) disk.bytes j ≡ false

@@ -47,7 +47,8 @@ pub record IsFront (m : ℕ) (image front : List ℕ) : Type 0 where
 
 -- the tests of one slot: two slots have one body; the body is in the form; no lower open slot has it
 abbrev pub twice : Form → List ℕ → ℕ → ℕ → Bool
-twice F bytes k l = each_below 16 (λ j. slice_index bytes (body_at F k + j) == slice_index bytes (body_at F l + j))
+twice F bytes k l =
+    each_below 16 (λ j. slice_index bytes (body_at F k + j) == slice_index bytes (body_at F l + j))
 
 abbrev pub one_formed : Form → List ℕ → ℕ → Bool
 one_formed F bytes k = not (is_open F bytes k) || is_spelt F bytes k
@@ -60,7 +61,8 @@ one_distinct F bytes k = not (is_open F bytes k) || each_below k (one_apart F by
 
 -- the test of one unit: it is begun, or nothing else is recorded of it
 abbrev pub one_ordered : Form → (Entry → Bool) → ℕ → Bool
-one_ordered F R u = R (Begun u) || (not (R (Complete u)) && each_below (segments_of F u) (λ s. not (R (Marked u s))))
+one_ordered F R u =
+    R (Begun u) || (not (R (Complete u)) && each_below (segments_of F u) (λ s. not (R (Marked u s))))
 
 abbrev pub has_upto : Form → List ℕ → ℕ → Entry → Bool
 has_upto F bytes k e = some_below k (λ j. is_open F bytes j && spells F bytes j e)

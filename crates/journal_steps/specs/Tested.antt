@@ -13,5 +13,6 @@ abbrev pub tested : Label → List ℕ → Tested
 tested P image =
     if is_fresh image then NotMade
     else (if is_headed image
-    then (if says_digest P image 0 then (if is_standing P image then OfThisPlan else NoJournal) else OfOtherPlan)
+    then (if says_digest P image 0 then (if is_standing P image then OfThisPlan else NoJournal)
+    else OfOtherPlan)
     else NoJournal)

@@ -37,7 +37,8 @@ bytes_since_dial events = bytes_in (since_dial events)
 -- these events of one connection ended it: a call failed, its bytes broke it, or the activation had no answer at the 1,000th
 -- quiet poll for it
 abbrev pub is_ended : List Event → Bool
-is_ended since = has is_failed_call since || is_broken (stream_of (bytes_in since)) || nat_le 1000 (count is_quiet_wait since)
+is_ended since = has is_failed_call since || is_broken (stream_of (bytes_in since))
+    || nat_le 1000 (count is_quiet_wait since)
 
 abbrev pub hears_loss : List Event → Heard → Bool
 hears_loss since Kept = false
@@ -74,7 +75,8 @@ phase_of events = phase_in (last_dial events) (since_dial events)
 -- ------ an alive check to be answered
 -- an alive check ends in the piece of this event, and none behind it answers one
 abbrev pub leaves_check : List Event → Event → List Event → Bool
-leaves_check before e behind = nat_lt (checks_of (bytes_in before)) (checks_of (bytes_in before ++ event_bytes e)) && not (has is_say behind)
+leaves_check before e behind = nat_lt (checks_of (bytes_in before))
+    (checks_of (bytes_in before ++ event_bytes e)) && not (has is_say behind)
 
 abbrev pub is_owed : List Event → Bool
 is_owed since = some_amid leaves_check [] since
@@ -84,12 +86,14 @@ is_owed since = some_amid leaves_check [] since
 abbrev pub gets : ℕ → ℕ → List ℕ → Heard → Bool
 gets tester a before Kept = true
 gets tester a before Quiet = false
-gets tester a before (Piece bytes) = nat_lt (length (unit_messages tester a before)) (length (unit_messages tester a (before ++ bytes)))
+gets tester a before (Piece bytes) =
+    nat_lt (length (unit_messages tester a before)) (length (unit_messages tester a (before ++ bytes)))
 gets tester a before Lost = false
 
 -- an event of one connection took a message of the unit with an address
 abbrev pub takes : ℕ → List UnitPlan → ℕ → List Event → Event → Bool
-takes tester P a before (Collected u heard) = (plan_of P u).address == a && gets tester a (bytes_in before) heard
+takes tester P a before (Collected u heard) = (plan_of P u).address == a
+    && gets tester a (bytes_in before) heard
 takes tester P a before e = false
 
 abbrev pub taken : ℕ → List UnitPlan → ℕ → List Event → ℕ
@@ -115,12 +119,19 @@ pub record IsLinkOf (rules : LinkRules) (P : List UnitPlan) (events : List Event
   pub dials : l.losses + one (not (is_down l.phase)) ≡ count is_dial events
   pub owes : l.owes ≡ is_owed (since_dial events)
   pub unasked : has is_ask (since_dial events) ≡ false → bytes_since_dial events ≡ []
-  pub came : (a : ℕ) → is_known (addresses_of P) a ≡ true → taken rules.tester P a (since_dial events) ≤ length (unit_messages rules.tester a (bytes_since_dial events))
-  pub inbox : (a : ℕ) → is_known (addresses_of P) a ≡ true → messages_from a l.inbox ≡ drop (taken rules.tester P a (since_dial events)) (unit_messages rules.tester a (bytes_since_dial events))
-  pub kept : (a : ℕ) → is_known (addresses_of P) a ≡ true → is_some (first_message a l.inbox) ≡ nat_lt (taken rules.tester P a (since_dial events)) (length (unit_messages rules.tester a (bytes_since_dial events)))
+  pub came : (a : ℕ) → is_known (addresses_of P) a ≡ true
+      → taken rules.tester P a (since_dial events) ≤ length
+      (unit_messages rules.tester a (bytes_since_dial events))
+  pub inbox : (a : ℕ) → is_known (addresses_of P) a ≡ true
+      → messages_from a l.inbox ≡ drop (taken rules.tester P a (since_dial events))
+      (unit_messages rules.tester a (bytes_since_dial events))
+  pub kept : (a : ℕ) → is_known (addresses_of P) a ≡ true
+      → is_some (first_message a l.inbox) ≡ nat_lt (taken rules.tester P a (since_dial events))
+      (length (unit_messages rules.tester a (bytes_since_dial events)))
   pub others : (a : ℕ) → is_known (addresses_of P) a ≡ false → messages_from a l.inbox ≡ []
 
 -- the link that a legal list of events gives follows from the list
 abbrev pub LinkFollows : Type 0
 LinkFollows = (rules : LinkRules) (P : List UnitPlan) (found : Entry → Bool) (events : List Event)
-    → is_legal rules P (core_start P found) events ≡ true → IsLinkOf rules P events (core_of rules P (core_start P found) events).link
+    → is_legal rules P (core_start P found) events ≡ true
+    → IsLinkOf rules P events (core_of rules P (core_start P found) events).link

@@ -86,16 +86,25 @@ pub record AreWorked : Type 0 where
   -- an alive check is owed an answer until one is said
   pub owed : is_owed (since_dial (collects (Collected 0 (Piece checks) ∷ []))) ≡ true
   pub said : is_owed (since_dial (collects (Collected 0 (Piece checks) ∷ Tended (Said false) ∷ []))) ≡ false
-  pub twice : is_owed (since_dial (collects (Collected 0 (Piece checks) ∷ Tended (Said false) ∷ Collected 0 (Piece checks) ∷ []))) ≡ true
+  pub twice : is_owed (since_dial (collects
+      (Collected 0 (Piece checks) ∷ Tended (Said false) ∷ Collected 0 (Piece checks) ∷ []))) ≡ true
   -- messages for the tester 0E80 of the unit 1001, none for another tester or of another unit
-  pub words : unit_messages 3712 4097 (accepting ++ (pends ++ (checks ++ (answers ++ misses)))) ≡ Reply (127 ∷ 54 ∷ 120 ∷ []) ∷ Reply (118 ∷ 1 ∷ []) ∷ Nacked 3 ∷ []
+  pub words : unit_messages 3712 4097 (accepting ++ (pends ++ (checks ++ (answers ++ misses)))) ≡ Reply
+      (127 ∷ 54 ∷ 120 ∷ []) ∷ Reply (118 ∷ 1 ∷ []) ∷ Nacked 3 ∷ []
   pub tester : unit_messages 3713 4097 (accepting ++ pends) ≡ []
   pub unit : unit_messages 3712 4098 (accepting ++ pends) ≡ []
   -- two come at once: the first is taken with its piece, the second was kept
-  pub taken_now : (u : UnitPlan) → u.address ≡ 4097 → taken 3712 (u ∷ []) 4097 (since_dial (collects (Collected 0 (Piece (pends ++ answers)) ∷ []))) ≡ 1
-  pub taken_later : (u : UnitPlan) → u.address ≡ 4097 → taken 3712 (u ∷ []) 4097 (since_dial (collects (Collected 0 (Piece (pends ++ answers)) ∷ Collected 0 Kept ∷ []))) ≡ 2
+  pub taken_now : (u : UnitPlan) → u.address ≡ 4097
+      → taken 3712 (u ∷ []) 4097 (since_dial (collects (Collected 0 (Piece (pends ++ answers)) ∷ []))) ≡ 1
+  pub taken_later : (u : UnitPlan) → u.address ≡ 4097
+      → taken 3712 (u ∷ []) 4097 (since_dial (collects
+      (Collected 0 (Piece (pends ++ answers)) ∷ Collected 0 Kept ∷ []))) ≡ 2
   -- a loss stops a run that may make no connection anew; with one more it takes two; a denial stops it
-  pub lost_once : (rules : LinkRules) → rules.relinks ≡ 0 → first_cause rules [] (hears (3 ∷ 253 ∷ [])) ≡ Some (LinkLost 1)
-  pub lost_again : (rules : LinkRules) → rules.relinks ≡ 1 → first_cause rules [] (hears (3 ∷ 253 ∷ []) ++ hears accepting) ≡ None
-  pub lost_twice : (rules : LinkRules) → rules.relinks ≡ 1 → first_cause rules [] (hears (3 ∷ 253 ∷ []) ++ hears (3 ∷ 253 ∷ [])) ≡ Some (LinkLost 2)
-  pub stopped : (rules : LinkRules) → rules.relinks ≡ 0 → first_cause rules [] (hears denies) ≡ Some (LinkRefused 1)
+  pub lost_once : (rules : LinkRules) → rules.relinks ≡ 0
+      → first_cause rules [] (hears (3 ∷ 253 ∷ [])) ≡ Some (LinkLost 1)
+  pub lost_again : (rules : LinkRules) → rules.relinks ≡ 1
+      → first_cause rules [] (hears (3 ∷ 253 ∷ []) ++ hears accepting) ≡ None
+  pub lost_twice : (rules : LinkRules) → rules.relinks ≡ 1
+      → first_cause rules [] (hears (3 ∷ 253 ∷ []) ++ hears (3 ∷ 253 ∷ [])) ≡ Some (LinkLost 2)
+  pub stopped : (rules : LinkRules) → rules.relinks ≡ 0
+      → first_cause rules [] (hears denies) ≡ Some (LinkRefused 1)

@@ -14,7 +14,8 @@ use Rattle.link_law.specs.Follows.{is_loss, phase_of}
 -- more losses than the rules allow, or a denied activation
 abbrev pub link_cause : LinkRules → List Event → Option Outcome
 link_cause rules events =
-    if nat_lt rules.relinks (count_after is_loss [] events) then Some (LinkLost (count_after is_loss [] events)) else refused_stop (phase_of events)
+    if nat_lt rules.relinks (count_after is_loss [] events)
+    then Some (LinkLost (count_after is_loss [] events)) else refused_stop (phase_of events)
 
 -- what the event behind others stops a run by: an append that failed, or the link
 abbrev pub cause_at : LinkRules → List Event → Event → Option Outcome
@@ -27,9 +28,11 @@ or_later (Some outcome) later = Some outcome
 -- the cause of the first event that has one
 abbrev pub first_cause : LinkRules → List Event → List Event → Option Outcome
 first_cause rules before [] = None
-first_cause rules before (e ∷ es) = or_later (cause_at rules before e) (first_cause rules (before ++ (e ∷ [])) es)
+first_cause rules before (e ∷ es) =
+    or_later (cause_at rules before e) (first_cause rules (before ++ (e ∷ [])) es)
 
 -- a legal list of events is stopped by the first of its events that has a cause
 abbrev pub StopFollows : Type 0
 StopFollows = (rules : LinkRules) (P : List UnitPlan) (found : Entry → Bool) (events : List Event)
-    → is_legal rules P (core_start P found) events ≡ true → (core_of rules P (core_start P found) events).halt.stop ≡ first_cause rules [] events
+    → is_legal rules P (core_start P found) events ≡ true
+    → (core_of rules P (core_start P found) events).halt.stop ≡ first_cause rules [] events

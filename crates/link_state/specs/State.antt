@@ -19,7 +19,8 @@ link_phase (Refused code) = phase.Refused code
 
 -- no two places have one address
 abbrev pub AreDistinct : List ℕ → Type 0
-AreDistinct units = (m n : ℕ) → m < length units → n < length units → slice_index units m ≡ slice_index units n → m ≡ n
+AreDistinct units = (m n : ℕ) → m < length units → n < length units
+    → slice_index units m ≡ slice_index units n → m ≡ n
 
 abbrev pub tester_of : LinkState → ℕ
 tester_of s = s.tester
@@ -77,11 +78,13 @@ pub record IsDropped (old new : LinkState) : Type 0 where
 pub record SameButLoss (old new : LinkState) : Type 0 where
   pub labels : SameLabels old new
   pub deframer : new.deframer ≡ old.deframer
-  pub losses : (loss_count new ≡ loss_count old) ⊎ ((loss_count new ≡ loss_count old + 1) × (is_open_now new ≡ false))
+  pub losses : (loss_count new ≡ loss_count old)
+      ⊎ ((loss_count new ≡ loss_count old + 1) × (is_open_now new ≡ false))
 
 -- the first answer to an activation
 abbrev pub see_answer : ℕ → Link → Link
-see_answer code l = if is_asked l.phase then record l { phase = if code == 16 then phase.Up else phase.Refused code } else l
+see_answer code l =
+    if is_asked l.phase then record l { phase = if code == 16 then phase.Up else phase.Refused code } else l
 
 -- phase, counts and inboxes
 pub record ShowsBody (s : LinkState) (l : Link) : Type 0 where
@@ -91,7 +94,8 @@ pub record ShowsBody (s : LinkState) (l : Link) : Type 0 where
   pub losses : s.losses ≡ l.losses
   pub owes : s.owes ≡ l.owes
   pub distinct : AreDistinct s.units.items
-  pub inbox : (n : ℕ) → n < length s.units.items → messages_all (queue_at s.inboxes.items n) ≡ messages_from (slice_index s.units.items n) l.inbox
+  pub inbox : (n : ℕ) → n < length s.units.items
+      → messages_all (queue_at s.inboxes.items n) ≡ messages_from (slice_index s.units.items n) l.inbox
 
 -- and while the connection lives, the bytes behind the last whole frame
 pub record Shows (s : LinkState) (l : Link) : Type 0 where

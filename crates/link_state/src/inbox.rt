@@ -83,7 +83,8 @@ pub fn place_of(units: &Vec<u16>, address: u16) -> Option<usize>
 /// Puts a message behind the others of an inbox.
 pub fn put(inboxes: &mut Vec<Inbox>, n: usize, message: Message) -> Result<(), NoMemory>
     requires { n < length inboxes.old.items }
-    ensures there { OnOk result (queue_at inboxes.new.items n ≡ queue_at inboxes.old.items n ++ message ∷ []) }
+    ensures there { OnOk result (queue_at inboxes.new.items n
+        ≡ queue_at inboxes.old.items n ++ message ∷ []) }
     ensures others { (k : ℕ) → k ≢ n → queue_at inboxes.new.items k ≡ queue_at inboxes.old.items k }
     ensures size { length inboxes.new.items ≡ length inboxes.old.items }
 {

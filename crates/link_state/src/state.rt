@@ -197,7 +197,8 @@ impl LinkState {
     /// Keeps a message of a unit of the plan, and drops any other.
     fn keep(&mut self, source: u16, message: Message) -> Result<(), NoMemory>
         ensures shows { OnOk result ((l : Link) → ShowsBody self.old l
-            → ShowsBody self.new (keep_message (is_known (units_of self.old) source) source (message_of message) l)) }
+            → ShowsBody self.new (keep_message (is_known (units_of self.old) source) source
+            (message_of message) l)) }
         ensures rest { SameRest self.old self.new }
     {
         match place_of(&self.units, source) {
@@ -209,7 +210,8 @@ impl LinkState {
     /// A diagnostic message, where it is for this tester.
     fn hear(&mut self, source: u16, target: u16, body: &[u8]) -> Result<(), NoMemory>
         ensures shows { OnOk result ((l : Link) → ShowsBody self.old l
-            → ShowsBody self.new (keep_message (target == tester_of self.old && is_known (units_of self.old) source)
+            → ShowsBody self.new (keep_message
+            (target == tester_of self.old && is_known (units_of self.old) source)
             source (Reply body.now) l)) }
         ensures rest { SameRest self.old self.new }
     {
@@ -223,7 +225,8 @@ impl LinkState {
     /// A message that was not delivered, where it is for this tester.
     fn miss(&mut self, source: u16, target: u16, code: u8) -> Result<(), NoMemory>
         ensures shows { OnOk result ((l : Link) → ShowsBody self.old l
-            → ShowsBody self.new (keep_message (target == tester_of self.old && is_known (units_of self.old) source)
+            → ShowsBody self.new (keep_message
+            (target == tester_of self.old && is_known (units_of self.old) source)
             source (Nacked code) l)) }
         ensures rest { SameRest self.old self.new }
     {

@@ -23,11 +23,16 @@ IsPicked (Junk b) disk synced image = HasJunk b disk image
 pub record IsFilled (old : List ℕ) (size at n byte : ℕ) (v : List ℕ) : Type 0 where
   pub size_is : length v ≡ size
   pub inside : (i : ℕ) → i < size → at ≤ i → i < at + n → slice_index v i ≡ byte
-  pub outside : (i : ℕ) → i < length old → i < size → (i < at) ⊎ (at + n ≤ i) → slice_index v i ≡ slice_index old i
+  pub outside : (i : ℕ) → i < length old → i < size → (i < at) ⊎ (at + n ≤ i)
+      → slice_index v i ≡ slice_index old i
 
 -- the disk behind a write
 abbrev pub wrote_state : DiskState → ℕ → List ℕ → DiskState
-wrote_state d at text = record { bytes = spliced d.bytes at text; ranges = (at, length text) ∷ d.ranges; synced = d.synced }
+wrote_state d at text = record {
+  bytes = spliced d.bytes at text;
+  ranges = (at, length text) ∷ d.ranges;
+  synced = d.synced;
+}
 
 abbrev pub missed_state : DiskState → ℕ → ℕ → DiskState
 missed_state d at n = record { bytes = d.bytes; ranges = (at, n) ∷ d.ranges; synced = d.synced }
@@ -39,10 +44,13 @@ pub record Shows (pick : Pick) (d : DiskState) (synced : List ℕ) (p : Picture)
 
 -- whatever disk the old picture shows, the new one shows it behind the call
 abbrev pub IsBehindWrite : ℕ → List ℕ → Pick → Picture → Picture → Type 0
-IsBehindWrite at text pick old new = (d : DiskState) (synced : List ℕ) → Shows pick d synced old → Shows pick (wrote_state d at text) synced new
+IsBehindWrite at text pick old new = (d : DiskState) (synced : List ℕ) → Shows pick d synced old
+    → Shows pick (wrote_state d at text) synced new
 
 abbrev pub IsBehindMiss : ℕ → ℕ → Pick → Picture → Picture → Type 0
-IsBehindMiss at n pick old new = (d : DiskState) (synced : List ℕ) → Shows pick d synced old → Shows pick (missed_state d at n) synced new
+IsBehindMiss at n pick old new = (d : DiskState) (synced : List ℕ) → Shows pick d synced old
+    → Shows pick (missed_state d at n) synced new
 
 abbrev pub IsBehind : Done → Pick → Picture → Picture → Type 0
-IsBehind done pick old new = (d : DiskState) (synced : List ℕ) → Shows pick d synced old → Shows pick (after d done) (synced_after d synced done) new
+IsBehind done pick old new = (d : DiskState) (synced : List ℕ) → Shows pick d synced old
+    → Shows pick (after d done) (synced_after d synced done) new

@@ -69,7 +69,8 @@ is_listed s = list_any (λ n. n == disk_calls s) s.failing.items
 
 -- before the last moment a disk call fails exactly where it is listed or no memory was found
 abbrev pub FailsExactly : {T : Type 0} → MemDisk → MemDisk → Result T DeviceFault → Type 0
-FailsExactly old new result = moment_of old < LAST → (IsErr result ↔ (IsTrue (is_listed old) ⊎ (old.starved < new.starved)))
+FailsExactly old new result =
+    moment_of old < LAST → (IsErr result ↔ (IsTrue (is_listed old) ⊎ (old.starved < new.starved)))
 
 -- one moment more, to which this call led
 pub record Passed (call : Call) (old new : MemDisk) : Type 0 where
@@ -123,7 +124,8 @@ pub record LinkFaulted (old new : MemDisk) : Type 0 where
 
 -- before the last moment a write that failed, and not for want of memory, has its range listed
 abbrev pub ListsMiss : ℕ → ℕ → MemDisk → MemDisk → Result Unit DeviceFault → Type 0
-ListsMiss at n old new result = moment_of old < LAST → new.starved ≡ old.starved → OnErr result (MissedWrite at n (disk_now (history_of old)) (disk_now (history_of new)))
+ListsMiss at n old new result = moment_of old < LAST → new.starved ≡ old.starved
+    → OnErr result (MissedWrite at n (disk_now (history_of old)) (disk_now (history_of new)))
 
 -- a link call, counted
 pub record LinkCounted (mid counted : MemDisk) : Type 0 where

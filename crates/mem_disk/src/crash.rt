@@ -107,7 +107,9 @@ impl MemDisk {
     pub fn crash(&self, alloc: Global, call: u64, pick: Pick) -> Result<Bytes, NoMemory>
         requires { call ≤ moment_of self.now }
         ensures image { IfOk result (IsCrashImage ((history_of self.now).disk_at call)) }
-        ensures picked { IfOk result (IsPicked pick ((history_of self.now).disk_at call) (synced_bytes (start self.now.first.items) self.now.first.items (take call self.now.calls.items))) }
+        ensures picked { IfOk result (IsPicked pick ((history_of self.now).disk_at call)
+            (synced_bytes (start self.now.first.items) self.now.first.items
+            (take call self.now.calls.items))) }
     {
         let mut picture = Picture {
             bytes: copied(alloc, &self.first)?,

@@ -188,7 +188,8 @@ impl MemDisk {
     fn disk_call(&mut self, made: Made, good: Done) -> Result<(), DeviceFault>
         requires { IsNoWrite good }
         ensures call { DiskCall (call_of made) (history_of self.old) (history_of self.new) result }
-        ensures done { OnOk result (disk_now (history_of self.new) ≡ after (disk_now (history_of self.old)) good) }
+        ensures done { OnOk result (disk_now (history_of self.new) ≡ after
+            (disk_now (history_of self.old)) good) }
         ensures kept { OnErr result (disk_now (history_of self.new) ≡ disk_now (history_of self.old)) }
         ensures bytes { (disk_now (history_of self.new)).bytes ≡ (disk_now (history_of self.old)).bytes }
         ensures exact { FailsExactly self.old self.new result }
@@ -214,7 +215,8 @@ impl MemDisk {
     fn write_call(&mut self, made: Made, at: usize, bytes: &[u8]) -> Result<(), DeviceFault>
         requires { at ≤ length (disk_now (history_of self.old)).bytes }
         ensures call { DiskCall (call_of made) (history_of self.old) (history_of self.new) result }
-        ensures disk { WroteOrMissed at bytes.now (disk_now (history_of self.old)) (disk_now (history_of self.new)) result }
+        ensures disk { WroteOrMissed at bytes.now (disk_now (history_of self.old))
+            (disk_now (history_of self.new)) result }
         ensures listed { ListsMiss at (length bytes.now) self.old self.new result }
         ensures exact { FailsExactly self.old self.new result }
     {
@@ -345,9 +347,11 @@ impl Shop for MemDisk {
 
     fn read_at(&mut self, at: u64, out: &mut [u8]) -> Result<(), DeviceFault>
         requires { at + length out.old ≤ length (disk_now (history_of self.old)).bytes }
-        ensures call { DiskCall (ReadAt at (length out.old)) (history_of self.old) (history_of self.new) result }
+        ensures call { DiskCall (ReadAt at (length out.old)) (history_of self.old)
+            (history_of self.new) result }
         ensures disk { disk_now (history_of self.new) ≡ disk_now (history_of self.old) }
-        ensures bytes { OnOk result (out.new ≡ slice_range (disk_now (history_of self.old)).bytes at (at + length out.old)) }
+        ensures bytes { OnOk result (out.new ≡ slice_range (disk_now (history_of self.old)).bytes at
+            (at + length out.old)) }
         ensures exact { FailsExactly self.old self.new result }
     {
         self.disk_call(Made::ReadAt(at, out.len() as u64), Done::Kept)?;
@@ -358,7 +362,8 @@ impl Shop for MemDisk {
     fn write_at(&mut self, at: u64, bytes: &[u8]) -> Result<(), DeviceFault>
         requires { at ≤ length (disk_now (history_of self.old)).bytes }
         ensures call { DiskCall (WriteAt at bytes.now) (history_of self.old) (history_of self.new) result }
-        ensures disk { WroteOrMissed at bytes.now (disk_now (history_of self.old)) (disk_now (history_of self.new)) result }
+        ensures disk { WroteOrMissed at bytes.now (disk_now (history_of self.old))
+            (disk_now (history_of self.new)) result }
         ensures listed { ListsMiss at (length bytes.now) self.old self.new result }
         ensures exact { FailsExactly self.old self.new result }
     {

@@ -55,7 +55,9 @@ abbrev mutual
   -- by the member `kids`
   pub misplaced_kids : Members → List Place
   misplaced_kids no_members = []
-  misplaced_kids (member k d ms) = match_ordering (slice_cmp nat_cmp (codes "kids") k) (misplaced_kids ms) (misplaced_list d) (misplaced_kids ms)
+  misplaced_kids (member k d ms) =
+      match_ordering (slice_cmp nat_cmp (codes "kids") k) (misplaced_kids ms) (misplaced_list d)
+      (misplaced_kids ms)
 
   -- a list of elements
   pub misplaced_list : Data → List Place

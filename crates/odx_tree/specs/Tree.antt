@@ -58,7 +58,8 @@ abbrev mutual
   -- the kids of an object with these members
   pub kids_in : Members → Result (List Element) TreeFault
   kids_in no_members = Ok []
-  kids_in (member k d ms) = match_ordering (slice_cmp nat_cmp (codes "kids") k) (kids_in ms) (kids_of d) (kids_in ms)
+  kids_in (member k d ms) =
+      match_ordering (slice_cmp nat_cmp (codes "kids") k) (kids_in ms) (kids_of d) (kids_in ms)
 
   pub kids_of : Data → Result (List Element) TreeFault
   kids_of (array ds) = elements 0 ds

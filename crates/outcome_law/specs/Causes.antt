@@ -16,15 +16,20 @@ use Rattle.outcome_law.specs.Rising.{RoseBy, Rose}
 -- 52 RequestDownload; 18 subfunction not supported, 49 out of range, 51 access denied, 53 invalid key.
 pub data Unfit (plan : UnitPlan) (begun : Bool) (u : ControlUnit) : Outcome → Type 0 where
   -- an expected identifier is missing, and the task was not begun
-  lacks_ident : (w : Wanted) → Contains plan.idents w → ident_of u.idents w.did ≡ None → begun ≡ false → Unfit plan begun u (Refused 34 49)
+  lacks_ident : (w : Wanted) → Contains plan.idents w → ident_of u.idents w.did ≡ None → begun ≡ false
+      → Unfit plan begun u (Refused 34 49)
   -- the task has a key rule, and the unit has none, or one of another level
-  lacks_level : (level : ℕ) → level_of plan.key ≡ Some level → (level_of u.key ≡ Some level → ⊥) → Unfit plan begun u (Refused 39 18)
+  lacks_level : (level : ℕ) → level_of plan.key ≡ Some level → (level_of u.key ≡ Some level → ⊥)
+      → Unfit plan begun u (Refused 39 18)
   -- both have key rules of one level, and these differ
-  other_key : (level : ℕ) → level_of plan.key ≡ Some level → level_of u.key ≡ Some level → (u.key ≡ plan.key → ⊥) → Unfit plan begun u (Refused 39 53)
+  other_key : (level : ℕ) → level_of plan.key ≡ Some level → level_of u.key ≡ Some level
+      → (u.key ≡ plan.key → ⊥) → Unfit plan begun u (Refused 39 53)
   -- the unit has a key rule, and the task has none, or the unit's seed is all zero
-  stays_locked : has_key u.key ≡ true → (has_key plan.key ≡ false) ⊎ (all_zero u.seed ≡ true) → Unfit plan begun u (Refused 49 51)
+  stays_locked : has_key u.key ≡ true → (has_key plan.key ≡ false) ⊎ (all_zero u.seed ≡ true)
+      → Unfit plan begun u (Refused 49 51)
   -- the unit's regions do not hold every segment
-  lacks_room : (s : Segment) → Contains plan.segments s → (HasRoom s u → ⊥) → Unfit plan begun u (Refused 49 49)
+  lacks_room : (s : Segment) → Contains plan.segments s → (HasRoom s u → ⊥)
+      → Unfit plan begun u (Refused 49 49)
   -- its check routine is another
   other_check : (u.check ≡ plan.check → ⊥) → Unfit plan begun u (Refused 49 49)
   -- its seed has no byte, or more than 32
@@ -49,9 +54,12 @@ pub record HasNoneChecked (plan : UnitPlan) (found : ℕ → Bool) (u : ControlU
 
 -- The table of outcomes: `u` is the unit at the start of a run, `now` its counts, and `found` the segments that were found marked.
 abbrev pub IsCausedBy : UnitPlan → Bool → (ℕ → Bool) → ControlUnit → Counts → Outcome → Type 0
-IsCausedBy plan begun found u now (Refused sid nrc) = Rose (u.counts.refused nrc) (now.refused nrc) ⊎ Unfit plan begun u (Refused sid nrc)
-IsCausedBy plan begun found u now (BadAnswer sid) = Rose u.counts.odd now.odd ⊎ Unfit plan begun u (BadAnswer sid)
-IsCausedBy plan begun found u now (CheckFailed routine segment status) = Rose u.counts.failed now.failed ⊎ ((routine ≡ 65281) × HasNoneChecked plan found u)
+IsCausedBy plan begun found u now (Refused sid nrc) =
+    Rose (u.counts.refused nrc) (now.refused nrc) ⊎ Unfit plan begun u (Refused sid nrc)
+IsCausedBy plan begun found u now (BadAnswer sid) =
+    Rose u.counts.odd now.odd ⊎ Unfit plan begun u (BadAnswer sid)
+IsCausedBy plan begun found u now (CheckFailed routine segment status) =
+    Rose u.counts.failed now.failed ⊎ ((routine ≡ 65281) × HasNoneChecked plan found u)
 IsCausedBy plan begun found u now (NoAnswer sid) = Rose u.counts.muted now.muted ⊎ Rose u.counts.late now.late
 IsCausedBy plan begun found u now (PendingLimit sid) = Rose u.counts.stalled now.stalled
 IsCausedBy plan begun found u now (BusyLimit sid) = RoseBy 21 u.counts.busy now.busy
@@ -60,7 +68,8 @@ IsCausedBy plan begun found u now (IdentMismatch did) = OtherIdent plan begun u 
 IsCausedBy plan begun found u now outcome = ⊥
 
 -- a conversation with a unit that the vehicle lacks ends with the gateway's code 03 alone
-abbrev pub IsCaused : UnitPlan → Bool → (ℕ → Bool) → Option ControlUnit → Option ControlUnit → Outcome → Type 0
+abbrev pub IsCaused : UnitPlan → Bool → (ℕ → Bool) → Option ControlUnit → Option ControlUnit → Outcome
+    → Type 0
 IsCaused plan begun found None None outcome = outcome ≡ Undelivered 3
 IsCaused plan begun found (Some u) (Some w) outcome = IsCausedBy plan begun found u w.counts outcome
 IsCaused plan begun found None (Some w) outcome = ⊥

@@ -68,11 +68,13 @@ SameChecked plan found (Some u) (Some w) = AreMarked found (length plan.segments
 -- ------ the place
 -- an identifier that is asked for is expected, and the task was not begun
 abbrev pub IsIdentPlace : UnitPlan → Bool → Place → Type 0
-IsIdentPlace plan begun (AtIdent w ws) = (begun ≡ false) × ((seen : List Wanted) × (seen ++ (w ∷ ws) ≡ plan.idents))
+IsIdentPlace plan begun (AtIdent w ws) = (begun ≡ false)
+    × ((seen : List Wanted) × (seen ++ (w ∷ ws) ≡ plan.idents))
 IsIdentPlace plan begun place = Unit {0}
 
 -- an end has its cause
-abbrev pub IsEndCaused : UnitPlan → Bool → (ℕ → Bool) → Option ControlUnit → Option ControlUnit → Place → Type 0
+abbrev pub IsEndCaused : UnitPlan → Bool → (ℕ → Bool) → Option ControlUnit → Option ControlUnit → Place
+    → Type 0
 IsEndCaused plan begun found first now (AtEnd outcome) = IsCaused plan begun found first now outcome
 IsEndCaused plan begun found first now place = Unit {0}
 
@@ -83,12 +85,14 @@ BusyBy n (Some u) None = ⊥
 BusyBy n (Some u) (Some w) = RoseBy n u.counts.busy w.counts.busy
 
 -- the conversation of one unit, whose state was `first` at the start of the run and is `now`
-pub record IsTalkCounted (plan : UnitPlan) (begun : Bool) (found : ℕ → Bool) (first now : Option ControlUnit) (t : Talk) : Type 0 where
+pub record IsTalkCounted (plan : UnitPlan) (begun : Bool) (found : ℕ → Bool) (first now : Option ControlUnit)
+    (t : Talk) : Type 0 where
   pub ident : IsIdentPlace plan begun t.place
   pub ended : IsEndCaused plan begun found first now t.place
   pub busy : BusyBy t.busies first now
   pub takes : t.awaiting ≡ false → TakesIn plan found first t.place now
-  pub left : is_ended t.place ≡ false → t.number + requests_left plan t.place ≤ requests_left plan (start_place plan begun)
+  pub left : is_ended t.place ≡ false
+      → t.number + requests_left plan t.place ≤ requests_left plan (start_place plan begun)
 
 -- ------ what is awaited
 -- the count of the departure rose; a busy answer counts beside those of this request
@@ -101,17 +105,21 @@ IsCounted Busies busies old new = RoseBy (busies + 1) old.busy new.busy
 
 -- The unit heard the request in hand: it obeyed, or departed, which was counted. More than 200 responses pending were counted
 -- too; the held answer has said at least as many as came and are on the way.
-pub record IsHeardCounted (plan : UnitPlan) (found : ℕ → Bool) (t : Talk) (first : ControlUnit) (held : List HeldAnswer) (way : List UnitMessage) (u : ControlUnit) : Type 0 where
+pub record IsHeardCounted (plan : UnitPlan) (found : ℕ → Bool) (t : Talk) (first : ControlUnit)
+    (held : List HeldAnswer) (way : List UnitMessage) (u : ControlUnit) : Type 0 where
   pub before : ControlUnit
   pub said : Option (List ℕ)
   pub pending : ℕ
   pub state : StateAt plan t.place before
   pub takes : Takes plan found first t.place before
   pub make : SameMake first before
-  pub step : Obeyed before (bytes_at plan t.place) said u ⊎ ((d : Departed before (bytes_at plan t.place) said u) × IsCounted d.kind t.busies first.counts u.counts)
+  pub step : Obeyed before (bytes_at plan t.place) said u
+      ⊎ ((d : Departed before (bytes_at plan t.place) said u)
+      × IsCounted d.kind t.busies first.counts u.counts)
   pub on_way : way ≡ pending_messages (sid_of (bytes_at plan t.place)) pending ++ final_message said
   pub patience : (t.pendings + pending ≤ 200) ⊎ Rose first.counts.stalled u.counts.stalled
-  pub holding : (one : HeldAnswer) → held ≡ one ∷ [] → (t.pendings + pending ≤ one.pending) × ((one.pending ≤ 200) ⊎ Rose first.counts.stalled u.counts.stalled)
+  pub holding : (one : HeldAnswer) → held ≡ one ∷ [] → (t.pendings + pending ≤ one.pending)
+      × ((one.pending ≤ 200) ⊎ Rose first.counts.stalled u.counts.stalled)
 
 -- the gateway refused to deliver it, which was counted
 pub record IsMissedCounted (first : ControlUnit) (way : List UnitMessage) (u : ControlUnit) : Type 0 where
@@ -119,21 +127,25 @@ pub record IsMissedCounted (first : ControlUnit) (way : List UnitMessage) (u : C
   pub on_way : way ≡ Nacked code ∷ []
   pub count : Rose (first.counts.nacked code) (u.counts.nacked code)
 
-abbrev pub IsAwaitCounted : UnitPlan → (ℕ → Bool) → Talk → List HeldAnswer → List UnitMessage → Option ControlUnit → Option ControlUnit → Type 0
+abbrev pub IsAwaitCounted : UnitPlan → (ℕ → Bool) → Talk → List HeldAnswer → List UnitMessage
+    → Option ControlUnit → Option ControlUnit → Type 0
 IsAwaitCounted plan found t held way None None = way ≡ Nacked 3 ∷ []
 IsAwaitCounted plan found t held way None (Some w) = ⊥
 IsAwaitCounted plan found t held way (Some u) None = ⊥
-IsAwaitCounted plan found t held way (Some u) (Some w) = IsMissedCounted u way w ⊎ IsHeardCounted plan found t u held way w
+IsAwaitCounted plan found t held way (Some u) (Some w) =
+    IsMissedCounted u way w ⊎ IsHeardCounted plan found t u held way w
 
 -- ------ when it comes
 -- the ticks at which messages of the unit are due
 abbrev pub dues : ℕ → ℕ → List (ℕ × List ℕ) → List ℕ
 dues tester a [] = []
-dues tester a (q ∷ qs) = if has_no_message (messages_in tester a (stream_of q.1).frames) then dues tester a qs else q.0 ∷ dues tester a qs
+dues tester a (q ∷ qs) = if has_no_message (messages_in tester a (stream_of q.1).frames) then dues tester a qs
+    else q.0 ∷ dues tester a qs
 
 -- what has come and was not taken yet
 abbrev pub come : ℕ → ℕ → List (ℕ × UnitMessage) → List ℕ → Gateway → List UnitMessage
-come tester a inbox rest g = messages_from a inbox ++ messages_in tester a (stream_of (rest ++ g.ready)).frames
+come tester a inbox rest g =
+    messages_from a inbox ++ messages_in tester a (stream_of (rest ++ g.ready)).frames
 
 -- a held answer says that it is pending each `every` ticks; where that is 1,000 or more, 1,000 have not gone by
 pub record IsHeldTimed (last tick : ℕ) (h : HeldAnswer) : Type 0 where
@@ -145,7 +157,8 @@ pub record IsHeldTimed (last tick : ℕ) (h : HeldAnswer) : Type 0 where
 
 -- The last message of the unit that has come, or the sending, was at `last`, and each message behind comes less than 1,000
 -- ticks after the one before it.
-pub record IsOnTime (tester a sent : ℕ) (inbox : List (ℕ × UnitMessage)) (rest : List ℕ) (g : Gateway) : Type 0 where
+pub record IsOnTime (tester a sent : ℕ) (inbox : List (ℕ × UnitMessage)) (rest : List ℕ)
+    (g : Gateway) : Type 0 where
   pub last : ℕ
   pub past : last ≤ g.tick
   pub after : Each (λ d. g.tick < d) (dues tester a g.later)
@@ -154,22 +167,32 @@ pub record IsOnTime (tester a sent : ℕ) (inbox : List (ℕ × UnitMessage)) (r
   pub held : (one : HeldAnswer) → held_of a g.held ≡ one ∷ [] → IsHeldTimed last g.tick one
 
 -- or something of the unit came late, which was counted; a refusal to deliver has come at once
-abbrev pub IsTimed : ℕ → ℕ → ℕ → List (ℕ × UnitMessage) → List ℕ → Gateway → Option ControlUnit → Option ControlUnit → Type 0
+abbrev pub IsTimed : ℕ → ℕ → ℕ → List (ℕ × UnitMessage) → List ℕ → Gateway → Option ControlUnit
+    → Option ControlUnit → Type 0
 IsTimed tester a sent inbox rest g None now = messages_later tester a g.later ≡ []
 IsTimed tester a sent inbox rest g (Some u) None = ⊥
-IsTimed tester a sent inbox rest g (Some u) (Some w) = Rose u.counts.late w.counts.late ⊎ IsOnTime tester a sent inbox rest g
+IsTimed tester a sent inbox rest g (Some u) (Some w) =
+    Rose u.counts.late w.counts.late ⊎ IsOnTime tester a sent inbox rest g
 
 -- ------ one unit, and all
-pub record IsUnitCounted (tester : ℕ) (plan : UnitPlan) (begun : Bool) (found : ℕ → Bool) (t0 : ℕ) (l : Link) (s : Slot) (first now : Vehicle) : Type 0 where
+pub record IsUnitCounted (tester : ℕ) (plan : UnitPlan) (begun : Bool) (found : ℕ → Bool) (t0 : ℕ) (l : Link)
+    (s : Slot) (first now : Vehicle) : Type 0 where
   pub kept : KeptIn (unit_at first.units plan.address) (unit_at now.units plan.address)
   pub checked : SameChecked plan found (unit_at first.units plan.address) (unit_at now.units plan.address)
-  pub talk : IsTalkCounted plan begun found (unit_at first.units plan.address) (unit_at now.units plan.address) s.talk
+  pub talk : IsTalkCounted plan begun found (unit_at first.units plan.address)
+      (unit_at now.units plan.address) s.talk
   pub awaits : is_live l.phase ≡ true → is_open_slot s ≡ true → s.talk.awaiting ≡ true
-      → IsAwaitCounted plan found s.talk (held_of plan.address now.gateway.held) (on_way tester plan.address l.inbox l.rest now.gateway) (unit_at first.units plan.address) (unit_at now.units plan.address)
+      → IsAwaitCounted plan found s.talk (held_of plan.address now.gateway.held)
+      (on_way tester plan.address l.inbox l.rest now.gateway) (unit_at first.units plan.address)
+      (unit_at now.units plan.address)
   pub timed : is_live l.phase ≡ true → is_open_slot s ≡ true → s.talk.awaiting ≡ true
-      → IsTimed tester plan.address (t0 + s.talk.since) l.inbox l.rest now.gateway (unit_at first.units plan.address) (unit_at now.units plan.address)
+      → IsTimed tester plan.address (t0 + s.talk.since) l.inbox l.rest now.gateway
+      (unit_at first.units plan.address) (unit_at now.units plan.address)
 
 -- each unit of the plan; what was found recorded is
-pub record AreUnitsCounted (rules : LinkRules) (P : List UnitPlan) (found : Entry → Bool) (t0 : ℕ) (c : Core) (first now : Vehicle) : Type 0 where
-  pub units : (n : ℕ) → n < count_of P → IsUnitCounted rules.tester (plan_of P n) (c.recorded (Begun n)) (marks_of found n) t0 c.link (c.slots n) first now
+pub record AreUnitsCounted (rules : LinkRules) (P : List UnitPlan) (found : Entry → Bool) (t0 : ℕ) (c : Core)
+    (first now : Vehicle) : Type 0 where
+  pub units : (n : ℕ) → n < count_of P
+      → IsUnitCounted rules.tester (plan_of P n) (c.recorded (Begun n)) (marks_of found n) t0 c.link
+      (c.slots n) first now
   pub more : (e : Entry) → found e ≡ true → c.recorded e ≡ true

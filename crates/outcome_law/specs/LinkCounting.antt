@@ -57,7 +57,8 @@ faults_of (e ∷ es) v (w ∷ vehicles) = fault_of (is_fault e v w) + faults_of 
 -- ------ losses
 -- so many losses are covered by faults of the link and activations that were not answered in time
 abbrev pub IsLostBy : ℕ → ℕ → Vehicle → Vehicle → Type 0
-IsLostBy losses faults first now = (k : ℕ) × (losses ≤ faults + k) × RoseBy k first.gateway.silent now.gateway.silent
+IsLostBy losses faults first now = (k : ℕ) × (losses ≤ faults + k)
+    × RoseBy k first.gateway.silent now.gateway.silent
 
 -- an answer to the activation is among these
 abbrev pub has_answer : List Frame → Bool
@@ -68,7 +69,8 @@ pub record AreLossesCounted (l : Link) (faults : ℕ) (first now : Vehicle) : Ty
   pub silent : ℕ
   pub losses : l.losses ≤ faults + silent
   pub count : RoseBy silent first.gateway.silent now.gateway.silent
-  pub awaits : is_asked l.phase ≡ true → (has_answer (stream_of (l.rest ++ now.gateway.ready)).frames ≡ true) ⊎ RoseBy (silent + 1) first.gateway.silent now.gateway.silent
+  pub awaits : is_asked l.phase ≡ true → (has_answer (stream_of (l.rest ++ now.gateway.ready)).frames ≡ true)
+      ⊎ RoseBy (silent + 1) first.gateway.silent now.gateway.silent
 
 -- ------ denials
 -- a denial was counted; the gateway refuses no header of the tester

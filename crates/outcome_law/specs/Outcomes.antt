@@ -29,19 +29,27 @@ pub record IsBlockedBy (plan : UnitPlan) (c : Core) (by : ℕ) : Type 0 where
 -- The table of outcomes: those of a conversation by its causes; a lost link where more was lost than may be made anew, by faults
 -- of the link and activations that were not answered in time; a denied one where the denial was counted; a disk fault where an
 -- append failed; want of memory is free.
-abbrev pub IsOutcomeCaused : LinkRules → UnitPlan → (Entry → Bool) → Core → ℕ → Bool → ℕ → Vehicle → Vehicle → Outcome → Type 0
+abbrev pub IsOutcomeCaused : LinkRules → UnitPlan → (Entry → Bool) → Core → ℕ → Bool → ℕ → Vehicle → Vehicle
+    → Outcome → Type 0
 IsOutcomeCaused rules plan found c n failed faults first now Complete = c.recorded (entry.Complete n) ≡ true
 IsOutcomeCaused rules plan found c n failed faults first now DiskFault = failed ≡ true
 IsOutcomeCaused rules plan found c n failed faults first now NoMemory = Unit {0}
 IsOutcomeCaused rules plan found c n failed faults first now (Blocked by) = IsBlockedBy plan c by
-IsOutcomeCaused rules plan found c n failed faults first now (LinkLost times) = (times ≡ rules.relinks + 1) × IsLostBy (rules.relinks + 1) faults first now
-IsOutcomeCaused rules plan found c n failed faults first now (LinkRefused code) = Rose (first.gateway.denied code) (now.gateway.denied code)
-IsOutcomeCaused rules plan found c n failed faults first now outcome = IsCaused plan (c.recorded (entry.Begun n)) (marks_of found n) (unit_at first.units plan.address) (unit_at now.units plan.address) outcome
+IsOutcomeCaused rules plan found c n failed faults first now (LinkLost times) = (times ≡ rules.relinks + 1)
+    × IsLostBy (rules.relinks + 1) faults first now
+IsOutcomeCaused rules plan found c n failed faults first now (LinkRefused code) =
+    Rose (first.gateway.denied code) (now.gateway.denied code)
+IsOutcomeCaused rules plan found c n failed faults first now outcome =
+    IsCaused plan (c.recorded (entry.Begun n)) (marks_of found n) (unit_at first.units plan.address)
+    (unit_at now.units plan.address) outcome
 
 abbrev pub OutcomeLaw : Type 0
-OutcomeLaw = (rules : LinkRules) (P : List UnitPlan) (found : Entry → Bool) (events : List Event) (v : Vehicle) (vehicles : List Vehicle) (n : ℕ) (outcome : Outcome)
-    → IsRun rules P found events v vehicles → n < count_of P → (((core_of rules P (core_start P found) events).slots n).outcome ≡ Some outcome)
-    → IsOutcomeCaused rules (plan_of P n) found (core_of rules P (core_start P found) events) n (has_failure events) (faults_of events v vehicles) v (last_vehicle v vehicles) outcome
+OutcomeLaw = (rules : LinkRules) (P : List UnitPlan) (found : Entry → Bool) (events : List Event)
+    (v : Vehicle) (vehicles : List Vehicle) (n : ℕ) (outcome : Outcome)
+    → IsRun rules P found events v vehicles → n < count_of P
+    → (((core_of rules P (core_start P found) events).slots n).outcome ≡ Some outcome)
+    → IsOutcomeCaused rules (plan_of P n) found (core_of rules P (core_start P found) events) n
+    (has_failure events) (faults_of events v vehicles) v (last_vehicle v vehicles) outcome
 
 -- complete, or not for anything that a vehicle does
 abbrev pub IsCalmOutcome : Outcome → Type 0
@@ -62,9 +70,12 @@ IsOfRun outcome = ⊥
 
 -- of a unit that matches and has not departed, complete is recorded, or what came of the run and not of the unit
 abbrev pub RecordedLaw : Type 0
-RecordedLaw = (rules : LinkRules) (P : List UnitPlan) (found : Entry → Bool) (events : List Event) (v : Vehicle) (vehicles : List Vehicle) (n : ℕ) (outcome : Outcome)
-    → IsRun rules P found events v vehicles → n < count_of P → (((core_of rules P (core_start P found) events).slots n).outcome ≡ Some outcome)
-    → IsCalmUnit (IsMatchingRun (found (entry.Begun n)) (plan_of P n) (marks_of found n)) (unit_at v.units (plan_of P n).address) (unit_at (last_vehicle v vehicles).units (plan_of P n).address)
+RecordedLaw = (rules : LinkRules) (P : List UnitPlan) (found : Entry → Bool) (events : List Event)
+    (v : Vehicle) (vehicles : List Vehicle) (n : ℕ) (outcome : Outcome)
+    → IsRun rules P found events v vehicles → n < count_of P
+    → (((core_of rules P (core_start P found) events).slots n).outcome ≡ Some outcome)
+    → IsCalmUnit (IsMatchingRun (found (entry.Begun n)) (plan_of P n) (marks_of found n))
+    (unit_at v.units (plan_of P n).address) (unit_at (last_vehicle v vehicles).units (plan_of P n).address)
     → IsOfRun outcome
 
 abbrev pub MatchesAt : Bool → UnitPlan → (ℕ → Bool) → Option ControlUnit → Type 0
@@ -74,14 +85,19 @@ MatchesAt begun plan found (Some u) = IsMatchingRun begun plan found u
 -- Where no append failed, no call of the link failed or was garbled and the vehicle has not departed, a unit that matches is
 -- complete, or there was no memory for it, or one that it waits for is not complete.
 abbrev pub UntroubledLaw : Type 0
-UntroubledLaw = (rules : LinkRules) (P : List UnitPlan) (found : Entry → Bool) (events : List Event) (v : Vehicle) (vehicles : List Vehicle) (n : ℕ) (outcome : Outcome)
-    → IsRun rules P found events v vehicles → n < count_of P → (((core_of rules P (core_start P found) events).slots n).outcome ≡ Some outcome)
+UntroubledLaw = (rules : LinkRules) (P : List UnitPlan) (found : Entry → Bool) (events : List Event)
+    (v : Vehicle) (vehicles : List Vehicle) (n : ℕ) (outcome : Outcome)
+    → IsRun rules P found events v vehicles → n < count_of P
+    → (((core_of rules P (core_start P found) events).slots n).outcome ≡ Some outcome)
     → has_failure events ≡ false → faults_of events v vehicles ≡ 0 → IsVehicleCalm v (last_vehicle v vehicles)
-    → MatchesAt (found (entry.Begun n)) (plan_of P n) (marks_of found n) (unit_at v.units (plan_of P n).address) → IsCalmOutcome outcome
+    → MatchesAt (found (entry.Begun n)) (plan_of P n) (marks_of found n)
+    (unit_at v.units (plan_of P n).address) → IsCalmOutcome outcome
 
 -- every unit of the plan matches by what was found
 abbrev pub AllMatch : List UnitPlan → (Entry → Bool) → Vehicle → Type 0
-AllMatch P found v = (n : ℕ) → n < count_of P → MatchesAt (found (entry.Begun n)) (plan_of P n) (marks_of found n) (unit_at v.units (plan_of P n).address)
+AllMatch P found v = (n : ℕ) → n < count_of P
+    → MatchesAt (found (entry.Begun n)) (plan_of P n) (marks_of found n)
+    (unit_at v.units (plan_of P n).address)
 
 -- there was no memory for some unit
 pub record LacksMemory (P : List UnitPlan) (c : Core) : Type 0 where
@@ -91,7 +107,10 @@ pub record LacksMemory (P : List UnitPlan) (c : Core) : Type 0 where
 
 -- So where every unit matches, each outcome is complete, but for want of memory.
 abbrev pub CompleteLaw : Type 0
-CompleteLaw = (rules : LinkRules) (P : List UnitPlan) (found : Entry → Bool) (events : List Event) (v : Vehicle) (vehicles : List Vehicle) (n : ℕ) (outcome : Outcome)
-    → IsRun rules P found events v vehicles → n < count_of P → (((core_of rules P (core_start P found) events).slots n).outcome ≡ Some outcome)
-    → has_failure events ≡ false → faults_of events v vehicles ≡ 0 → IsVehicleCalm v (last_vehicle v vehicles) → AllMatch P found v
+CompleteLaw = (rules : LinkRules) (P : List UnitPlan) (found : Entry → Bool) (events : List Event)
+    (v : Vehicle) (vehicles : List Vehicle) (n : ℕ) (outcome : Outcome)
+    → IsRun rules P found events v vehicles → n < count_of P
+    → (((core_of rules P (core_start P found) events).slots n).outcome ≡ Some outcome)
+    → has_failure events ≡ false → faults_of events v vehicles ≡ 0 → IsVehicleCalm v (last_vehicle v vehicles)
+    → AllMatch P found v
     → (outcome ≡ Complete) ⊎ LacksMemory P (core_of rules P (core_start P found) events)

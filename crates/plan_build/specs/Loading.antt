@@ -110,7 +110,8 @@ AreParts read name c (t ∷ ts) (r ∷ rs) = ((r ≡ Err NoMemory) ⊎ part read
 abbrev pub taken : List ℕ → ℕ → ℕ → Parts → List (Result Part BuildFault) → Result (ℕ × Parts) BuildFault
 taken name n room all [] = Ok (room, all)
 taken name n room all (r ∷ rs) =
-    r >=> λ p. room_after name room (size_of p.draft.segments) >=> λ left. taken name (n + 1) left (with_last all n p) rs
+    r >=> λ p. room_after name room (size_of p.draft.segments)
+    >=> λ left. taken name (n + 1) left (with_last all n p) rs
 
 abbrev pub with_parts : Parts → Result ℕ BuildFault → Result (ℕ × Parts) BuildFault
 with_parts all (Ok left) = Ok (left, all)

@@ -78,7 +78,8 @@ fn read_batch<'a, F: Shelf>(
     ensures read { (p : Period) → LiesIn p F.tells (F.history shelf.old) (F.history shelf.new)
         → IfOk result (λ b. AreLoaded (came p) name.now catalogue.now tasks.now b.jobs.items) }
     ensures stopped { (p : Period) → LiesIn p F.tells (F.history shelf.old) (F.history shelf.new)
-        → IfOk result (λ b. IsStop (came p) name.now catalogue.now (drop (length b.jobs.items) tasks.now) b.stopped) }
+        → IfOk result (λ b. IsStop (came p) name.now catalogue.now
+        (drop (length b.jobs.items) tasks.now) b.stopped) }
     ensures jobs { IfOk result (λ b. Each (IsJob catalogue.now) b.jobs.items) }
     ensures within { IfOk result (λ b. length b.jobs.items ≤ length tasks.now) }
     ensures some { IfOk result (λ b. b.stopped ≡ None → 0 < length b.jobs.items) }
@@ -147,7 +148,8 @@ pub(crate) fn next_batch<R: Threads + Sync, F: Shelf>(
     ensures read { (p : Period) → LiesIn p F.tells (F.history shelf.old) (F.history shelf.new)
         → IfOk result (λ g. AreParts (came p) name.now catalogue.now tasks.now g.parts.items) }
     ensures stopped { (p : Period) → LiesIn p F.tells (F.history shelf.old) (F.history shelf.new)
-        → IfOk result (λ g. IsStop (came p) name.now catalogue.now (drop (length g.parts.items) tasks.now) g.stopped) }
+        → IfOk result (λ g. IsStop (came p) name.now catalogue.now
+        (drop (length g.parts.items) tasks.now) g.stopped) }
     ensures drafts { IfOk result (λ g. Each (λ r. IfOk r (λ p. IsDraft p.draft)) g.parts.items) }
     ensures within { IfOk result (λ g. length g.parts.items ≤ length tasks.now) }
     ensures some { IfOk result (λ g. g.stopped ≡ None → 0 < length g.parts.items) }

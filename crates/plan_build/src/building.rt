@@ -94,7 +94,8 @@ pub fn build<R: Threads + Sync, F: Shelf>(
     ensures told { IsTrue F.tells → (result ≡ Err BuildFault.NoMemory)
         ⊎ ReadFailed (F.history shelf.old) (F.history shelf.new)
         ⊎ built (F.history shelf.old).contents name.now result }
-    ensures outside { IfShelf result (λ file fault. Came F.tells (F.history shelf.old) (F.history shelf.new) file (Err fault)) }
+    ensures outside { IfShelf result
+        (λ file fault. Came F.tells (F.history shelf.old) (F.history shelf.new) file (Err fault)) }
     ensures whole { IfOk result IsWholePlan }
 {
     built_by(rt, alloc, shelf, name)

@@ -26,7 +26,8 @@ const PLAN_BYTES: u64 = 67_108_864;
 
 /// The room that segments leave, or None where there is not enough.
 fn room_within(room: u64, segments: &[Segment]) -> Option<u64>
-    ensures { result ≡ (if nat_lt room (size_of segments.now) then None else Some (room - size_of segments.now)) }
+    ensures { result ≡ (if nat_lt room (size_of segments.now) then None
+        else Some (room - size_of segments.now)) }
 {
     let mut left = room;
     for i in 0..segments.len() {

@@ -11,7 +11,9 @@ pub const DATA: usize = 16;
 /// The first address from one on that has a byte.
 pub fn next_in(spans: &Spans, from: u64) -> Option<u64>
     requires { IsLow spans.now }
-    ensures { MatchOption result ((a : ℕ) → from ≤ a → map.get spans.now a ≡ None) (λ at. (from ≤ at) × (at < 2 ^ 32) × IsSome (map.get spans.now at) × ((a : ℕ) → from ≤ a → a < at → map.get spans.now a ≡ None)) }
+    ensures { MatchOption result ((a : ℕ) → from ≤ a → map.get spans.now a ≡ None)
+        (λ at. (from ≤ at) × (at < 2 ^ 32) × IsSome (map.get spans.now at)
+        × ((a : ℕ) → from ≤ a → a < at → map.get spans.now a ≡ None)) }
 {
     match spans.piece(from) {
         Some((at, _)) => Some(at),
@@ -22,7 +24,8 @@ pub fn next_in(spans: &Spans, from: u64) -> Option<u64>
 /// The bytes from an address on, as far as one extent has them. None where the address has no byte.
 fn bytes_from(spans: &Spans, at: u64) -> Option<&[u8]>
     requires { IsLow spans.now }
-    ensures { MatchOption result (map.get spans.now at ≡ None) (λ bytes. (0 < length bytes.now) × (at + length bytes.now ≤ 2 ^ 32) × Holds spans.now at bytes.now) }
+    ensures { MatchOption result (map.get spans.now at ≡ None)
+        (λ bytes. (0 < length bytes.now) × (at + length bytes.now ≤ 2 ^ 32) × Holds spans.now at bytes.now) }
 {
     match spans.piece(at) {
         Some((start, bytes)) if start == at => Some(bytes),

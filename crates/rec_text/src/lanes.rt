@@ -74,7 +74,8 @@ fn block(digits: &[u8], k: usize, out: &mut [u8; SPELLED]) -> Option<u32>
 #[inline(always)]
 pub(crate) fn by_lanes(digits: &[u8], out: &mut [u8; SPELLED]) -> (usize, u32)
     requires { length digits.now ≤ 520 }
-    ensures spelled { bytes_of digits.now ≡ behind (take result.0 out.new) (bytes_of (drop (2 * result.0) digits.now)) }
+    ensures spelled { bytes_of digits.now ≡ behind (take result.0 out.new)
+        (bytes_of (drop (2 * result.0) digits.now)) }
     ensures total { result.1 ≡ sum (take result.0 out.new) }
     ensures small { result.1 ≤ 255 * result.0 }
     ensures within { 2 * result.0 ≤ length digits.now }

@@ -11,7 +11,9 @@ pub const SPELLED: usize = 260;
 
 /// The bytes that pairs of digits spell, at the front of `out`: how many, and their sum.
 pub fn parse(digits: &[u8], out: &mut [u8; SPELLED]) -> Option<(usize, u32)>
-    ensures { MatchOption result ((bytes : List ℕ) → bytes_of digits.now ≡ Some bytes → 260 < length bytes) (λ p. (bytes_of digits.now ≡ Some (take p.0 out.new)) × (p.0 ≤ 260) × (p.1 ≡ sum (take p.0 out.new)) × (length digits.now ≡ 2 * p.0)) }
+    ensures { MatchOption result ((bytes : List ℕ) → bytes_of digits.now ≡ Some bytes → 260 < length bytes)
+        (λ p. (bytes_of digits.now ≡ Some (take p.0 out.new)) × (p.0 ≤ 260) × (p.1 ≡ sum (take p.0 out.new))
+        × (length digits.now ≡ 2 * p.0)) }
 {
     let size = digits.len() / 2;
     if digits.len() % 2 != 0 {

@@ -52,7 +52,8 @@ fn hold(run: &mut Run, bytes: &[u8]) -> Result<(), RecFault>
     requires run { IsRun run.old }
     requires room { run.old.start + length run.old.held + length bytes.now ≤ run.old.limit }
     ensures run { IsRun run.new }
-    ensures puts { Does result (map_of_run run.new) (putting (map_of_run run.old) (run.old.start + length run.old.held) bytes.now) }
+    ensures puts { Does result (map_of_run run.new)
+        (putting (map_of_run run.old) (run.old.start + length run.old.held) bytes.now) }
 {
     match run.held.extend(bytes) {
         Ok(()) => Ok(()),
@@ -115,7 +116,8 @@ fn go_on(run: &mut Run, bytes: &[u8]) -> Result<(), RecFault>
     requires run { IsRun run.old }
     requires within { run.old.start + length run.old.held + length bytes.now ≤ 2 ^ 32 }
     ensures run { IsRun run.new }
-    ensures puts { Does result (map_of_run run.new) (putting (map_of_run run.old) (run.old.start + length run.old.held) bytes.now) }
+    ensures puts { Does result (map_of_run run.new)
+        (putting (map_of_run run.old) (run.old.start + length run.old.held) bytes.now) }
 {
     let held = run.held.len();
     if held < HELD && bytes.len() as u64 <= run.limit - (run.start + held as u64) {

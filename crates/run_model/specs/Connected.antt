@@ -35,7 +35,8 @@ will_accept l g = accepts (stream_of (l.rest ++ g.ready)).frames || accepts_late
 -- is activated for the tester.
 abbrev pub IsByPhase : ℕ → Phase → Link → Gateway → Type 0
 IsByPhase tester phase.Down l g = Unit {0}
-IsByPhase tester phase.Dialed l g = (g.active ≡ None) × (g.ready ≡ []) × (g.later ≡ []) × (g.held ≡ []) × (l.got ≡ []) × (l.rest ≡ []) × (l.inbox ≡ [])
+IsByPhase tester phase.Dialed l g = (g.active ≡ None) × (g.ready ≡ []) × (g.later ≡ []) × (g.held ≡ [])
+    × (l.got ≡ []) × (l.rest ≡ []) × (l.inbox ≡ [])
 IsByPhase tester phase.Asked l g = IsTrue (will_accept l g) → g.active ≡ Some tester
 IsByPhase tester phase.Up l g = g.active ≡ Some tester
 IsByPhase tester (phase.Refused code) l g = Unit {0}

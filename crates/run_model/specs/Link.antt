@@ -28,7 +28,16 @@ pub record Link : Type 0 where
   pub owes : Bool
 
 abbrev pub link_start : Link
-link_start = record { phase = Down; ticks = 0; asked = 0; losses = 0; got = []; rest = []; inbox = []; owes = false }
+link_start = record {
+  phase = Down;
+  ticks = 0;
+  asked = 0;
+  losses = 0;
+  got = [];
+  rest = [];
+  inbox = [];
+  owes = false;
+}
 
 abbrev pub is_down : Phase → Bool
 is_down Down = true
@@ -71,10 +80,13 @@ keep_message ours source word l = if ours then record l { inbox = l.inbox ++ ((s
 -- an address of no unit, is dropped.
 abbrev pub see_frame : ℕ → List ℕ → Frame → Link → Link
 see_frame tester units (HeaderNack code) l = drop_link l
-see_frame tester units (Activated t entity code oem) l = if is_asked l.phase then record l { phase = if code == 16 then Up else Refused code } else l
+see_frame tester units (Activated t entity code oem) l =
+    if is_asked l.phase then record l { phase = if code == 16 then Up else Refused code } else l
 see_frame tester units AliveAsk l = record l { owes = true }
-see_frame tester units (Message source target body) l = keep_message (target == tester && is_known units source) source (Reply body) l
-see_frame tester units (Nack source target code old) l = keep_message (target == tester && is_known units source) source (Nacked code) l
+see_frame tester units (Message source target body) l =
+    keep_message (target == tester && is_known units source) source (Reply body) l
+see_frame tester units (Nack source target code old) l =
+    keep_message (target == tester && is_known units source) source (Nacked code) l
 see_frame tester units (Activate source kind oem) l = l
 see_frame tester units (AliveSay source) l = l
 see_frame tester units (Ack source target code old) l = l
@@ -93,7 +105,8 @@ see_end None l = l
 see_end (Some bad) l = if is_open l.phase then drop_link l else l
 
 abbrev pub see_stream : ℕ → List ℕ → Stream → List ℕ → Link → Link
-see_stream tester units s piece l = see_end s.bad (see_all tester units s.frames (record l { got = l.got ++ piece; rest = s.rest }))
+see_stream tester units s piece l =
+    see_end s.bad (see_all tester units s.frames (record l { got = l.got ++ piece; rest = s.rest }))
 
 -- a receive that brought bytes
 abbrev pub hear_piece : ℕ → List ℕ → List ℕ → Link → Link

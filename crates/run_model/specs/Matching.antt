@@ -36,4 +36,5 @@ pub record IsMatching (begun : Bool) (plan : UnitPlan) (u : ControlUnit) : Type 
 
 -- the vehicle has every unit of the plan, and each matches by the records
 abbrev pub Matches : List UnitPlan → (Entry → Bool) → Vehicle → Type 0
-Matches P R v = (n : ℕ) → n < count_of P → MatchOption (unit_at v.units (plan_of P n).address) ⊥ (IsMatching (R (Begun n)) (plan_of P n))
+Matches P R v = (n : ℕ) → n < count_of P
+    → MatchOption (unit_at v.units (plan_of P n).address) ⊥ (IsMatching (R (Begun n)) (plan_of P n))

@@ -16,7 +16,8 @@ plan = record {
   key = Free;
   idents = [];
   after = [];
-  segments = record { at = 4096; body = 97 ∷ 98 ∷ 99 ∷ 100 ∷ [] } ∷ record { at = 8192; body = 101 ∷ 102 ∷ 103 ∷ 104 ∷ [] } ∷ [];
+  segments = record { at = 4096; body = 97 ∷ 98 ∷ 99 ∷ 100 ∷ [] }
+      ∷ record { at = 8192; body = 101 ∷ 102 ∷ 103 ∷ 104 ∷ [] } ∷ [];
 }
 
 abbrev pub none : ℕ → Bool
@@ -47,11 +48,13 @@ opened = (80 ∷ 2 ∷ 0 ∷ 50 ∷ 1 ∷ 244 ∷ []) ∷ []
 
 -- 71 01 FF 00 00, 74 10 80, 76 01, 77, 71 01 02 02 00: the answers of one segment
 abbrev pub loaded : List (List ℕ)
-loaded = (113 ∷ 1 ∷ 255 ∷ 0 ∷ 0 ∷ []) ∷ (116 ∷ 16 ∷ 128 ∷ []) ∷ (118 ∷ 1 ∷ []) ∷ (119 ∷ []) ∷ (113 ∷ 1 ∷ 2 ∷ 2 ∷ 0 ∷ []) ∷ []
+loaded = (113 ∷ 1 ∷ 255 ∷ 0 ∷ 0 ∷ []) ∷ (116 ∷ 16 ∷ 128 ∷ []) ∷ (118 ∷ 1 ∷ []) ∷ (119 ∷ [])
+    ∷ (113 ∷ 1 ∷ 2 ∷ 2 ∷ 0 ∷ []) ∷ []
 
 -- the same, and 71 01 02 02 05 in place of the last: the check found the segment to be another
 abbrev pub differs : List (List ℕ)
-differs = (113 ∷ 1 ∷ 255 ∷ 0 ∷ 0 ∷ []) ∷ (116 ∷ 16 ∷ 128 ∷ []) ∷ (118 ∷ 1 ∷ []) ∷ (119 ∷ []) ∷ (113 ∷ 1 ∷ 2 ∷ 2 ∷ 5 ∷ []) ∷ []
+differs = (113 ∷ 1 ∷ 255 ∷ 0 ∷ 0 ∷ []) ∷ (116 ∷ 16 ∷ 128 ∷ []) ∷ (118 ∷ 1 ∷ []) ∷ (119 ∷ [])
+    ∷ (113 ∷ 1 ∷ 2 ∷ 2 ∷ 5 ∷ []) ∷ []
 
 -- 31 01 FF 01, and its answer 71 01 FF 01 00
 abbrev pub whole_check : Ask
@@ -70,7 +73,8 @@ pub record AreScriptsWorked : Type 0 where
   pub mark_next : script plan true none first (opened ++ (loaded ++ loaded)) ≡ Mark 1
   pub check : script plan true none both (opened ++ (loaded ++ loaded)) ≡ whole_check
   pub reset : script plan true none both (opened ++ (loaded ++ (loaded ++ whole))) ≡ Send (17 ∷ 1 ∷ [])
-  pub done : script plan true none both (opened ++ (loaded ++ (loaded ++ (whole ++ ((81 ∷ 1 ∷ []) ∷ []))))) ≡ Done
+  pub done : script plan true none both
+      (opened ++ (loaded ++ (loaded ++ (whole ++ ((81 ∷ 1 ∷ []) ∷ []))))) ≡ Done
   -- the first was marked when the attempt began: it is left out, and the second keeps its number
   pub skip : script plan true first first opened ≡ erases at_2000
   pub skip_mark : script plan true first first (opened ++ loaded) ≡ Mark 1
@@ -81,5 +85,6 @@ pub record AreScriptsWorked : Type 0 where
   -- both were: nothing is erased
   pub skip_both : script plan true both both opened ≡ whole_check
   -- an attempt starts anew after a loss, with the marks that are recorded by then, but not at a mark
-  pub lost : (t : Talk) (c : Cursor) → t.place ≡ AtErase c → talk_lost plan true t ≡ talk_start plan true t.marks
+  pub lost : (t : Talk) (c : Cursor) → t.place ≡ AtErase c
+      → talk_lost plan true t ≡ talk_start plan true t.marks
   pub lost_at_mark : (t : Talk) (c : Cursor) → t.place ≡ AtMark c → talk_lost plan true t ≡ t

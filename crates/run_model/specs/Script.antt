@@ -57,7 +57,8 @@ idents_from (w ∷ ws) = AtIdent w ws
 abbrev pub segments_from : (ℕ → Bool) → List Segment → List Segment → Place
 segments_from skipped done [] = AtFinish
 segments_from skipped done (s ∷ ss) =
-    if skipped (length done) then segments_from skipped (done ++ (s ∷ [])) ss else AtErase (record { done = done; now = s; left = ss })
+    if skipped (length done) then segments_from skipped (done ++ (s ∷ [])) ss
+    else AtErase (record { done = done; now = s; left = ss })
 
 -- the first place of an attempt
 abbrev pub start_place : UnitPlan → Bool → Place
@@ -111,17 +112,25 @@ abbrev pub more_blocks : Cursor → Blocks → Place
 more_blocks c b = if is_empty b.rest then AtExit c else AtBlock c b
 
 abbrev pub after_block : Blocks → Blocks
-after_block b = record { sent = b.sent ++ block_of b; rest = drop (b.limit - 2) b.rest; counter = next_counter b.counter; limit = b.limit }
+after_block b = record {
+  sent = b.sent ++ block_of b;
+  rest = drop (b.limit - 2) b.rest;
+  counter = next_counter b.counter;
+  limit = b.limit;
+}
 
 -- the place after a positive answer; rest is what stands behind its beginning
 abbrev pub place_next : UnitPlan → (ℕ → Bool) → Place → List ℕ → Place
-place_next u skipped (AtIdent w ws) rest = if has_value w.values rest then idents_from ws else AtEnd (IdentMismatch w.did)
+place_next u skipped (AtIdent w ws) rest =
+    if has_value w.values rest then idents_from ws else AtEnd (IdentMismatch w.did)
 place_next u skipped AtBegin rest = AtBegin
 place_next u skipped AtProgram rest = after_program u skipped u.key
-place_next u skipped (AtSeed level) rest = if all_zero rest then segments_from skipped [] u.segments else AtKey level rest
+place_next u skipped (AtSeed level) rest =
+    if all_zero rest then segments_from skipped [] u.segments else AtKey level rest
 place_next u skipped (AtKey level seed) rest = segments_from skipped [] u.segments
 place_next u skipped (AtErase c) rest = AtDownload c
-place_next u skipped (AtDownload c) rest = more_blocks c (record { sent = []; rest = c.now.body; counter = 1; limit = min (number_of rest) 65535 })
+place_next u skipped (AtDownload c) rest =
+    more_blocks c (record { sent = []; rest = c.now.body; counter = 1; limit = min (number_of rest) 65535 })
 place_next u skipped (AtBlock c b) rest = more_blocks c (after_block b)
 place_next u skipped (AtExit c) rest = AtCheck c
 place_next u skipped (AtCheck c) rest = AtMark c
@@ -148,7 +157,8 @@ place_judged u skipped place Pending = place
 place_judged u skipped place Busy = place
 place_judged u skipped place (Refusal nrc) = AtEnd (Refused (sid_of (bytes_at u place)) nrc)
 place_judged u skipped place (Accepted rest) = place_next u skipped place rest
-place_judged u skipped place (BadStatus status) = AtEnd (CheckFailed (routine_at u place).0 (routine_at u place).1 status)
+place_judged u skipped place (BadStatus status) =
+    AtEnd (CheckFailed (routine_at u place).0 (routine_at u place).1 status)
 place_judged u skipped place Malformed = AtEnd (BadAnswer (sid_of (bytes_at u place)))
 
 abbrev pub place_after : UnitPlan → (ℕ → Bool) → Place → List ℕ → Place
@@ -156,12 +166,14 @@ place_after u skipped place body = place_judged u skipped place (judge (bytes_at
 
 -- past a mark that is recorded now
 abbrev pub past_mark : (ℕ → Bool) → (ℕ → Bool) → Place → Place
-past_mark skipped marks (AtMark c) = if marks (length c.done) then place_marked skipped (AtMark c) else AtMark c
+past_mark skipped marks (AtMark c) =
+    if marks (length c.done) then place_marked skipped (AtMark c) else AtMark c
 past_mark skipped marks place = place
 
 abbrev pub place_of : UnitPlan → (ℕ → Bool) → (ℕ → Bool) → Place → List (List ℕ) → Place
 place_of u skipped marks place [] = place
-place_of u skipped marks place (a ∷ more) = place_of u skipped marks (past_mark skipped marks (place_after u skipped place a)) more
+place_of u skipped marks place (a ∷ more) =
+    place_of u skipped marks (past_mark skipped marks (place_after u skipped place a)) more
 
 -- what a unit does next
 pub data Ask : Type 0 where

@@ -45,12 +45,14 @@ AllComplete R after = Each (λ w. IsTrue (R (Complete w))) after
 -- unchanged; recorded begun, the units before it are recorded complete; before they are, it has heard nothing; and each of its
 -- segments that is recorded marked is in it, checked.
 pub record IsUnitSound (R : Entry → Bool) (n : ℕ) (plan : UnitPlan) (v v0 : Vehicle) : Type 0 where
-  pub outside : (a : ℕ) → ¬ IsInImage plan.segments a → memory_of v plan.address a ≡ memory_of v0 plan.address a
+  pub outside : (a : ℕ) → ¬ IsInImage plan.segments a
+      → memory_of v plan.address a ≡ memory_of v0 plan.address a
   pub complete : IsTrue (R (Complete n)) → IsTrue (R (Begun n)) × HasProgrammed plan v
   pub untouched : ¬ IsTrue (R (Begun n)) → (a : ℕ) → memory_of v plan.address a ≡ memory_of v0 plan.address a
   pub ordered : IsTrue (R (Begun n)) → AllComplete R plan.after
   pub waits : ¬ AllComplete R plan.after → heard_of v plan.address ≤ heard_of v0 plan.address
-  pub marked : (s : ℕ) → s < length plan.segments → IsTrue (R (Marked n s)) → IsTrue (R (Begun n)) × VehicleHas plan (segment_of plan s) v
+  pub marked : (s : ℕ) → s < length plan.segments → IsTrue (R (Marked n s)) → IsTrue (R (Begun n))
+      × VehicleHas plan (segment_of plan s) v
 
 -- records and a vehicle fit together
 abbrev pub IsSound : List UnitPlan → (Entry → Bool) → Vehicle → Vehicle → Type 0
@@ -58,12 +60,14 @@ IsSound P R v v0 = (n : ℕ) → n < count_of P → IsUnitSound R n (plan_of P n
 
 -- whatever a crash leaves of the disk, its records fit the vehicle
 abbrev pub IsSoundDisk : List UnitPlan → (List ℕ → Entry → Bool) → Vehicle → DiskState → Vehicle → Type 0
-IsSoundDisk P records_in v0 disk v = (image : List ℕ) → IsCrashImage disk image → IsSound P (records_in image) v v0
+IsSoundDisk P records_in v0 disk v = (image : List ℕ) → IsCrashImage disk image
+    → IsSound P (records_in image) v v0
 
 -- The memory of each unit is that of one plain overwrite by its image. Addresses of units are distinct, so no order matters.
 abbrev pub HasFinalMemory : UnitPlan → Vehicle → Vehicle → Type 0
 HasFinalMemory plan v0 v = MatchOption (unit_at v0.units plan.address) ⊥
-    (λ u0. MatchOption (unit_at v.units plan.address) ⊥ (λ u. (a : ℕ) → byte_at u.memory a ≡ byte_at (final_memory plan u0.memory) a))
+    (λ u0. MatchOption (unit_at v.units plan.address) ⊥
+    (λ u. (a : ℕ) → byte_at u.memory a ≡ byte_at (final_memory plan u0.memory) a))
 
 abbrev pub IsFinalVehicle : List UnitPlan → Vehicle → Vehicle → Type 0
 IsFinalVehicle P v0 v = (n : ℕ) → n < count_of P → HasFinalMemory (plan_of P n) v0 v

@@ -18,7 +18,14 @@ HasRoom s u = (k : ℕ) → k < length s.body → is_some (byte_at u.memory (s.a
 -- a transfer down is open with the script's next address, rest and counter, and the bytes before it are the image's
 pub record HasTransfer (c : Cursor) (b : Blocks) (u : ControlUnit) : Type 0 where
   pub last : Option ℕ
-  pub transfer : u.transfer ≡ Some (record { up = false; at = c.now.at + length b.sent; rest = length b.rest; counter = b.counter; last = last })
+  pub transfer : u.transfer ≡ Some
+      (record {
+        up = false;
+        at = c.now.at + length b.sent;
+        rest = length b.rest;
+        counter = b.counter;
+        last = last;
+      })
   pub holds : HoldsBytes c.now.at b.sent u.memory
   pub room : HasRoom c.now u
 
@@ -67,12 +74,14 @@ pub record SameButCounts (old new : ControlUnit) : Type 0 where
   pub same : new ≡ record old { heard = new.heard; counts = new.counts }
 
 -- the unit has made the obedient step, and its answer is that step's
-pub record Obeyed (old : ControlUnit) (bytes : List ℕ) (said : Option (List ℕ)) (new : ControlUnit) : Type 0 where
+pub record Obeyed (old : ControlUnit) (bytes : List ℕ) (said : Option (List ℕ))
+    (new : ControlUnit) : Type 0 where
   pub said_is : said ≡ Some (obedient old bytes).1
   pub state : SameButCounts (obedient old bytes).0 new
 
 -- the unit has departed from it, and its answer, if there is one, is the departure's
-pub record Departed (old : ControlUnit) (bytes : List ℕ) (said : Option (List ℕ)) (new : ControlUnit) : Type 0 where
+pub record Departed (old : ControlUnit) (bytes : List ℕ) (said : Option (List ℕ))
+    (new : ControlUnit) : Type 0 where
   pub kind : Departure
   pub mid : ControlUnit
   pub is : IsDeparture kind old bytes

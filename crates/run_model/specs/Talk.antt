@@ -21,7 +21,15 @@ pub record Talk : Type 0 where
   pub busies : ℕ
 
 abbrev pub talk_start : UnitPlan → Bool → (ℕ → Bool) → Talk
-talk_start u begun marks = record { place = start_place u begun; marks = marks; number = 0; awaiting = false; since = 0; pendings = 0; busies = 0 }
+talk_start u begun marks = record {
+  place = start_place u begun;
+  marks = marks;
+  number = 0;
+  awaiting = false;
+  since = 0;
+  pendings = 0;
+  busies = 0;
+}
 
 abbrev pub end_talk : Outcome → Talk → Talk
 end_talk outcome t = record t { place = AtEnd outcome; awaiting = false }
@@ -48,11 +56,19 @@ abbrev pub talk_sent : ℕ → Talk → Talk
 talk_sent tick t = record t { awaiting = true; since = tick; pendings = 0 }
 
 abbrev pub talk_final : UnitPlan → Verdict → Talk → Talk
-talk_final u verdict t = record t { place = place_judged u t.marks t.place verdict; number = t.number + 1; awaiting = false; pendings = 0; busies = 0 }
+talk_final u verdict t = record t {
+  place = place_judged u t.marks t.place verdict;
+  number = t.number + 1;
+  awaiting = false;
+  pendings = 0;
+  busies = 0;
+}
 
 abbrev pub talk_judged : UnitPlan → ℕ → Verdict → Talk → Talk
-talk_judged u tick Pending t = if t.pendings == 200 then end_talk (PendingLimit (sid_at u t)) t else record t { since = tick; pendings = t.pendings + 1 }
-talk_judged u tick Busy t = if t.busies == 20 then end_talk (BusyLimit (sid_at u t)) t else record t { awaiting = false; pendings = 0; busies = t.busies + 1 }
+talk_judged u tick Pending t = if t.pendings == 200 then end_talk (PendingLimit (sid_at u t)) t
+    else record t { since = tick; pendings = t.pendings + 1 }
+talk_judged u tick Busy t = if t.busies == 20 then end_talk (BusyLimit (sid_at u t)) t
+    else record t { awaiting = false; pendings = 0; busies = t.busies + 1 }
 talk_judged u tick (Refusal nrc) t = talk_final u (Refusal nrc) t
 talk_judged u tick (Accepted rest) t = talk_final u (Accepted rest) t
 talk_judged u tick (BadStatus status) t = talk_final u (BadStatus status) t

@@ -53,7 +53,8 @@ messages_held a (h ∷ hs) = if h.unit == a then Reply h.body ∷ messages_held 
 -- in the inbox, in what was received behind the last whole frame and what is due, in the queue, and held
 abbrev pub on_way : ℕ → ℕ → List (ℕ × UnitMessage) → List ℕ → Gateway → List UnitMessage
 on_way tester a inbox rest g =
-    messages_from a inbox ++ (messages_in tester a (stream_of (rest ++ g.ready)).frames ++ (messages_later tester a g.later ++ messages_held a g.held))
+    messages_from a inbox ++ (messages_in tester a
+    (stream_of (rest ++ g.ready)).frames ++ (messages_later tester a g.later ++ messages_held a g.held))
 
 abbrev pub has_no_message : List UnitMessage → Bool
 has_no_message [] = true
@@ -63,7 +64,8 @@ has_no_message (w ∷ ws) = false
 abbrev pub ascends_for : ℕ → ℕ → ℕ → List (ℕ × List ℕ) → Bool
 ascends_for tester a from [] = true
 ascends_for tester a from (q ∷ qs) =
-    if has_no_message (messages_in tester a (stream_of q.1).frames) then ascends_for tester a from qs else nat_le from q.0 && ascends_for tester a q.0 qs
+    if has_no_message (messages_in tester a (stream_of q.1).frames) then ascends_for tester a from qs
+    else nat_le from q.0 && ascends_for tester a q.0 qs
 
 abbrev pub pending_messages : ℕ → ℕ → List UnitMessage
 pending_messages sid zero = []
@@ -84,7 +86,8 @@ pub record HeardIt (plan : UnitPlan) (place : Place) (way : List UnitMessage) (u
   pub on_way : way ≡ pending_messages (sid_of (bytes_at plan place)) pending ++ final_message said
 
 -- the gateway refused to deliver it
-pub record MissedIt (plan : UnitPlan) (place : Place) (way : List UnitMessage) (u : Option ControlUnit) : Type 0 where
+pub record MissedIt (plan : UnitPlan) (place : Place) (way : List UnitMessage)
+    (u : Option ControlUnit) : Type 0 where
   pub code : ℕ
   pub state : StateIn plan place u
   pub on_way : way ≡ Nacked code ∷ []

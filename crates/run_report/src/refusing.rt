@@ -131,7 +131,8 @@ fn put_checksum(
     said: &Bytes,
     got: &Bytes,
 ) -> Result<(), NoMemory>
-    ensures { OnOk result (out.new ≡ out.old ++ cause_text (Cause.ChecksumDiffers name.now said.now got.now)) }
+    ensures { OnOk result (out.new ≡ out.old ++ cause_text
+        (Cause.ChecksumDiffers name.now said.now got.now)) }
 {
     put_id(out, b"checksum differs ", name)?;
     put_digits(alloc, out, said)?;

@@ -13,7 +13,8 @@ use Rattle.session_image.specs.declared.types.ImageFault.TheVariants.{TooLarge, 
 -- the byte of the first segment that has the source address
 abbrev pub source_byte : List Piece → ℕ → Option ℕ
 source_byte [] a = None
-source_byte (p ∷ ps) a = if is_in p.source (length p.body) a then slice_get p.body (a - p.source) else source_byte ps a
+source_byte (p ∷ ps) a =
+    if is_in p.source (length p.body) a then slice_get p.body (a - p.source) else source_byte ps a
 
 abbrev pub or_byte : Option ℕ → ℕ → ℕ
 or_byte None x = x
@@ -37,10 +38,12 @@ value_by alg bytes =
 
 abbrev pub compared : Check → Option (List ℕ) → Result Checked ImageFault
 compared c None = Ok (record { name = c.name; done = false })
-compared c (Some got) = if bytes_eq c.result got then Ok (record { name = c.name; done = true }) else Err (ChecksumDiffers c.name c.result got)
+compared c (Some got) = if bytes_eq c.result got then Ok (record { name = c.name; done = true })
+    else Err (ChecksumDiffers c.name c.result got)
 
 abbrev pub checked : List Piece → Check → Result Checked ImageFault
-checked ps c = if nat_lt size_limit c.size then Err TooLarge else compared c (value_by c.alg (check_bytes ps c.fill c.from c.size))
+checked ps c = if nat_lt size_limit c.size then Err TooLarge
+    else compared c (value_by c.alg (check_bytes ps c.fill c.from c.size))
 
 abbrev pub all_checked : List Piece → List Check → Result (List Checked) ImageFault
 all_checked ps [] = Ok []

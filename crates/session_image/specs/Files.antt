@@ -12,7 +12,16 @@ abbrev pub no_session : Session
 no_session = record { id = []; name = []; blocks = []; idents = []; checks = [] }
 
 abbrev pub no_block : Block
-no_block = record { id = []; name = []; flash = 0; filters = []; segments = []; down = false; offset = 0; own = [] }
+no_block = record {
+  id = [];
+  name = [];
+  flash = 0;
+  filters = [];
+  segments = [];
+  down = false;
+  offset = 0;
+  own = [];
+}
 
 abbrev pub no_flash : Flash
 no_flash = record { id = []; format = Binary; plain = false; source = Inside [] }

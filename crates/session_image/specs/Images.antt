@@ -27,19 +27,22 @@ abbrev pub HasFiles : EcuMem → ℕ → List (List ℕ × List ℕ) → Type 0
 HasFiles m s files = Each (λ name. IsSome (first_of name files)) (files_of m s)
 
 -- segments without shared addresses
-pub record IsSet (m : EcuMem) (s : ℕ) (files : List (List ℕ × List ℕ)) (fill : Option ℕ) (ps : List Piece) : Type 0 where
+pub record IsSet (m : EcuMem) (s : ℕ) (files : List (List ℕ × List ℕ)) (fill : Option ℕ)
+    (ps : List Piece) : Type 0 where
   pub pieces : session_pieces m files fill (blocks_of m s) ≡ Ok ps
   pub apart : IsLowest (IsShared ps) None
 
 -- What is answered of a session. Want of memory may come at any time.
-pub record IsWholeImage (m : EcuMem) (s : ℕ) (files : List (List ℕ × List ℕ)) (fill : Option ℕ) (image : Image) : Type 0 where
+pub record IsWholeImage (m : EcuMem) (s : ℕ) (files : List (List ℕ × List ℕ)) (fill : Option ℕ)
+    (image : Image) : Type 0 where
   pub pieces : List Piece
   pub set : IsSet m s files fill pieces
   pub segments : image.segments ≡ segments_of pieces
   pub checks : all_checked pieces (session_of m s).checks ≡ Ok image.checks
   pub own : image.own ≡ own_of (blocks_of m s)
 
-pub record IsOverlap (m : EcuMem) (s : ℕ) (files : List (List ℕ × List ℕ)) (fill : Option ℕ) (at : ℕ) : Type 0 where
+pub record IsOverlap (m : EcuMem) (s : ℕ) (files : List (List ℕ × List ℕ)) (fill : Option ℕ)
+    (at : ℕ) : Type 0 where
   pub pieces : List Piece
   pub are : session_pieces m files fill (blocks_of m s) ≡ Ok pieces
   pub lowest : IsLowest (IsShared pieces) (Some at)

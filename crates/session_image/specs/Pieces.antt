@@ -57,13 +57,16 @@ with_byte number a (Some x) rest = rest >>= λ xs. Ok (x ∷ xs)
 -- the bytes of a range, or its lowest hole
 abbrev pub filled : ℕ → (ℕ → Option ℕ) → Option ℕ → ℕ → ℕ → Result (List ℕ) ImageFault
 filled number look fill a zero = Ok []
-filled number look fill a (suc n) = with_byte number a (or_fill (look a) fill) (filled number look fill (a + 1) n)
+filled number look fill a (suc n) =
+    with_byte number a (or_fill (look a) fill) (filled number look fill (a + 1) n)
 
 -- the ranges with their bytes; the first is segment `number`, and so many bytes of the data stand before it
-abbrev pub bodies : Content → List (ℕ × ℕ) → Option ℕ → ℕ → ℕ → List (ℕ × ℕ) → Result (List (ℕ × List ℕ)) ImageFault
+abbrev pub bodies : Content → List (ℕ × ℕ) → Option ℕ → ℕ → ℕ → List (ℕ × ℕ)
+    → Result (List (ℕ × List ℕ)) ImageFault
 bodies c filters fill number before [] = Ok []
 bodies c filters fill number before (r ∷ rs) =
-    filled number (byte_of c filters r.0 before) fill r.0 r.1 >>= λ body. bodies c filters fill (number + 1) (before + r.1) rs >>= λ rest. Ok ((r.0, body) ∷ rest)
+    filled number (byte_of c filters r.0 before) fill r.0 r.1
+    >>= λ body. bodies c filters fill (number + 1) (before + r.1) rs >>= λ rest. Ok ((r.0, body) ∷ rest)
 
 -- ------ where they go
 abbrev pub is_outside : Block → ℕ → ℕ → Bool
@@ -76,13 +79,15 @@ abbrev pub moved : Block → ℕ → List (ℕ × List ℕ) → Result (List Pie
 moved b number [] = Ok []
 moved b number (s ∷ ss) =
     if is_outside b s.0 (length s.1) then Err (OutOfRange number)
-    else moved b (number + 1) ss >>= λ rest. Ok (record { source = s.0; target = target_of b s.0; body = s.1 } ∷ rest)
+    else moved b (number + 1) ss >>= λ rest. Ok
+    (record { source = s.0; target = target_of b s.0; body = s.1 } ∷ rest)
 
 -- ------ one datablock
 -- plain bytes are as many as the segments say
 abbrev pub has_its_size : Content → Block → ℕ → Result Content ImageFault
 has_its_size (Mapped m) b said = Ok (Mapped m)
-has_its_size (Plain bytes) b said = if length bytes == said then Ok (Plain bytes) else Err (BinarySize b.id said (length bytes))
+has_its_size (Plain bytes) b said =
+    if length bytes == said then Ok (Plain bytes) else Err (BinarySize b.id said (length bytes))
 
 abbrev pub some_ranges : Block → List (ℕ × ℕ) → Result (List (ℕ × ℕ)) ImageFault
 some_ranges b [] = Err (NoSegment b.id)
@@ -96,7 +101,8 @@ own_pieces fill number size b c =
     else has_its_size c b (total rs) >>= λ c. bodies c b.filters fill number 0 rs >>= moved b number
 
 -- its segments
-abbrev pub block_pieces : EcuMem → List (List ℕ × List ℕ) → Option ℕ → ℕ → ℕ → Block → Result (List Piece) ImageFault
+abbrev pub block_pieces : EcuMem → List (List ℕ × List ℕ) → Option ℕ → ℕ → ℕ → Block
+    → Result (List Piece) ImageFault
 block_pieces m files fill number size b = content files (flash_of m b) >>= own_pieces fill number size b
 
 abbrev pub size_of : List Piece → ℕ
@@ -104,14 +110,16 @@ size_of [] = 0
 size_of (p ∷ ps) = length p.body + size_of ps
 
 -- all datablocks of a list, behind so many segments and bytes
-abbrev pub all_pieces : EcuMem → List (List ℕ × List ℕ) → Option ℕ → ℕ → ℕ → List Block → Result (List Piece) ImageFault
+abbrev pub all_pieces : EcuMem → List (List ℕ × List ℕ) → Option ℕ → ℕ → ℕ → List Block
+    → Result (List Piece) ImageFault
 all_pieces m files fill number size [] = Ok []
 all_pieces m files fill number size (b ∷ bs) =
     block_pieces m files fill number size b >>= λ ps.
     all_pieces m files fill (number + length ps) (size + size_of ps) bs >>= λ rest. Ok (ps ++ rest)
 
 -- a session without datablocks has no segment
-abbrev pub session_pieces : EcuMem → List (List ℕ × List ℕ) → Option ℕ → List Block → Result (List Piece) ImageFault
+abbrev pub session_pieces : EcuMem → List (List ℕ × List ℕ) → Option ℕ → List Block
+    → Result (List Piece) ImageFault
 session_pieces m files fill [] = Err (NoSegment [])
 session_pieces m files fill (b ∷ bs) = all_pieces m files fill 0 0 (b ∷ bs)
 
@@ -121,7 +129,8 @@ has_target p a = (p.target ≤ a) × (a < p.target + length p.body)
 
 -- two segments of different numbers have the target address
 abbrev pub IsShared : List Piece → ℕ → Type 0
-IsShared ps a = (i : ℕ) × (j : ℕ) × (p : Piece) × (q : Piece) × (i < j) × (slice_get ps i ≡ Some p) × (slice_get ps j ≡ Some q) × has_target p a × has_target q a
+IsShared ps a = (i : ℕ) × (j : ℕ) × (p : Piece) × (q : Piece) × (i < j) × (slice_get ps i ≡ Some p)
+    × (slice_get ps j ≡ Some q) × has_target p a × has_target q a
 
 abbrev pub segments_of : List Piece → List Segment
 segments_of [] = []

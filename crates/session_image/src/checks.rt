@@ -184,7 +184,8 @@ fn value(
 ) -> Result<Bytes, NoMemory>
     requires pieces { Each IsPlaced pieces.now }
     requires check { IsCheck check.now }
-    ensures { IfOk result (λ v. v ≡ value_of algorithm (check_bytes pieces.now check.now.fill check.now.from check.now.size)) }
+    ensures { IfOk result (λ v. v ≡ value_of algorithm
+        (check_bytes pieces.now check.now.fill check.now.from check.now.size)) }
 {
     match algorithm {
         Algorithm::Sha256 => hash_of(alloc, pieces, check.fill, check.from, check.size),

@@ -49,8 +49,10 @@ fn pad(
     number: u32,
 ) -> Result<(), ImageFault>
     requires { stop < 2 ^ 63 }
-    ensures ok { IfOk result (λ _. (bytes : List ℕ) × (gap number from (stop - from) fill ≡ Ok bytes) × (out.new.items ≡ out.old.items ++ bytes)) }
-    ensures err { IfErr result (λ e. (e ≡ ImageFault.NoMemory) ⊎ (gap number from (stop - from) fill ≡ Err e)) }
+    ensures ok { IfOk result (λ _. (bytes : List ℕ) × (gap number from (stop - from) fill ≡ Ok bytes)
+        × (out.new.items ≡ out.old.items ++ bytes)) }
+    ensures err { IfErr result (λ e. (e ≡ ImageFault.NoMemory)
+        ⊎ (gap number from (stop - from) fill ≡ Err e)) }
 {
     if stop <= from {
         return Ok(());
@@ -77,7 +79,8 @@ fn of_pieces(
     requires within { range.0 + range.1 ≤ top }
     requires low { (a : ℕ) → a < range.0 → get (left_of pieces.old) a ≡ None }
     requires high { (a : ℕ) → range.0 + range.1 ≤ a → get (left_of pieces.old) a ≡ None }
-    ensures { (result ≡ Err ImageFault.NoMemory) ⊎ (result ≡ filled number (get (left_of pieces.old)) fill range.0 range.1) }
+    ensures { (result ≡ Err ImageFault.NoMemory)
+        ⊎ (result ≡ filled number (get (left_of pieces.old)) fill range.0 range.1) }
 {
     let stop = range.0 + range.1;
     let mut out = with_room(alloc, range.1)?;
@@ -101,7 +104,9 @@ fn of_map(
     number: u32,
 ) -> Result<Bytes, ImageFault>
     requires { range.0 + range.1 ≤ top }
-    ensures { (result ≡ Err ImageFault.NoMemory) ⊎ (result ≡ filled number (byte_of (Content.Mapped spans.now) filters.now range.0 0) fill range.0 range.1) }
+    ensures { (result ≡ Err ImageFault.NoMemory)
+        ⊎ (result ≡ filled number (byte_of (Content.Mapped spans.now) filters.now range.0 0) fill range.0
+        range.1) }
 {
     let walk = spans.walk(range.0, range.1);
     let mut pieces = Kept::new(filters, range.0, &[], walk);
@@ -119,7 +124,9 @@ fn of_bytes(
 ) -> Result<Bytes, ImageFault>
     requires within { range.0 + range.1 ≤ top }
     requires size { length bytes.now ≡ range.1 }
-    ensures { (result ≡ Err ImageFault.NoMemory) ⊎ (result ≡ filled number (byte_of (Content.Plain bytes.now) filters.now range.0 0) fill range.0 range.1) }
+    ensures { (result ≡ Err ImageFault.NoMemory)
+        ⊎ (result ≡ filled number (byte_of (Content.Plain bytes.now) filters.now range.0 0) fill range.0
+        range.1) }
 {
     let none = Spans::new(alloc);
     let mut pieces = Kept::new(filters, range.0, bytes, none.pieces());
@@ -135,7 +142,9 @@ fn taken(
 ) -> Option<Bytes>
     ensures same { IfNone result (spans.new ≡ spans.old) }
     ensures allowed { allowed ≡ false → result ≡ None }
-    ensures bytes { IfSome result (λ b. (number : ℕ) (fill : Option ℕ) → filled number (byte_of (Content.Mapped spans.old) filters.now range.0 0) fill range.0 range.1 ≡ Ok b) }
+    ensures bytes { IfSome result (λ b. (number : ℕ) (fill : Option ℕ)
+        → filled number (byte_of (Content.Mapped spans.old) filters.now range.0 0) fill range.0 range.1
+        ≡ Ok b) }
 {
     if !allowed {
         return None;
@@ -160,7 +169,8 @@ pub(crate) fn body(
 ) -> Result<Bytes, ImageFault>
     requires within { range.0 + range.1 ≤ top }
     requires bytes { HasRoom content.old (before + range.1) }
-    ensures bytes { (result ≡ Err ImageFault.NoMemory) ⊎ (result ≡ filled number (byte_of content.old filters.now range.0 before) fill range.0 range.1) }
+    ensures bytes { (result ≡ Err ImageFault.NoMemory)
+        ⊎ (result ≡ filled number (byte_of content.old filters.now range.0 before) fill range.0 range.1) }
     ensures same { last ≡ false → content.new ≡ content.old }
 {
     match content {

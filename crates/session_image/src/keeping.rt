@@ -98,7 +98,8 @@ impl<'a> Kept<'a> {
         requires ready { IsReady self.old }
         requires some { 0 < n }
         requires within { n ≤ length self.old.bytes.now }
-        requires kept { (a : ℕ) → self.old.at ≤ a → a < self.old.at + n → keeps self.old.all self.old.ranges.now a ≡ true }
+        requires kept { (a : ℕ) → self.old.at ≤ a → a < self.old.at + n
+            → keeps self.old.all self.old.ranges.now a ≡ true }
         ensures ready { IsReady self.new }
         ensures step { Steps self.old result self.new }
     {
@@ -114,7 +115,8 @@ impl<'a> Kept<'a> {
         requires ready { IsReady self.old }
         requires some { 0 < n }
         requires within { n ≤ length self.old.bytes.now }
-        requires dropped { (a : ℕ) → self.old.at ≤ a → a < self.old.at + n → keeps self.old.all self.old.ranges.now a ≡ false }
+        requires dropped { (a : ℕ) → self.old.at ≤ a → a < self.old.at + n
+            → keeps self.old.all self.old.ranges.now a ≡ false }
         ensures ready { IsReady self.new }
         ensures step { Steps self.old result self.new }
     {
@@ -154,7 +156,8 @@ impl<'a> Kept<'a> {
     pub(crate) fn next(&mut self) -> Option<(u64, &'a [u8])>
         requires { IsReady self.old }
         ensures ready { IsReady self.new }
-        ensures front { TakesFront (left_of self.old) (option_map (λ p. (p.0, p.1.now)) result) (left_of self.new) }
+        ensures front { TakesFront (left_of self.old) (option_map (λ p. (p.0, p.1.now)) result)
+            (left_of self.new) }
     {
         loop {
             if let Step::Done(piece) = self.step() {

@@ -64,7 +64,8 @@ fn bodies(
     requires ranges { Each IsRange ranges.now }
     requires bytes { HasRoom content.old (total ranges.now) }
     requires limit { first + total ranges.now ≤ size_limit }
-    ensures bodies { (result ≡ Err ImageFault.NoMemory) ⊎ (result ≡ bodies content.old filters.now fill first 0 ranges.now) }
+    ensures bodies { (result ≡ Err ImageFault.NoMemory)
+        ⊎ (result ≡ bodies content.old filters.now fill first 0 ranges.now) }
     ensures within { IfOk result (λ v. Each IsWithin v) }
     ensures sizes { IfOk result (λ v. sizes v ≡ total ranges.now) }
 {
@@ -158,7 +159,8 @@ fn own_pieces(
     ensures placed { IfOk result (λ pieces. Each IsPlaced pieces) }
     ensures some { IfOk result (λ pieces. 1 ≤ size_of pieces) }
     ensures limit { IfOk result (λ pieces. size + size_of pieces ≤ size_limit) }
-    ensures pieces { (result ≡ Err ImageFault.NoMemory) ⊎ (result ≡ own_pieces fill number size block.now content) }
+    ensures pieces { (result ≡ Err ImageFault.NoMemory)
+        ⊎ (result ≡ own_pieces fill number size block.now content) }
 {
     let filters = Filters::new(alloc, block.filters.as_slice())?;
     let ranges = ranges(alloc, &content, block, &filters)?;
@@ -191,7 +193,8 @@ fn block_pieces(
     ensures placed { IfOk result (λ pieces. Each IsPlaced pieces) }
     ensures some { IfOk result (λ pieces. 1 ≤ size_of pieces) }
     ensures limit { IfOk result (λ pieces. size + size_of pieces ≤ size_limit) }
-    ensures pieces { (result ≡ Err ImageFault.NoMemory) ⊎ (result ≡ block_pieces mem.now files.now fill number size block.now) }
+    ensures pieces { (result ≡ Err ImageFault.NoMemory)
+        ⊎ (result ≡ block_pieces mem.now files.now fill number size block.now) }
 {
     let content = data_of(alloc, files, flash_of(mem, block))?;
     own_pieces(alloc, fill, number, size, block, content)
@@ -224,7 +227,8 @@ pub(crate) fn session_pieces(
     requires blocks { Each (λ i. i < length mem.now.blocks) blocks.now }
     ensures placed { IfOk result (λ pieces. Each IsPlaced pieces) }
     ensures some { IfOk result (λ pieces. 1 ≤ size_of pieces) }
-    ensures pieces { (result ≡ Err ImageFault.NoMemory) ⊎ (result ≡ session_pieces mem.now files.now fill (blocks_at mem.now blocks.now)) }
+    ensures pieces { (result ≡ Err ImageFault.NoMemory)
+        ⊎ (result ≡ session_pieces mem.now files.now fill (blocks_at mem.now blocks.now)) }
 {
     if blocks.is_empty() {
         let block = Text::from_str(alloc, "")?;

@@ -41,7 +41,8 @@ abbrev pub LAST : ℕ
 LAST = 2 ^ 63
 
 -- One moment more, except at the last one. What there was does not change.
-pub record Passes {T : Type 0} (call : Call) (old new : History) (result : Result T DeviceFault) : Type 0 where
+pub record Passes {T : Type 0} (call : Call) (old new : History)
+    (result : Result T DeviceFault) : Type 0 where
   pub moment : new.moment ≡ min (old.moment + 1) LAST
   pub last : old.moment ≡ LAST → IsErr result
   pub disk_past : (m : ℕ) → m ≤ old.moment → new.disk_at m ≡ old.disk_at m
@@ -50,7 +51,8 @@ pub record Passes {T : Type 0} (call : Call) (old new : History) (result : Resul
   pub call_is : old.moment < LAST → new.call_at old.moment ≡ call
 
 -- a disk call: link and vehicle stay, and a failure has a cause
-pub record DiskCall {T : Type 0} (call : Call) (old new : History) (result : Result T DeviceFault) : Type 0 where
+pub record DiskCall {T : Type 0} (call : Call) (old new : History)
+    (result : Result T DeviceFault) : Type 0 where
   pub passes : Passes call old new result
   pub vehicle : vehicle_now new ≡ vehicle_now old
   pub link_faults : new.link_faults ≡ old.link_faults
@@ -60,7 +62,8 @@ pub record DiskCall {T : Type 0} (call : Call) (old new : History) (result : Res
   pub fault : IsErr result → Rises old.disk_faults new.disk_faults
 
 -- a link call: the disk stays, and a failure has a cause
-pub record LinkCall {T : Type 0} (call : Call) (old new : History) (result : Result T DeviceFault) : Type 0 where
+pub record LinkCall {T : Type 0} (call : Call) (old new : History)
+    (result : Result T DeviceFault) : Type 0 where
   pub passes : Passes call old new result
   pub disk : disk_now new ≡ disk_now old
   pub disk_faults : new.disk_faults ≡ old.disk_faults
@@ -69,7 +72,8 @@ pub record LinkCall {T : Type 0} (call : Call) (old new : History) (result : Res
   pub fault : IsErr result → Rises old.link_faults new.link_faults
 
 -- A write that failed has put anything in its range, or, where there was no memory to list the range, did nothing.
-pub record WroteOrMissed (at : ℕ) (bytes : List ℕ) (old new : DiskState) (result : Result Unit DeviceFault) : Type 0 where
+pub record WroteOrMissed (at : ℕ) (bytes : List ℕ) (old new : DiskState)
+    (result : Result Unit DeviceFault) : Type 0 where
   pub ok : OnOk result (Wrote at bytes old new)
   pub err : OnErr result (MissedWrite at (length bytes) old new ⊎ (new ≡ old))
 
@@ -94,5 +98,6 @@ IsPiece room (Bytes n) = (1 ≤ n) × (n ≤ room)
 -- A receive into `out`; Clean says that it was not garbled, so that the piece is the next due bytes.
 abbrev pub Received : List ℕ → Type 0 → Vehicle → Vehicle → Result Got DeviceFault → Type 0
 Received out Clean old new (Ok Quiet) = Ticks old new
-Received out Clean old new (Ok (Bytes n)) = Carries (take n out) old new × (Clean → IsPlain (take n out) old new)
+Received out Clean old new (Ok (Bytes n)) =
+    Carries (take n out) old new × (Clean → IsPlain (take n out) old new)
 Received out Clean old new (Err e) = Misses old new

@@ -46,8 +46,10 @@ IsReceive old new = Ticks old new ⊎ Misses old new ⊎ ((piece : List ℕ) × 
 
 -- so it is with each link call, also with one that failed, and with steps behind steps
 pub record AreUnitSteps : Type 0 where
-  pub sent : (bytes : List ℕ) (old new : Vehicle) (result : Result Unit DeviceFault) → Sent bytes old new result → StepsUnits old new
+  pub sent : (bytes : List ℕ) (old new : Vehicle) (result : Result Unit DeviceFault)
+      → Sent bytes old new result → StepsUnits old new
   pub received : (old new : Vehicle) → IsReceive old new → StepsUnits old new
-  pub redialed : (old new : Vehicle) (result : Result Unit DeviceFault) → Redialed old new result → StepsUnits old new
+  pub redialed : (old new : Vehicle) (result : Result Unit DeviceFault) → Redialed old new result
+      → StepsUnits old new
   pub same : (v : Vehicle) → StepsUnits v v
   pub goes_on : (a b c : Vehicle) → StepsUnits a b → StepsUnits b c → StepsUnits a c

@@ -21,7 +21,8 @@ IsShownCall Redial old new = Unit {0}
 
 -- each receive from one moment to before another was shown
 abbrev pub AreShown : History → ℕ → ℕ → Type 0
-AreShown h from to = (m : ℕ) → from ≤ m → m < to → IsShownCall (h.call_at m) (h.vehicle_at m) (h.vehicle_at (m + 1))
+AreShown h from to = (m : ℕ) → from ≤ m → m < to
+    → IsShownCall (h.call_at m) (h.vehicle_at m) (h.vehicle_at (m + 1))
 
 -- what there was up to the old moment is what it was, and no count fell
 pub record IsLater (old new : History) : Type 0 where
@@ -41,4 +42,5 @@ pub record HoldsThrough (old new : History) (P : DiskState → Vehicle → Type 
 -- Time went on, and P holds at each moment between up to which each receive was shown.
 pub record HoldsWhileShown (old new : History) (P : DiskState → Vehicle → Type 0) : Type 0 where
   pub is_later : IsLater old new
-  pub each : (m : ℕ) → old.moment ≤ m → m ≤ new.moment → AreShown new old.moment m → P (new.disk_at m) (new.vehicle_at m)
+  pub each : (m : ℕ) → old.moment ≤ m → m ≤ new.moment → AreShown new old.moment m
+      → P (new.disk_at m) (new.vehicle_at m)

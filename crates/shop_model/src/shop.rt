@@ -38,7 +38,8 @@ pub trait Shop {
         ensures call { DiskCall (ReadAt at (length out.old)) (history self.old) (history self.new) result }
         ensures disk { disk_now (history self.new) ≡ disk_now (history self.old) }
         ensures bytes { IsTrue tells_disk →
-            OnOk result (out.new ≡ slice_range (disk_now (history self.old)).bytes at (at + length out.old)) };
+            OnOk result (out.new ≡ slice_range (disk_now (history self.old)).bytes at
+            (at + length out.old)) };
 
     /// Puts the bytes at place `at`, over what is there and past the end. Until the next sync a
     /// crash may leave anything in that range.
@@ -82,7 +83,8 @@ pub trait Shop {
     fn redial(&mut self) -> Result<(), DeviceFault>
         ensures call { LinkCall Redial (history self.old) (history self.new) result }
         ensures linked { (history self.old).moment < LAST → IsTrue (history self.new).linked ↔ IsOk result }
-        ensures last { (history self.old).moment ≡ LAST → (history self.new).linked ≡ (history self.old).linked }
+        ensures last { (history self.old).moment ≡ LAST
+            → (history self.new).linked ≡ (history self.old).linked }
         ensures vehicle { IsTrue tells_vehicle →
             Redialed (vehicle_now (history self.old)) (vehicle_now (history self.new)) result };
 
@@ -90,7 +92,8 @@ pub trait Shop {
     ghost bounded: { (s : Self) → (history s).moment ≤ LAST };
 
     /// What a read gives is one of the images that a crash may leave.
-    ghost readable: { (s : Self) (m : ℕ) → IsCrashImage ((history s).disk_at m) ((history s).disk_at m).bytes };
+    ghost readable: { (s : Self) (m : ℕ)
+        → IsCrashImage ((history s).disk_at m) ((history s).disk_at m).bytes };
 
     /// Where the vehicle is told, each unit is at the next moment, its counts of troubles aside, that unit after some
     /// list of unit steps, and no unit comes or goes.

@@ -49,4 +49,5 @@ StartsWith es e = (rest : List Extent) × (es ≡ e ∷ rest)
 -- The first bytes of a map from an address on, as far as they stand in one extent, and where they begin.
 abbrev pub IsPiece : ByteMap → ℕ → Option Extent → Type 0
 IsPiece m from None = (a : ℕ) → from ≤ a → get m a ≡ None
-IsPiece m from (Some e) = (from ≤ e.0) × (0 < length e.1) × (end_of e ≤ top) × ((a : ℕ) → from ≤ a → a < e.0 → get m a ≡ None) × Holds m e.0 e.1
+IsPiece m from (Some e) = (from ≤ e.0) × (0 < length e.1) × (end_of e ≤ top)
+    × ((a : ℕ) → from ≤ a → a < e.0 → get m a ≡ None) × Holds m e.0 e.1

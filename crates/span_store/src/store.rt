@@ -23,7 +23,8 @@ use std::collections::BTreeMap;
 /// The extent with the greatest start below an address.
 fn before(store: &BTreeMap<u64, Bytes>, limit: u64) -> Option<(u64, &[u8])>
     ensures split { store.now.entries ≡ low limit store.now.entries ++ high limit store.now.entries }
-    ensures last { MatchOption result (low limit store.now.entries ≡ []) (λ p. EndsWith (low limit store.now.entries) (p.0, p.1.now)) }
+    ensures last { MatchOption result (low limit store.now.entries ≡ [])
+        (λ p. EndsWith (low limit store.now.entries) (p.0, p.1.now)) }
 {
     match store.range(..limit).next_back() {
         Some((start, bytes)) => Some((*start, bytes.as_slice())),
@@ -34,7 +35,8 @@ fn before(store: &BTreeMap<u64, Bytes>, limit: u64) -> Option<(u64, &[u8])>
 /// The extent with the least start from an address on.
 pub(crate) fn after(store: &BTreeMap<u64, Bytes>, limit: u64) -> Option<(u64, &[u8])>
     ensures split { store.now.entries ≡ low limit store.now.entries ++ high limit store.now.entries }
-    ensures first { MatchOption result (high limit store.now.entries ≡ []) (λ p. StartsWith (high limit store.now.entries) (p.0, p.1.now)) }
+    ensures first { MatchOption result (high limit store.now.entries ≡ [])
+        (λ p. StartsWith (high limit store.now.entries) (p.0, p.1.now)) }
 {
     match store.range(limit..).next() {
         Some((start, bytes)) => Some((*start, bytes.as_slice())),
@@ -76,7 +78,10 @@ pub(crate) fn byte_at(store: &BTreeMap<u64, Bytes>, at: u64) -> Option<u8>
 
 /// The first index at which two lists of bytes differ, as far as both go.
 fn difference(old: &[u8], new: &[u8]) -> Option<usize>
-    ensures { MatchOption result ((j : ℕ) → j < length old.now → j < length new.now → slice_get old.now j ≡ slice_get new.now j) (λ k. (k < length old.now) × (k < length new.now) × (slice_get old.now k ≢ slice_get new.now k) × ((j : ℕ) → j < k → slice_get old.now j ≡ slice_get new.now j)) }
+    ensures { MatchOption result ((j : ℕ) → j < length old.now → j < length new.now
+        → slice_get old.now j ≡ slice_get new.now j)
+        (λ k. (k < length old.now) × (k < length new.now) × (slice_get old.now k ≢ slice_get new.now k)
+        × ((j : ℕ) → j < k → slice_get old.now j ≡ slice_get new.now j)) }
 {
     let mut k = 0;
     while k < old.len() && k < new.len() {
@@ -155,7 +160,8 @@ fn free_to(store: &BTreeMap<u64, Bytes>, stop: u64) -> u64
 /// The least start in a range.
 fn first_in(store: &BTreeMap<u64, Bytes>, from: u64, to: u64) -> Option<u64>
     requires { from ≤ to }
-    ensures { MatchOption result (store.now.entries ≡ low from store.now.entries ++ high to store.now.entries) (λ k. (from ≤ k) × (k < to) × IsSome (tree.get nat_cmp store.now k)) }
+    ensures { MatchOption result (store.now.entries ≡ low from store.now.entries ++ high to store.now.entries)
+        (λ k. (from ≤ k) × (k < to) × IsSome (tree.get nat_cmp store.now k)) }
 {
     match store.range(from..to).next() {
         Some((start, _)) => Some(*start),
@@ -175,7 +181,8 @@ fn clear(store: &mut BTreeMap<u64, Bytes>, from: u64, to: u64)
 
 /// Puts bytes at the end of the extent with this start.
 fn grow(store: &mut BTreeMap<u64, Bytes>, start: u64, bytes: &[u8]) -> Result<(), NoMemory>
-    ensures ok { OnOk result ((old : List ℕ) → tree.get nat_cmp store.old start ≡ Some old → store.new.entries ≡ set_value (is_at (nat_cmp start)) store.old.entries (old ++ bytes.now)) }
+    ensures ok { OnOk result ((old : List ℕ) → tree.get nat_cmp store.old start ≡ Some old
+        → store.new.entries ≡ set_value (is_at (nat_cmp start)) store.old.entries (old ++ bytes.now)) }
     ensures err { OnErr result (store.new.entries ≡ store.old.entries) }
 {
     match store.get_mut(&start) {
@@ -216,7 +223,8 @@ fn add(
 fn touched(store: &BTreeMap<u64, Bytes>, at: u64) -> Option<u64>
     requires extents { AreExtents store.now.entries }
     requires cut { EndBy at (low at store.now.entries) }
-    ensures { IfSome result (λ k. (old : List ℕ) × EndsWith (low at store.now.entries) (k, old) × (k + length old ≡ at) × (tree.get nat_cmp store.now k ≡ Some old)) }
+    ensures { IfSome result (λ k. (old : List ℕ) × EndsWith (low at store.now.entries) (k, old)
+        × (k + length old ≡ at) × (tree.get nat_cmp store.now k ≡ Some old)) }
 {
     match before(store, at) {
         Some((start, bytes)) if start + bytes.len() as u64 == at => Some(start),

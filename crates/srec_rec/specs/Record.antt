@@ -42,13 +42,15 @@ is_record kind bytes =
 abbrev pub checked : ℕ → ℕ → Option (List ℕ) → Result (ℕ × List ℕ) RecFault
 checked n kind None = Err (BadLine n)
 checked n kind (Some bytes) =
-    if is_record kind bytes then (if nat_eq (sum bytes % 256) 255 then Ok (kind, bytes) else Err (BadSum n)) else Err (BadLine n)
+    if is_record kind bytes then (if nat_eq (sum bytes % 256) 255 then Ok (kind, bytes) else Err (BadSum n))
+    else Err (BadLine n)
 
 -- the kind and the bytes of line n
 abbrev pub record_of : ℕ → List ℕ → Result (ℕ × List ℕ) RecFault
 record_of n [] = Err (BadLine n)
 record_of n (c ∷ []) = Err (BadLine n)
-record_of n (c ∷ k ∷ digits) = if nat_eq c 83 && nat_le 48 k then checked n (k - 48) (bytes_of digits) else Err (BadLine n)
+record_of n (c ∷ k ∷ digits) =
+    if nat_eq c 83 && nat_le 48 k then checked n (k - 48) (bytes_of digits) else Err (BadLine n)
 
 -- the first bytes of a buffer, as many as were filled
 abbrev pub filled : List ℕ → Result (ℕ × ℕ) RecFault → Result (ℕ × List ℕ) RecFault

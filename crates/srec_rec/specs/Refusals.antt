@@ -34,16 +34,22 @@ Differs m kind bytes a =
 
 -- what is wrong with a line behind others
 abbrev pub IsWrong : RecFault → List (List ℕ) → List ℕ → Type 0
-IsWrong (BadLine n) front line = (n ≡ length front + 1) × AreRight front × (line ≢ []) × ((kind : ℕ) (bytes : List ℕ) → HasForm line kind bytes → ⊥)
-IsWrong (BadSum n) front line = (n ≡ length front + 1) × AreRight front × ((kind : ℕ) × (bytes : List ℕ) × HasForm line kind bytes × (sum bytes % 256 ≢ 255))
+IsWrong (BadLine n) front line = (n ≡ length front + 1) × AreRight front × (line ≢ [])
+    × ((kind : ℕ) (bytes : List ℕ) → HasForm line kind bytes → ⊥)
+IsWrong (BadSum n) front line = (n ≡ length front + 1) × AreRight front
+    × ((kind : ℕ) × (bytes : List ℕ) × HasForm line kind bytes × (sum bytes % 256 ≢ 255))
 IsWrong (BadCount said seen) front line =
-    AreRight front × ((kind : ℕ) × (bytes : List ℕ) × IsRecord line kind bytes × (3 < kind) × (kind ≤ 6) × (said ≡ number_at (width kind) bytes) × Counts front seen × (said ≢ seen))
+    AreRight front × ((kind : ℕ) × (bytes : List ℕ) × IsRecord line kind bytes × (3 < kind) × (kind ≤ 6)
+    × (said ≡ number_at (width kind) bytes) × Counts front seen × (said ≢ seen))
 IsWrong (AfterEnd n) front line =
     (n ≡ length front + 1) × (line ≢ [])
-    × ((early : List (List ℕ)) × (last : List ℕ) × (empty : List (List ℕ)) × (front ≡ early ++ last ∷ empty) × AreRight early
+    × ((early : List (List ℕ)) × (last : List ℕ) × (empty : List (List ℕ)) × (front ≡ early ++ last ∷ empty)
+    × AreRight early
     × ((kind : ℕ) × (bytes : List ℕ) × IsRecord last kind bytes × (6 < kind)) × AreEmpty empty)
 IsWrong (Conflict a) front line =
-    (m : ByteMap) × Stands front m × ((kind : ℕ) × (bytes : List ℕ) × IsRecord line kind bytes × (0 < kind) × (kind ≤ 3) × IsLowest (Differs m kind bytes) (Some a))
+    (m : ByteMap) × Stands front m ×
+    ((kind : ℕ) × (bytes : List ℕ) × IsRecord line kind bytes × (0 < kind) × (kind ≤ 3)
+    × IsLowest (Differs m kind bytes) (Some a))
 IsWrong NoEnd front line = ⊥
 IsWrong NoMemory front line = ⊥
 
@@ -51,4 +57,5 @@ IsWrong NoMemory front line = ⊥
 abbrev pub IsRefused : List ℕ → RecFault → Type 0
 IsRefused text fault =
     ((fault ≡ NoEnd) × AreRight (lines text))
-    ⊎ ((front : List (List ℕ)) × (line : List ℕ) × (back : List (List ℕ)) × (lines text ≡ front ++ line ∷ back) × IsWrong fault front line)
+    ⊎ ((front : List (List ℕ)) × (line : List ℕ) × (back : List (List ℕ))
+    × (lines text ≡ front ++ line ∷ back) × IsWrong fault front line)

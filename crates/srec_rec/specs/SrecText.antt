@@ -26,10 +26,12 @@ Counts (line ∷ more) n = (IsData line × (0 < n) × Counts more (n - 1)) ⊎ (
 -- The line is empty, or a record that is no end; a count record says the number of the data records before it.
 abbrev pub IsGood : List (List ℕ) → List ℕ → Type 0
 IsGood before line =
-    (line ≡ []) ⊎ ((kind : ℕ) × (bytes : List ℕ) × IsRecord line kind bytes × (kind ≤ 6) × (3 < kind → Counts before (number_at (width kind) bytes)))
+    (line ≡ []) ⊎ ((kind : ℕ) × (bytes : List ℕ) × IsRecord line kind bytes × (kind ≤ 6)
+    × (3 < kind → Counts before (number_at (width kind) bytes)))
 
 abbrev pub AreRecords : List (List ℕ) → Type 0
-AreRecords ls = (front : List (List ℕ)) (line : List ℕ) (back : List (List ℕ)) → ls ≡ front ++ line ∷ back → IsGood front line
+AreRecords ls = (front : List (List ℕ)) (line : List ℕ) (back : List (List ℕ)) → ls ≡ front ++ line ∷ back
+    → IsGood front line
 
 abbrev pub AreEmpty : List (List ℕ) → Type 0
 AreEmpty [] = Unit {0}
@@ -38,8 +40,10 @@ AreEmpty (line ∷ more) = (line ≡ []) × AreEmpty more
 -- some data record gives this byte at this address
 abbrev pub Gives : List (List ℕ) → ℕ → ℕ → Type 0
 Gives ls a b =
-    (front : List (List ℕ)) × (line : List ℕ) × (back : List (List ℕ)) × (kind : ℕ) × (bytes : List ℕ) × (k : ℕ)
-    × (ls ≡ front ++ line ∷ back) × IsRecord line kind bytes × (0 < kind) × (kind ≤ 3) × (k < size_of (width kind) bytes)
+    (front : List (List ℕ)) × (line : List ℕ) × (back : List (List ℕ)) × (kind : ℕ) × (bytes : List ℕ)
+    × (k : ℕ)
+    × (ls ≡ front ++ line ∷ back) × IsRecord line kind bytes × (0 < kind) × (kind ≤ 3)
+    × (k < size_of (width kind) bytes)
     × (a ≡ number_at (width kind) bytes + k) × (slice_get bytes (width kind + 1 + k) ≡ Some b)
 
 -- Records, one end, and nothing behind it; the map is the union of what the data records give.

@@ -11,11 +11,13 @@ checksum bytes = 255 - sum bytes % 256
 
 -- the line of a kind, a count, an address and data
 abbrev pub line_of : ℕ → List ℕ → List ℕ
-line_of kind bytes = (83 ∷ (48 + kind) ∷ []) ++ (digits_of bytes ++ (digits_of (checksum bytes ∷ []) ++ (10 ∷ [])))
+line_of kind bytes = (83 ∷ (48 + kind) ∷ [])
+    ++ (digits_of bytes ++ (digits_of (checksum bytes ∷ []) ++ (10 ∷ [])))
 
 -- the data line of bytes at an address
 abbrev pub data_line : Extent → List ℕ
-data_line e = line_of 3 ((length e.1 + 5) ∷ e.0 / 16777216 ∷ e.0 / 65536 % 256 ∷ e.0 / 256 % 256 ∷ e.0 % 256 ∷ e.1)
+data_line e =
+    line_of 3 ((length e.1 + 5) ∷ e.0 / 16777216 ∷ e.0 / 65536 % 256 ∷ e.0 / 256 % 256 ∷ e.0 % 256 ∷ e.1)
 
 abbrev pub lines_of : List Extent → List ℕ
 lines_of [] = []

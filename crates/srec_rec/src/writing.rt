@@ -38,7 +38,8 @@ fn push_line(text: &mut Bytes, kind: u8, head: &[u8], rest: &[u8]) -> Result<(),
 fn push_data(text: &mut Bytes, at: u64, bytes: &[u8]) -> Result<(), NoMemory>
     requires size { length bytes.now ≤ 16 }
     requires below { at < 2 ^ 32 }
-    ensures pushed { OnOk result (text.new ≡ text.old ++ line_of 3 ((length bytes.now + 5) ∷ at / 16777216 ∷ at / 65536 % 256 ∷ at / 256 % 256 ∷ at % 256 ∷ bytes.now)) }
+    ensures pushed { OnOk result (text.new ≡ text.old ++ line_of 3
+        ((length bytes.now + 5) ∷ at / 16777216 ∷ at / 65536 % 256 ∷ at / 256 % 256 ∷ at % 256 ∷ bytes.now)) }
     ensures small { All (λ b. b < 2 ^ 8) bytes.now }
 {
     let head = [
@@ -78,5 +79,6 @@ pub fn write(alloc: Global, spans: &Spans) -> Result<Bytes, NoMemory>
 /// A map has one text, and reading that text gives the map.
 pub fn writing_law()
     ensures one { (m : ByteMap) (s t : List ℕ) → IsWritten m s → IsWritten m t → s ≡ t }
-    ensures read { (m : ByteMap) (text : List ℕ) → ((a b : ℕ) → map.get m a ≡ Some b → b < 256) → IsWritten m text → reading_of text ≡ Ok m }
+    ensures read { (m : ByteMap) (text : List ℕ) → ((a b : ℕ) → map.get m a ≡ Some b → b < 256)
+        → IsWritten m text → reading_of text ≡ Ok m }
 {}

@@ -6,7 +6,8 @@ use Rattle.text_forms.specs.Numbers.{hex_digit}
 
 -- two digits, the higher first
 abbrev pub byte_text : List ℕ → Option ℕ
-byte_text (h ∷ l ∷ []) = option_and_then (λ high. option_and_then (λ low. Some (high * 16 + low)) (hex_digit l)) (hex_digit h)
+byte_text (h ∷ l ∷ []) =
+    option_and_then (λ high. option_and_then (λ low. Some (high * 16 + low)) (hex_digit l)) (hex_digit h)
 byte_text _ = None
 
 abbrev pub decoded : Result (List ℕ) FromHexError → Option (List ℕ)

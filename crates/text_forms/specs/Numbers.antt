@@ -34,7 +34,8 @@ if_below limit (Some n) = if nat_lt n limit then Some n else None
 
 -- 1 to 16 hexadecimal digits, which say a number below 2^64
 abbrev pub hex_text : List ℕ → Option ℕ
-hex_text text = if nat_lt 0 (length text) && nat_le (length text) 16 then if_below (2 ^ 64) (hex_value text) else None
+hex_text text =
+    if nat_lt 0 (length text) && nat_le (length text) 16 then if_below (2 ^ 64) (hex_value text) else None
 
 -- decimal digits, at least one, that say a number below 2^64
 abbrev pub decimal_text : List ℕ → Option ℕ

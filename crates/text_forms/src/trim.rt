@@ -3,7 +3,8 @@ ghost use Rattle.text_forms.specs.Trim.{without_front, without_end, cut};
 
 /// The rest of a text after its first character, where that is a blank, a tab or a line end.
 fn after_blank(text: &str) -> Option<&str>
-    ensures value { MatchOption result (without_front text.now ≡ text.now) (λ rest. without_front text.now ≡ without_front rest.now) }
+    ensures value { MatchOption result (without_front text.now ≡ text.now)
+        (λ rest. without_front text.now ≡ without_front rest.now) }
     ensures shorter { MatchOption result (text.now ≡ text.now) (λ rest. length rest.now < length text.now) }
 {
     if let Some(rest) = text.strip_prefix(' ') {
@@ -20,7 +21,8 @@ fn after_blank(text: &str) -> Option<&str>
 
 /// The rest of a text before its last character, where that is a blank, a tab or a line end.
 fn before_blank(text: &str) -> Option<&str>
-    ensures value { MatchOption result (without_end text.now ≡ text.now) (λ rest. without_end text.now ≡ without_end rest.now) }
+    ensures value { MatchOption result (without_end text.now ≡ text.now)
+        (λ rest. without_end text.now ≡ without_end rest.now) }
     ensures shorter { MatchOption result (text.now ≡ text.now) (λ rest. length rest.now < length text.now) }
 {
     if let Some(rest) = text.strip_suffix(' ') {

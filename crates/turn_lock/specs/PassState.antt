@@ -14,7 +14,16 @@ pub record PassState (O E : Type 0) : Type 0 where
 
 -- the first pass of a turn whose value has this opening and these entries
 abbrev pub first_pass : {O E : Type 0} → TableId → O → List E → PassState O E
-first_pass turn opening entries = record { turn = turn; first = true; holds = false; opening = Some opening; seen = entries; own = []; others = 0 }
+first_pass turn opening entries =
+    record {
+      turn = turn;
+      first = true;
+      holds = false;
+      opening = Some opening;
+      seen = entries;
+      own = [];
+      others = 0;
+    }
 
 -- a pass that was split from p has seen the same, and owns nothing
 abbrev pub split_pass : {O E : Type 0} → PassState O E → PassState O E

@@ -43,15 +43,45 @@ module _ {O E : Type 0} where
   own_count v = length v.own
 
   abbrev pub first_view : O → List E → View O E
-  first_view opening entries = record { first = true; stage = Idle; ticket = 0; others = 0; unseated = 0; opening = Some opening; seen = entries; shown = []; own = [] }
+  first_view opening entries = record {
+    first = true;
+    stage = Idle;
+    ticket = 0;
+    others = 0;
+    unseated = 0;
+    opening = Some opening;
+    seen = entries;
+    shown = [];
+    own = [];
+  }
 
   -- a pass that was split from v has seen the same, and owns nothing
   abbrev pub split_view : View O E → View O E
-  split_view v = record { first = false; stage = Idle; ticket = 0; others = 0; unseated = 0; opening = v.opening; seen = v.seen; shown = []; own = [] }
+  split_view v = record {
+    first = false;
+    stage = Idle;
+    ticket = 0;
+    others = 0;
+    unseated = 0;
+    opening = v.opening;
+    seen = v.seen;
+    shown = [];
+    own = [];
+  }
 
   -- what is left of a pass that was joined into another
   abbrev pub spent_view : View O E
-  spent_view = record { first = false; stage = Gone; ticket = 0; others = 0; unseated = 0; opening = None; seen = []; shown = []; own = [] }
+  spent_view = record {
+    first = false;
+    stage = Gone;
+    ticket = 0;
+    others = 0;
+    unseated = 0;
+    opening = None;
+    seen = [];
+    shown = [];
+    own = [];
+  }
 
   -- v with what w had seen and owned. No seat stands for the pass of w now
   abbrev pub joined_view : View O E → View O E → View O E
@@ -74,7 +104,15 @@ slots_in_hand true = (0, None) ∷ []
 
 -- what contracts see of a pass whose seat is at this table with this view
 abbrev pub state_of : {V O E : Type 0} → TableId → Me (Option V) (View O E) → PassState O E
-state_of t m = record { turn = t; first = m.0.first; holds = is_holding m.0.stage; opening = m.0.opening; seen = m.0.seen; own = m.0.own; others = m.0.others }
+state_of t m = record {
+  turn = t;
+  first = m.0.first;
+  holds = is_holding m.0.stage;
+  opening = m.0.opening;
+  seen = m.0.seen;
+  own = m.0.own;
+  others = m.0.others;
+}
 
 -- between two calls the numbers that a pass keeps are those of its seat's view
 pub record IsTold {V O E : Type 0} (seen own others : ℕ) (m : Me (Option V) (View O E)) : Type 0 where

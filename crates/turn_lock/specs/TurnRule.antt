@@ -11,7 +11,8 @@ use Rattle.turn_lock.specs.Lists.{Begins}
 use Rattle.turn_lock.specs.Seats.{ticket_count, tickets_of, passes_of, own_count, HasAll}
 
 -- What the rule says of the view of the seat j. The ticket t belongs to the seat `holder_of t`, and the entry at the position p to the seat `owner_of p`, so no two seats share one.
-pub record IsSeated {O E : Type 0} (opening : O) (entries : List E) (next serving : ℕ) (holder_of owner_of : ℕ → ℕ) (j : ℕ) (v : View O E) : Type 0 where
+pub record IsSeated {O E : Type 0} (opening : O) (entries : List E) (next serving : ℕ)
+    (holder_of owner_of : ℕ → ℕ) (j : ℕ) (v : View O E) : Type 0 where
   pub leads : v.first ≡ true → j ≡ 0
   pub opened : v.stage ≢ Gone → v.opening ≡ Some opening
   pub seen : Begins v.seen entries
@@ -24,8 +25,10 @@ pub record IsSeated {O E : Type 0} (opening : O) (entries : List E) (next servin
 module _ {V O E : Type 0} (opening_of : V → O) (entries_of : V → List E) where
   -- the slot has the value, or it is out with a pass that holds the value
   abbrev pub IsInPlace : O → List E → List (View O E) → maybe.Option (Option V) → Type 0
-  IsInPlace opening entries views (some x) = (y : V) × (x ≡ Some y) × (opening_of y ≡ opening) × (entries_of y ≡ entries)
-  IsInPlace opening entries views none = (j : ℕ) × (v : View O E) × (get_elem? views j ≡ some v) × (v.stage ≡ Holding)
+  IsInPlace opening entries views (some x) = (y : V) × (x ≡ Some y) × (opening_of y ≡ opening)
+      × (entries_of y ≡ entries)
+  IsInPlace opening entries views none = (j : ℕ) × (v : View O E) × (get_elem? views j ≡ some v)
+      × (v.stage ≡ Holding)
 
   -- `entries` are those of the value that was put into the slot last, and `next` and `serving` the tickets without modulo
   pub record IsInTurn (s : State (Option V) (View O E)) : Type 0 where
@@ -53,4 +56,5 @@ module _ {V O E : Type 0} (opening_of : V → O) (entries_of : V → List E) whe
     pub counts : (v : View O E) → get_elem? s.views 0 ≡ some v → v.others + 1 ≡ slice_index s.words 0
     pub read : (v : View O E) × (get_elem? s.views reader ≡ some v) × HasAll entries v
     -- each seat
-    pub each : (j : ℕ) (v : View O E) → get_elem? s.views j ≡ some v → IsSeated opening entries next serving holder_of owner_of j v
+    pub each : (j : ℕ) (v : View O E) → get_elem? s.views j ≡ some v
+        → IsSeated opening entries next serving holder_of owner_of j v

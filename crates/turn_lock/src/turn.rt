@@ -116,7 +116,11 @@ impl<V: Logged> Turn<V> {
         requires first { pass.old.first ≡ true }
         requires rest { (pass.old.holds ≡ false) × (other.holds ≡ false) }
         ensures some { 0 < pass.old.others }
-        ensures joined { pass.new ≡ record pass.old { seen = longer pass.old.seen other.seen; own = pass.old.own ++ other.own; others = pass.old.others - 1 } }
+        ensures joined { pass.new ≡ record pass.old {
+          seen = longer pass.old.seen other.seen;
+          own = pass.old.own ++ other.own;
+          others = pass.old.others - 1;
+        } }
         ensures seen { Begins pass.old.seen pass.new.seen × Begins other.seen pass.new.seen }
     {
         let Pass {
@@ -193,7 +197,11 @@ impl<V: Logged> Turn<V> {
         requires holds { pass.old.holds ≡ true }
         requires opening { pass.old.opening ≡ Some (V.opening value) }
         requires entries { Begins pass.old.seen (V.entries value) }
-        ensures { pass.new ≡ record pass.old { holds = false; seen = V.entries value; own = pass.old.own ++ new_positions pass.old.seen (V.entries value) } }
+        ensures { pass.new ≡ record pass.old {
+          holds = false;
+          seen = V.entries value;
+          own = pass.old.own ++ new_positions pass.old.seen (V.entries value);
+        } }
     {
         let count = value.count();
         let seats = &self.table.shared;

@@ -17,7 +17,8 @@ pub data Verdict : Type 0 where
 -- the codes of the table: of the service, its place and its range, of access, of a transfer, and of waiting
 abbrev pub is_code : ℕ → Bool
 is_code nrc =
-    nrc == 17 || nrc == 18 || nrc == 19 || nrc == 33 || nrc == 34 || nrc == 36 || nrc == 49 || nrc == 51 || nrc == 53
+    nrc == 17 || nrc == 18 || nrc == 19 || nrc == 33 || nrc == 34 || nrc == 36 || nrc == 49 || nrc == 51
+    || nrc == 53
     || nrc == 112 || nrc == 113 || nrc == 114 || nrc == 115 || nrc == 120 || nrc == 126 || nrc == 127
 
 abbrev pub negative : ℕ → Verdict
@@ -46,7 +47,8 @@ id_form id xs = Malformed
 abbrev pub block_form : List ℕ → Verdict
 block_form [] = Malformed
 block_form (n0 ∷ rest) =
-    if nat_le 1 (n0 / 16) && nat_le (n0 / 16) 8 && nat_le (n0 / 16) (length rest) && nat_le 3 (number_of (take (n0 / 16) rest))
+    if nat_le 1 (n0 / 16) && nat_le (n0 / 16) 8 && nat_le (n0 / 16) (length rest)
+    && nat_le 3 (number_of (take (n0 / 16) rest))
     then Accepted (take (n0 / 16) rest) else Malformed
 
 abbrev pub form_of : Request → List ℕ → Verdict

@@ -75,4 +75,5 @@ verdict_of found.Malformed = Malformed
 
 -- The verdict on these bytes, as the answer to each request of which this is awaited.
 abbrev pub IsJudged : Awaited → List ℕ → Verdict → Type 0
-IsJudged a reply verdict = (request : List ℕ) (r : Request) → request_of request ≡ Some r → awaited_by r ≡ a → judge request reply ≡ verdict
+IsJudged a reply verdict = (request : List ℕ) (r : Request) → request_of request ≡ Some r → awaited_by r ≡ a
+    → judge request reply ≡ verdict

@@ -63,7 +63,11 @@ abbrev pub range_at : List ℕ → ℕ → ℕ → Result Area UdsFault
 range_at s size at =
     if nat_lt (length s) (3 + at + size) then Err Short
     else if nat_lt (3 + at + size) (length s) then Err (BadForm (3 + at + size))
-    else Ok (record { width = record { size = size; at = at }; at = number_of (take at (drop 3 s)); size = number_of (drop (3 + at) s) })
+    else Ok (record {
+      width = record { size = size; at = at };
+      at = number_of (take at (drop 3 s));
+      size = number_of (drop (3 + at) s);
+    })
 
 abbrev pub widths_at : List ℕ → ℕ → ℕ → Result Area UdsFault
 widths_at s size at =

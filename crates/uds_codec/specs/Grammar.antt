@@ -21,7 +21,8 @@ begins_routine (kind ∷ rest) = kind == 1
 
 abbrev pub begins_range : List ℕ → Bool
 begins_range [] = true
-begins_range (digits ∷ rest) = is_size_width (digits / 16) && is_at_width (digits % 16) && nat_le (length rest) (digits % 16 + digits / 16)
+begins_range (digits ∷ rest) = is_size_width (digits / 16) && is_at_width (digits % 16)
+    && nat_le (length rest) (digits % 16 + digits / 16)
 
 -- a download or an upload
 abbrev pub begins_load : List ℕ → Bool

@@ -22,7 +22,8 @@ pub record AreNumbers (size_width at_width at size : ℕ) (address amount : List
 -- an address and a size behind their digits, for the service
 abbrev pub SpellsLoad : ℕ → Width → ℕ → ℕ → List ℕ → Type 0
 SpellsLoad sid width at size bytes = (address : List ℕ) × (amount : List ℕ)
-    × (bytes ≡ sid ∷ 0 ∷ (width.size * 16 + width.at) ∷ (address ++ amount)) × AreNumbers width.size width.at at size address amount × IsWidth width
+    × (bytes ≡ sid ∷ 0 ∷ (width.size * 16 + width.at) ∷ (address ++ amount))
+    × AreNumbers width.size width.at at size address amount × IsWidth width
 
 -- The grammar: the bytes spell the request, by its rows.
 abbrev pub Spells : Request → List ℕ → Type 0
@@ -53,7 +54,8 @@ pub record IsWritten (bytes : List ℕ) (r : Request) : Type 0 where
   pub fits : Fits r
 
 abbrev pub IsWrittenAgain : Type 0
-IsWrittenAgain = (bytes : List ℕ) (r : Request) → AreBytes bytes → request_of bytes ≡ Some r → IsWritten bytes r
+IsWrittenAgain = (bytes : List ℕ) (r : Request) → AreBytes bytes → request_of bytes ≡ Some r
+    → IsWritten bytes r
 
 -- the bytes spell what is read, and nothing else
 pub record IsGrammar : Type 0 where

@@ -7,7 +7,8 @@ use Rattle.uds_codec.specs.declared.request.Request.TheVariants.{Session, Seed, 
 
 -- an address and a size behind the digits of their widths
 abbrev pub range_bytes : Width → ℕ → ℕ → List ℕ
-range_bytes width at size = (width.size * 16 + width.at) ∷ (big_endian width.at at ++ big_endian width.size size)
+range_bytes width at size = (width.size * 16 + width.at)
+    ∷ (big_endian width.at at ++ big_endian width.size size)
 
 -- the setting of trouble codes: 1 on, 2 off; normal messages: 0 on, 3 off
 abbrev pub setting_code : Bool → ℕ
@@ -70,7 +71,12 @@ is_at_width n = nat_le 1 n && nat_le n 5
 abbrev pub range_with : ℕ → ℕ → List ℕ → Option Range
 range_with s a rest =
     if is_size_width s && is_at_width a && nat_le (a + s) (length rest) then
-    Some (record { width = record { size = s; at = a }; at = number_of (take a rest); size = number_of (take s (drop a rest)); more = drop s (drop a rest) })
+    Some (record {
+      width = record { size = s; at = a };
+      at = number_of (take a rest);
+      size = number_of (take s (drop a rest));
+      more = drop s (drop a rest);
+    })
     else None
 
 -- the range at the beginning of bytes: of a download's or an upload's, or of a routine's option
@@ -92,26 +98,30 @@ load_of load (form ∷ rest) = if form == 0 then load_in load (range_of rest) el
 abbrev pub transfer_of : List ℕ → Option Request
 transfer_of [] = None
 transfer_of (counter ∷ []) = Some (Pull counter)
-transfer_of (counter ∷ x ∷ body) = if nat_le (length body) 65532 then Some (Transfer counter (x ∷ body)) else None
+transfer_of (counter ∷ x ∷ body) =
+    if nat_le (length body) 65532 then Some (Transfer counter (x ∷ body)) else None
 
 abbrev pub exit_of : List ℕ → Option Request
 exit_of [] = Some Exit
 exit_of (x ∷ xs) = None
 
 abbrev pub setting_of : List ℕ → Option Request
-setting_of (code ∷ []) = if code == 1 then Some (Setting false) else if code == 2 then Some (Setting true) else None
+setting_of (code ∷ []) =
+    if code == 1 then Some (Setting false) else if code == 2 then Some (Setting true) else None
 setting_of xs = None
 
 abbrev pub messages_of : List ℕ → Option Request
 messages_of (code ∷ kind ∷ []) =
-    if kind == 1 && code == 0 then Some (Messages false) else if kind == 1 && code == 3 then Some (Messages true) else None
+    if kind == 1 && code == 0 then Some (Messages false) else if kind == 1 && code == 3
+    then Some (Messages true) else None
 messages_of xs = None
 
 -- the request that bytes spell
 abbrev pub request_of : List ℕ → Option Request
 request_of [] = None
 request_of (sid ∷ rest) =
-    if sid == 16 then one_byte rest (λ kind. if nat_le 1 kind && nat_le kind 3 then Some (Session kind) else None)
+    if sid == 16 then one_byte rest (λ kind. if nat_le 1 kind && nat_le kind 3 then Some (Session kind)
+    else None)
     else if sid == 17 then one_byte rest (λ kind. if kind == 1 then Some Reset else None)
     else if sid == 34 then read_id_of rest
     else if sid == 39 then security_of rest
@@ -126,7 +136,8 @@ request_of (sid ∷ rest) =
 
 -- the services of the table
 abbrev pub is_service : ℕ → Bool
-is_service sid = sid == 16 || sid == 17 || sid == 34 || sid == 39 || sid == 40 || sid == 49 || sid == 52 || sid == 53 || sid == 54 || sid == 55 || sid == 133
+is_service sid = sid == 16 || sid == 17 || sid == 34 || sid == 39 || sid == 40 || sid == 49 || sid == 52
+    || sid == 53 || sid == 54 || sid == 55 || sid == 133
 
 abbrev pub sid_of : List ℕ → ℕ
 sid_of [] = 0

@@ -22,7 +22,8 @@ pub fn decode(alloc: Global, bytes: &[u8]) -> Result<Request, UdsFault>
 fn positive(alloc: Global, bytes: &[u8], first: u8) -> Result<Reply, UdsFault>
     requires some { 0 < length bytes.now }
     requires listed { 64 ≤ first }
-    ensures { (result ≡ Err UdsFault.NoMemory) ⊎ (result ≡ Ok (Reply.Positive (first - 64) (drop 1 bytes.now))) }
+    ensures { (result ≡ Err UdsFault.NoMemory)
+        ⊎ (result ≡ Ok (Reply.Positive (first - 64) (drop 1 bytes.now))) }
 {
     let rest = Bytes::from_slice(alloc, &bytes[1..])?;
     Ok(Reply::Positive {

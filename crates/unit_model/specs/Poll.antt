@@ -27,7 +27,9 @@ is_turn tick h = (tick - h.from) % h.every == 0
 
 abbrev pub pending_of : ℕ → ℕ → List HeldAnswer → List ℕ
 pending_of tick tester [] = []
-pending_of tick tester (h ∷ hs) = (if is_turn tick h then message_bytes h.unit tester (pending_bytes h.sid) else []) ++ pending_of tick tester hs
+pending_of tick tester (h ∷ hs) =
+    (if is_turn tick h then message_bytes h.unit tester (pending_bytes h.sid) else [])
+    ++ pending_of tick tester hs
 
 abbrev pub held_on : ℕ → List HeldAnswer → List HeldAnswer
 held_on tick held = map (λ h. if is_turn tick h then record h { pending = h.pending + 1 } else h) held
@@ -53,7 +55,10 @@ ticked_gateway tick g = record g {
 }
 
 abbrev pub ticked : Vehicle → Vehicle
-ticked v = record { gateway = ticked_gateway (v.gateway.tick + 1) v.gateway; units = raised_by (v.gateway.tick + 1) v.gateway.held v.units }
+ticked v = record {
+  gateway = ticked_gateway (v.gateway.tick + 1) v.gateway;
+  units = raised_by (v.gateway.tick + 1) v.gateway.held v.units;
+}
 
 -- a Quiet receive
 pub record Ticks (old new : Vehicle) : Type 0 where
@@ -62,7 +67,10 @@ pub record Ticks (old new : Vehicle) : Type 0 where
 
 -- a receive that carried this piece; of a garbled one no more is known
 pub record Carries (piece : List ℕ) (old new : Vehicle) : Type 0 where
-  pub becomes : new ≡ record old { gateway = record old.gateway { ready = new.gateway.ready; carried = old.gateway.carried ++ piece } }
+  pub becomes : new ≡ record old {
+    gateway =
+        record old.gateway { ready = new.gateway.ready; carried = old.gateway.carried ++ piece };
+  }
 
 -- the piece is the next due bytes, or is seen to be no DoIP
 pub record IsPlain (piece : List ℕ) (old new : Vehicle) : Type 0 where
@@ -71,7 +79,8 @@ pub record IsPlain (piece : List ℕ) (old new : Vehicle) : Type 0 where
 pub record IsSeen (piece : List ℕ) (old new : Vehicle) : Type 0 where
   pub was_good : (stream_of old.gateway.carried).bad ≡ None
   pub is_bad : IsTrue (is_some (stream_of new.gateway.carried).bad)
-  pub frames : BeginsWith (stream_of new.gateway.carried).frames (stream_of (old.gateway.carried ++ old.gateway.ready)).frames
+  pub frames : BeginsWith (stream_of new.gateway.carried).frames
+      (stream_of (old.gateway.carried ++ old.gateway.ready)).frames
 
 pub record IsShown (piece : List ℕ) (old new : Vehicle) : Type 0 where
   pub carries : Carries piece old new

@@ -50,7 +50,8 @@ range = 68 ∷ 0 ∷ 0 ∷ 16 ∷ 0 ∷ 0 ∷ 0 ∷ 0 ∷ 3 ∷ []
 -- the SHA-256 of 61 62 63 (FIPS 180-4, appendix)
 abbrev pub digest : List ℕ
 digest =
-    186 ∷ 120 ∷ 22 ∷ 191 ∷ 143 ∷ 1 ∷ 207 ∷ 234 ∷ 65 ∷ 65 ∷ 64 ∷ 222 ∷ 93 ∷ 174 ∷ 34 ∷ 35 ∷ 176 ∷ 3 ∷ 97 ∷ 163 ∷ 150 ∷ 23 ∷ 122 ∷ 156 ∷ 180 ∷ 16 ∷ 255 ∷ 97 ∷ 242 ∷ 0 ∷ 21 ∷ 173 ∷ []
+    186 ∷ 120 ∷ 22 ∷ 191 ∷ 143 ∷ 1 ∷ 207 ∷ 234 ∷ 65 ∷ 65 ∷ 64 ∷ 222 ∷ 93 ∷ 174 ∷ 34 ∷ 35 ∷ 176 ∷ 3 ∷ 97 ∷ 163
+    ∷ 150 ∷ 23 ∷ 122 ∷ 156 ∷ 180 ∷ 16 ∷ 255 ∷ 97 ∷ 242 ∷ 0 ∷ 21 ∷ 173 ∷ []
 
 abbrev pub erase : List ℕ
 erase = 49 ∷ 1 ∷ 255 ∷ 0 ∷ range
@@ -58,7 +59,8 @@ erase = 49 ∷ 1 ∷ 255 ∷ 0 ∷ range
 -- 10 02, the erase, 34 00 with the range, 36 01 61 62 twice, 36 03 63, 36 02 63, 37
 abbrev pub down : List (List ℕ)
 down =
-    (16 ∷ 2 ∷ []) ∷ erase ∷ (52 ∷ 0 ∷ range) ∷ (54 ∷ 1 ∷ 97 ∷ 98 ∷ []) ∷ (54 ∷ 1 ∷ 97 ∷ 98 ∷ []) ∷ (54 ∷ 3 ∷ 99 ∷ []) ∷ (54 ∷ 2 ∷ 99 ∷ []) ∷ (55 ∷ []) ∷ []
+    (16 ∷ 2 ∷ []) ∷ erase ∷ (52 ∷ 0 ∷ range) ∷ (54 ∷ 1 ∷ 97 ∷ 98 ∷ []) ∷ (54 ∷ 1 ∷ 97 ∷ 98 ∷ [])
+    ∷ (54 ∷ 3 ∷ 99 ∷ []) ∷ (54 ∷ 2 ∷ 99 ∷ []) ∷ (55 ∷ []) ∷ []
 
 -- the check with the digest, 31 01 FF 01
 abbrev pub checks : List (List ℕ)
@@ -66,42 +68,56 @@ checks = (49 ∷ 1 ∷ 2 ∷ 2 ∷ (range ++ digest)) ∷ (49 ∷ 1 ∷ 255 ∷ 
 
 -- 35 00 with the range, 36 01 twice, 36 01 61, 37, 36 02, 36 03, 37
 abbrev pub up : List (List ℕ)
-up = (53 ∷ 0 ∷ range) ∷ (54 ∷ 1 ∷ []) ∷ (54 ∷ 1 ∷ []) ∷ (54 ∷ 1 ∷ 97 ∷ []) ∷ (55 ∷ []) ∷ (54 ∷ 2 ∷ []) ∷ (54 ∷ 3 ∷ []) ∷ (55 ∷ []) ∷ []
+up = (53 ∷ 0 ∷ range) ∷ (54 ∷ 1 ∷ []) ∷ (54 ∷ 1 ∷ []) ∷ (54 ∷ 1 ∷ 97 ∷ []) ∷ (55 ∷ []) ∷ (54 ∷ 2 ∷ [])
+    ∷ (54 ∷ 3 ∷ []) ∷ (55 ∷ []) ∷ []
 
 -- 85 02 and 28 03 01 in session 01, 10 03, these again, 85 01, 10 01
 abbrev pub hush : List (List ℕ)
 hush =
-    (133 ∷ 2 ∷ []) ∷ (40 ∷ 3 ∷ 1 ∷ []) ∷ (16 ∷ 3 ∷ []) ∷ (133 ∷ 2 ∷ []) ∷ (40 ∷ 3 ∷ 1 ∷ []) ∷ (133 ∷ 1 ∷ []) ∷ (16 ∷ 1 ∷ []) ∷ []
+    (133 ∷ 2 ∷ []) ∷ (40 ∷ 3 ∷ 1 ∷ []) ∷ (16 ∷ 3 ∷ []) ∷ (133 ∷ 2 ∷ []) ∷ (40 ∷ 3 ∷ 1 ∷ []) ∷ (133 ∷ 1 ∷ [])
+    ∷ (16 ∷ 1 ∷ []) ∷ []
 
 -- a transfer down at the counter FF, with two bytes left
 abbrev pub at_ff : ControlUnit
-at_ff = record u { session = 2; transfer = Some (record { up = false; at = 4097; rest = 2; counter = 255; last = Some 1 }) }
+at_ff = record u {
+  session = 2;
+  transfer = Some
+      (record { up = false; at = 4097; rest = 2; counter = 255; last = Some 1 });
+}
 
 pub record AreStepsWorked : Type 0 where
   pub down_answers : answers_of u down
-      ≡ (80 ∷ 2 ∷ 0 ∷ 50 ∷ 1 ∷ 244 ∷ []) ∷ (113 ∷ 1 ∷ 255 ∷ 0 ∷ 0 ∷ []) ∷ (116 ∷ 16 ∷ 4 ∷ []) ∷ (118 ∷ 1 ∷ []) ∷ (118 ∷ 1 ∷ []) ∷ (127 ∷ 54 ∷ 115 ∷ []) ∷ (118 ∷ 2 ∷ []) ∷ (119 ∷ []) ∷ []
+      ≡ (80 ∷ 2 ∷ 0 ∷ 50 ∷ 1 ∷ 244 ∷ []) ∷ (113 ∷ 1 ∷ 255 ∷ 0 ∷ 0 ∷ []) ∷ (116 ∷ 16 ∷ 4 ∷ []) ∷ (118 ∷ 1 ∷ [])
+      ∷ (118 ∷ 1 ∷ []) ∷ (127 ∷ 54 ∷ 115 ∷ []) ∷ (118 ∷ 2 ∷ []) ∷ (119 ∷ []) ∷ []
   pub down_memory : (unit_behind u down).memory ≡ (4096, 97) ∷ (4097, 98) ∷ (4098, 99) ∷ []
-  pub check_answers : answers_of (unit_behind u down) checks ≡ (113 ∷ 1 ∷ 2 ∷ 2 ∷ 0 ∷ []) ∷ (113 ∷ 1 ∷ 255 ∷ 1 ∷ 0 ∷ []) ∷ []
+  pub check_answers : answers_of (unit_behind u down) checks
+      ≡ (113 ∷ 1 ∷ 2 ∷ 2 ∷ 0 ∷ []) ∷ (113 ∷ 1 ∷ 255 ∷ 1 ∷ 0 ∷ []) ∷ []
   pub checked : (unit_behind u (down ++ checks)).checked ≡ (4096, 3) ∷ []
   pub passed : (unit_behind u (down ++ checks)).passed ≡ true
   -- without a range that was checked the whole check finds nothing
-  pub unchecked : answers_of (unit_behind u down) ((49 ∷ 1 ∷ 255 ∷ 1 ∷ []) ∷ []) ≡ (113 ∷ 1 ∷ 255 ∷ 1 ∷ 1 ∷ []) ∷ []
+  pub unchecked : answers_of (unit_behind u down)
+      ((49 ∷ 1 ∷ 255 ∷ 1 ∷ []) ∷ []) ≡ (113 ∷ 1 ∷ 255 ∷ 1 ∷ 1 ∷ []) ∷ []
   -- an upload leaves what was checked; the last block comes again; data go down alone; behind the last byte there is no block
   pub up_answers : answers_of (unit_behind u (down ++ checks)) up
-      ≡ (117 ∷ 16 ∷ 4 ∷ []) ∷ (118 ∷ 1 ∷ 97 ∷ 98 ∷ []) ∷ (118 ∷ 1 ∷ 97 ∷ 98 ∷ []) ∷ (127 ∷ 54 ∷ 19 ∷ []) ∷ (127 ∷ 55 ∷ 36 ∷ []) ∷ (118 ∷ 2 ∷ 99 ∷ []) ∷ (127 ∷ 54 ∷ 36 ∷ []) ∷ (119 ∷ []) ∷ []
+      ≡ (117 ∷ 16 ∷ 4 ∷ []) ∷ (118 ∷ 1 ∷ 97 ∷ 98 ∷ []) ∷ (118 ∷ 1 ∷ 97 ∷ 98 ∷ []) ∷ (127 ∷ 54 ∷ 19 ∷ [])
+      ∷ (127 ∷ 55 ∷ 36 ∷ []) ∷ (118 ∷ 2 ∷ 99 ∷ []) ∷ (127 ∷ 54 ∷ 36 ∷ []) ∷ (119 ∷ []) ∷ []
   pub up_checked : (unit_behind u (down ++ (checks ++ up))).checked ≡ (4096, 3) ∷ []
   -- an erase takes it out again
   pub erased : (unit_behind u (down ++ (checks ++ (erase ∷ [])))).checked ≡ []
-  pub erased_memory : (unit_behind u (down ++ (erase ∷ []))).memory ≡ (4096, 255) ∷ (4097, 255) ∷ (4098, 255) ∷ []
+  pub erased_memory : (unit_behind u (down ++ (erase ∷ []))).memory
+      ≡ (4096, 255) ∷ (4097, 255) ∷ (4098, 255) ∷ []
   -- the counter goes from FF to 00
-  pub counter : answers_of at_ff ((54 ∷ 255 ∷ 97 ∷ []) ∷ (54 ∷ 0 ∷ 98 ∷ []) ∷ []) ≡ (118 ∷ 255 ∷ []) ∷ (118 ∷ 0 ∷ []) ∷ []
+  pub counter : answers_of at_ff ((54 ∷ 255 ∷ 97 ∷ []) ∷ (54 ∷ 0 ∷ 98 ∷ []) ∷ [])
+      ≡ (118 ∷ 255 ∷ []) ∷ (118 ∷ 0 ∷ []) ∷ []
   -- outside programming 7F; outside the regions 31; a size of 0 has no form
   pub early : answers_of u (erase ∷ []) ≡ (127 ∷ 49 ∷ 127 ∷ []) ∷ []
-  pub outside : answers_of u ((16 ∷ 2 ∷ []) ∷ (53 ∷ 0 ∷ 17 ∷ 0 ∷ 1 ∷ []) ∷ (49 ∷ 1 ∷ 255 ∷ 0 ∷ 17 ∷ 0 ∷ 0 ∷ []) ∷ [])
+  pub outside : answers_of u ((16 ∷ 2 ∷ []) ∷ (53 ∷ 0 ∷ 17 ∷ 0 ∷ 1 ∷ [])
+      ∷ (49 ∷ 1 ∷ 255 ∷ 0 ∷ 17 ∷ 0 ∷ 0 ∷ []) ∷ [])
       ≡ (80 ∷ 2 ∷ 0 ∷ 50 ∷ 1 ∷ 244 ∷ []) ∷ (127 ∷ 53 ∷ 49 ∷ []) ∷ (127 ∷ 49 ∷ 19 ∷ []) ∷ []
   -- setting and messages: off in the extended session alone, and on again twice, once by request and once by the default session
   pub hushed : answers_of u hush
-      ≡ (127 ∷ 133 ∷ 127 ∷ []) ∷ (127 ∷ 40 ∷ 127 ∷ []) ∷ (80 ∷ 3 ∷ 0 ∷ 50 ∷ 1 ∷ 244 ∷ []) ∷ (197 ∷ 2 ∷ []) ∷ (104 ∷ 3 ∷ []) ∷ (197 ∷ 1 ∷ []) ∷ (80 ∷ 1 ∷ 0 ∷ 50 ∷ 1 ∷ 244 ∷ []) ∷ []
+      ≡ (127 ∷ 133 ∷ 127 ∷ []) ∷ (127 ∷ 40 ∷ 127 ∷ []) ∷ (80 ∷ 3 ∷ 0 ∷ 50 ∷ 1 ∷ 244 ∷ []) ∷ (197 ∷ 2 ∷ [])
+      ∷ (104 ∷ 3 ∷ []) ∷ (197 ∷ 1 ∷ []) ∷ (80 ∷ 1 ∷ 0 ∷ 50 ∷ 1 ∷ 244 ∷ []) ∷ []
   pub woken : (unit_behind u hush).woken ≡ 2
   pub on_again : (unit_behind u hush).messages_off ≡ false
   -- a departure may spoil the range of an erase in any state, and none of an option that is not in form
@@ -154,8 +170,11 @@ with_due bytes w = record w { gateway = record w.gateway { ready = bytes } }
 pub record AreFeedsWorked : Type 0 where
   -- a unit that is not there is code 03, and before an activation it is 02
   pub missing : Feeds (asks (16 ∷ 3 ∷ [])) v (with_due (nacks (16 ∷ 3 ∷ []) 3) v)
-  pub early : Feeds (asks (16 ∷ 1 ∷ [])) (record v { gateway = record a_gateway { active = None } }) (with_due (nacks (16 ∷ 1 ∷ []) 2) (record v { gateway = record a_gateway { active = None } }))
+  pub early : Feeds (asks (16 ∷ 1 ∷ [])) (record v { gateway = record a_gateway { active = None } })
+      (with_due (nacks (16 ∷ 1 ∷ []) 2) (record v { gateway = record a_gateway { active = None } }))
   -- 1001 holds its answer until 1002 hears the service 10, which comes in the same feed: both acknowledgements, the answer that was
   -- held, and the answer of 1002
   pub released : Feeds (asks (16 ∷ 1 ∷ []) ++ asks (16 ∷ 2 ∷ [])) v
-      (with_due (acks (16 ∷ 1 ∷ []) ++ (acks (16 ∷ 2 ∷ []) ++ (answers (16 ∷ 1 ∷ []) ++ answers (16 ∷ 2 ∷ [])))) (record v { units = asked 4097 ∷ asked 4098 ∷ [] }))
+      (with_due (acks (16 ∷ 1 ∷ []) ++
+      (acks (16 ∷ 2 ∷ []) ++ (answers (16 ∷ 1 ∷ []) ++ answers (16 ∷ 2 ∷ []))))
+      (record v { units = asked 4097 ∷ asked 4098 ∷ [] }))

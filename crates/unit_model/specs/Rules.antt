@@ -42,7 +42,8 @@ last_in memory at (Some n) = nat_le n 65533 && (nat_le n at && has_each (at - n)
 -- the memory has the bytes that are left of a transfer, and those of its last block
 abbrev pub transfer_in : MemoryMap → Option Transfer → Bool
 transfer_in memory None = true
-transfer_in memory (Some t) = nat_le (t.at + t.rest) LIMIT && (has_each t.at t.rest memory && last_in memory t.at t.last)
+transfer_in memory (Some t) =
+    nat_le (t.at + t.rest) LIMIT && (has_each t.at t.rest memory && last_in memory t.at t.last)
 
 abbrev pub all_inside : MemoryMap → List PatchSpec → Bool
 all_inside memory [] = true

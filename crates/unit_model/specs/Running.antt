@@ -13,7 +13,16 @@ use Rattle.unit_model.specs.Troubles.{all_troubles}
 
 -- no trouble so far
 abbrev pub calm : Counts
-calm = record { refused = λ code. 0; odd = 0; failed = 0; muted = 0; late = 0; stalled = 0; busy = 0; nacked = λ code. 0 }
+calm = record {
+  refused = λ code. 0;
+  odd = 0;
+  failed = 0;
+  muted = 0;
+  late = 0;
+  stalled = 0;
+  busy = 0;
+  nacked = λ code. 0;
+}
 
 abbrev pub open_of : Option Transfer → Option OpenTransfer
 open_of None = None

@@ -39,7 +39,10 @@ raise_if c n = if c then one_more n else n
 
 -- what the ticks of responses pending and answer raise
 abbrev pub timed : Bool → Bool → ControlUnit → ControlUnit
-timed late stalled u = record u { counts = record u.counts { late = raise_if late u.counts.late; stalled = raise_if stalled u.counts.stalled } }
+timed late stalled u = record u {
+  counts =
+      record u.counts { late = raise_if late u.counts.late; stalled = raise_if stalled u.counts.stalled };
+}
 
 -- a range that a departure may leave with any bytes, and whether it is an erase's
 pub record Spoil : Type 0 where
@@ -50,12 +53,14 @@ pub record Spoil : Type 0 where
 -- an erase's, in any state of the unit and whatever its answer would have been; an option that is not in form has none
 abbrev pub erase_range : Option Range → Option Spoil
 erase_range None = None
-erase_range (Some r) = if r.size == 0 || not (length r.more == 0) then None else Some (record { at = r.at; size = r.size; erase = true })
+erase_range (Some r) = if r.size == 0 || not (length r.more == 0) then None
+    else Some (record { at = r.at; size = r.size; erase = true })
 
 -- a block's, where the obedient step would have written it; one that is said again writes nothing
 abbrev pub block_range : Option OpenTransfer → ℕ → ℕ → Option Spoil
 block_range None counter n = None
-block_range (Some t) counter n = if counter == t.counter then Some (record { at = t.at; size = n; erase = false }) else None
+block_range (Some t) counter n =
+    if counter == t.counter then Some (record { at = t.at; size = n; erase = false }) else None
 
 abbrev pub is_accepted : List ℕ → Bool
 is_accepted [] = false
@@ -63,7 +68,9 @@ is_accepted (x ∷ xs) = not (x == 127)
 
 abbrev pub spoil_of : ControlUnit → Request → Option Spoil
 spoil_of u (Routine id option) = if id == 65280 then erase_range (range_of option) else None
-spoil_of u (Transfer counter body) = if is_accepted (obey u (Transfer counter body)).1 then block_range u.transfer counter (length body) else None
+spoil_of u (Transfer counter body) =
+    if is_accepted (obey u (Transfer counter body)).1 then block_range u.transfer counter (length body)
+    else None
 spoil_of u (Session kind) = None
 spoil_of u Reset = None
 spoil_of u (ReadId did) = None
@@ -84,11 +91,17 @@ spoil_in u (Some r) = spoil_of u r
 pub record Spoiled (s : Spoil) (old new : ControlUnit) : Type 0 where
   pub memory : SameOutside s.at s.size old.memory new.memory
   pub domain : (a : ℕ) → is_some (byte_at new.memory a) ≡ is_some (byte_at old.memory a)
-  pub rest : new ≡ record old { memory = new.memory; checked = apart s.at s.size old.checked; passed = false; transfer = if s.erase then None else old.transfer }
+  pub rest : new ≡ record old {
+    memory = new.memory;
+    checked = apart s.at s.size old.checked;
+    passed = false;
+    transfer = if s.erase then None else old.transfer;
+  }
 
 -- what a departure leaves: the old state, or, of an erase or of a block that would have been written, its range spoiled
 abbrev pub Leaves : ControlUnit → List ℕ → ControlUnit → Type 0
-Leaves old bytes mid = (mid ≡ old) ⊎ ((s : Spoil) × (spoil_in old (request_of bytes) ≡ Some s) × Spoiled s old mid)
+Leaves old bytes mid = (mid ≡ old)
+    ⊎ ((s : Spoil) × (spoil_in old (request_of bytes) ≡ Some s) × Spoiled s old mid)
 
 abbrev pub is_good : Verdict → Bool
 is_good Pending = false
@@ -118,9 +131,11 @@ raised Busies c = record c { busy = one_more c.busy }
 
 -- when it is one: the obedient answer is another
 abbrev pub IsDeparture : Departure → ControlUnit → List ℕ → Type 0
-IsDeparture (Refuses nrc) u bytes = (nrc ≡ 33 → ⊥) × (nrc ≡ 120 → ⊥) × ((obedient u bytes).1 ≡ 127 ∷ sid_of bytes ∷ nrc ∷ [] → ⊥)
+IsDeparture (Refuses nrc) u bytes = (nrc ≡ 33 → ⊥) × (nrc ≡ 120 → ⊥)
+    × ((obedient u bytes).1 ≡ 127 ∷ sid_of bytes ∷ nrc ∷ [] → ⊥)
 IsDeparture (Odd body) u bytes = (judge bytes body ≡ Malformed) × (1 ≤ length body) × (length body ≤ 65535)
-IsDeparture (Fails body) u bytes = (status : ℕ) × (judge bytes body ≡ BadStatus status) × IsTrue (is_good (judge bytes (obedient u bytes).1)) × (length body ≤ 65535)
+IsDeparture (Fails body) u bytes = (status : ℕ) × (judge bytes body ≡ BadStatus status)
+    × IsTrue (is_good (judge bytes (obedient u bytes).1)) × (length body ≤ 65535)
 IsDeparture Mutes u bytes = Unit {0}
 IsDeparture Busies u bytes = Unit {0}
 
@@ -140,15 +155,18 @@ last_tick None due = []
 last_tick (Some body) due = due ∷ []
 
 -- the obedient step, with its answer after any responses pending
-pub record Obeys (old : ControlUnit) (bytes : List ℕ) (tick : ℕ) (replies : List UnitReply) (new : ControlUnit) : Type 0 where
+pub record Obeys (old : ControlUnit) (bytes : List ℕ) (tick : ℕ) (replies : List UnitReply)
+    (new : ControlUnit) : Type 0 where
   pub ticks : List ℕ
   pub due : ℕ
   pub ascending : IsTrue (ascends tick (ticks ++ (due ∷ [])))
   pub gives : replies ≡ pendings (sid_of bytes) ticks ++ (reply_at due (obedient old bytes).1 ∷ [])
-  pub becomes : new ≡ heard_one (timed (is_late tick (ticks ++ (due ∷ []))) (is_stalled ticks) (obedient old bytes).0)
+  pub becomes : new ≡ heard_one (timed (is_late tick (ticks ++ (due ∷ []))) (is_stalled ticks)
+      (obedient old bytes).0)
 
 -- the obedient step, with its answer held
-pub record Holds (old : ControlUnit) (bytes : List ℕ) (tick : ℕ) (replies : List UnitReply) (new : ControlUnit) : Type 0 where
+pub record Holds (old : ControlUnit) (bytes : List ℕ) (tick : ℕ) (replies : List UnitReply)
+    (new : ControlUnit) : Type 0 where
   pub every : ℕ
   pub unit : ℕ
   pub sid : ℕ
@@ -157,7 +175,8 @@ pub record Holds (old : ControlUnit) (bytes : List ℕ) (tick : ℕ) (replies : 
   pub becomes : new ≡ heard_one (obedient old bytes).0
 
 -- a departure
-pub record Departs (old : ControlUnit) (bytes : List ℕ) (tick : ℕ) (replies : List UnitReply) (new : ControlUnit) : Type 0 where
+pub record Departs (old : ControlUnit) (bytes : List ℕ) (tick : ℕ) (replies : List UnitReply)
+    (new : ControlUnit) : Type 0 where
   pub kind : Departure
   pub mid : ControlUnit
   pub ticks : List ℕ
@@ -166,13 +185,16 @@ pub record Departs (old : ControlUnit) (bytes : List ℕ) (tick : ℕ) (replies 
   pub leaves : Leaves old bytes mid
   pub ascending : IsTrue (ascends tick (ticks ++ last_tick (said_by kind (sid_of bytes)) due))
   pub gives : replies ≡ pendings (sid_of bytes) ticks ++ last_replies (said_by kind (sid_of bytes)) due
-  pub becomes : new ≡ heard_one (timed (is_late tick (ticks ++ last_tick (said_by kind (sid_of bytes)) due)) (is_stalled ticks) (record mid { counts = raised kind mid.counts }))
+  pub becomes : new ≡ heard_one (timed (is_late tick (ticks ++ last_tick (said_by kind (sid_of bytes)) due))
+      (is_stalled ticks) (record mid { counts = raised kind mid.counts }))
 
 -- each reply can be sent
 pub record CanSend (body : List ℕ) : Type 0 where
   pub some : 1 ≤ length body
   pub few : length body ≤ 65535
 
-pub record UnitStep (old : ControlUnit) (bytes : List ℕ) (tick : ℕ) (replies : List UnitReply) (new : ControlUnit) : Type 0 where
-  pub how : Obeys old bytes tick replies new ⊎ Holds old bytes tick replies new ⊎ Departs old bytes tick replies new
+pub record UnitStep (old : ControlUnit) (bytes : List ℕ) (tick : ℕ) (replies : List UnitReply)
+    (new : ControlUnit) : Type 0 where
+  pub how : Obeys old bytes tick replies new ⊎ Holds old bytes tick replies new
+      ⊎ Departs old bytes tick replies new
   pub sizes : Each (λ r. CanSend r.body) replies

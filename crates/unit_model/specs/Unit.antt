@@ -109,13 +109,19 @@ give_seed u level = answer (record u { last_seed = Some (seed_given u) }) (103 �
 abbrev pub key_in : ControlUnit → ℕ → List ℕ → Option (List ℕ) → ControlUnit × List ℕ
 key_in u level key None = refuse u 39 36
 key_in u level key (Some seed) =
-    if same_bytes key (key_of u.key seed) then answer (record u { unlocked = true }) (103 ∷ (level + 1) ∷ []) else refuse u 39 53
+    if same_bytes key (key_of u.key seed) then answer (record u { unlocked = true }) (103 ∷ (level + 1) ∷ [])
+    else refuse u 39 53
 
 abbrev pub is_locked : ControlUnit → Bool
 is_locked u = has_key u.key && not u.unlocked
 
 abbrev pub erased : ControlUnit → ℕ → ℕ → ControlUnit
-erased u at size = record u { memory = fill at size 255 u.memory; checked = apart at size u.checked; passed = false; transfer = None }
+erased u at size = record u {
+  memory = fill at size 255 u.memory;
+  checked = apart at size u.checked;
+  passed = false;
+  transfer = None;
+}
 
 abbrev pub erase_in : ControlUnit → Option Range → ControlUnit × List ℕ
 erase_in u None = refuse u 49 19
@@ -184,7 +190,13 @@ next_counter counter = if counter == 255 then 0 else counter + 1
 
 -- behind a block of so many bytes
 abbrev pub behind : OpenTransfer → ℕ → OpenTransfer
-behind t n = record { up = t.up; at = t.at + n; rest = t.rest - n; counter = next_counter t.counter; last = Some n }
+behind t n = record {
+  up = t.up;
+  at = t.at + n;
+  rest = t.rest - n;
+  counter = next_counter t.counter;
+  last = Some n;
+}
 
 -- the counter is that of the last block
 abbrev pub is_repeat : OpenTransfer → ℕ → Bool
@@ -223,7 +235,8 @@ give u t counter =
     else if is_repeat t counter then answer u (118 ∷ counter ∷ last_block u t t.last)
     else if t.rest == 0 then refuse u 54 36
     else if not (counter == t.counter) then refuse u 54 115
-    else answer (record u { transfer = Some (behind t (block_up u t)) }) (118 ∷ counter ∷ block_at u t.at (block_up u t))
+    else answer (record u { transfer = Some (behind t (block_up u t)) })
+    (118 ∷ counter ∷ block_at u t.at (block_up u t))
 
 abbrev pub give_in : ControlUnit → Option OpenTransfer → ℕ → ControlUnit × List ℕ
 give_in u None counter = refuse u 54 36
@@ -255,7 +268,8 @@ obey u (Session kind) = answer (in_kind u kind) (80 ∷ kind ∷ 0 ∷ 50 ∷ 1 
 obey u Reset = answer (in_default u) (81 ∷ 1 ∷ [])
 obey u (ReadId did) = read_in u did (ident_of u.idents did)
 obey u (Seed level) = programming u 39 (if has_level u.key level then give_seed u level else refuse u 39 18)
-obey u (Key level key) = programming u 39 (if has_level u.key level then key_in u level key u.last_seed else refuse u 39 18)
+obey u (Key level key) =
+    programming u 39 (if has_level u.key level then key_in u level key u.last_seed else refuse u 39 18)
 obey u (Routine id option) = programming u 49 (routine u id option)
 obey u (Download width at size) = programming u 52 (download u at size)
 obey u (Upload width at size) = programming u 53 (upload u at size)

@@ -58,4 +58,15 @@ heard_of v address = heard_in (unit_at v.units address)
 
 -- a new connection
 abbrev pub redialed : Vehicle → Vehicle
-redialed v = record v { gateway = record v.gateway { active = None; deaf = false; unfinished = []; ready = []; later = []; held = []; carried = [] } }
+redialed v = record v {
+  gateway =
+      record v.gateway {
+        active = None;
+        deaf = false;
+        unfinished = [];
+        ready = [];
+        later = [];
+        held = [];
+        carried = [];
+      };
+}

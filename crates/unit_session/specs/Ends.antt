@@ -25,15 +25,23 @@ pub record IsOther (u : UnitPlan) (t : Talk) (body : List ℕ) (did : ℕ) : Typ
 -- is always that of the request whose answer was awaited.
 abbrev pub AnswerEnds : UnitPlan → Talk → List ℕ → Outcome → Type 0
 AnswerEnds u t body (Refused sid nrc) = (body ≡ 127 ∷ sid ∷ nrc ∷ []) × (sid ≡ sid_at u t)
-AnswerEnds u t body (CheckFailed routine segment status) = (judge (bytes_at u t.place) body ≡ BadStatus status) × (routine ≡ (routine_at u t.place).0) × (segment ≡ (routine_at u t.place).1)
+AnswerEnds u t body (CheckFailed routine segment status) =
+    (judge (bytes_at u t.place) body ≡ BadStatus status) × (routine ≡ (routine_at u t.place).0)
+    × (segment ≡ (routine_at u t.place).1)
 AnswerEnds u t body (IdentMismatch did) = IsOther u t body did
 AnswerEnds u t body (BadAnswer sid) = (judge (bytes_at u t.place) body ≡ Malformed) × (sid ≡ sid_at u t)
-AnswerEnds u t body (PendingLimit sid) = (body ≡ 127 ∷ sid ∷ 120 ∷ []) × (sid ≡ sid_at u t) × (t.pendings ≡ 200)
+AnswerEnds u t body (PendingLimit sid) = (body ≡ 127 ∷ sid ∷ 120 ∷ []) × (sid ≡ sid_at u t)
+    × (t.pendings ≡ 200)
 AnswerEnds u t body (BusyLimit sid) = (body ≡ 127 ∷ sid ∷ 33 ∷ []) × (sid ≡ sid_at u t) × (t.busies ≡ 20)
 AnswerEnds u t body outcome = ⊥
 
 -- Each end of a conversation has its cause: an answer, a refusal to deliver with its code, or 1,000 ticks without an answer.
 pub record EndsAreCaused : Type 0 where
-  pub answer : (u : UnitPlan) (tick : ℕ) (body : List ℕ) (t : Talk) (outcome : Outcome) → is_ended t.place ≡ false → (talk_hears u tick (Reply body) t).place ≡ AtEnd outcome → AnswerEnds u t body outcome
-  pub refusal : (u : UnitPlan) (tick code : ℕ) (t : Talk) (outcome : Outcome) → (talk_hears u tick (Nacked code) t).place ≡ AtEnd outcome → outcome ≡ Undelivered code
-  pub silence : (u : UnitPlan) (tick : ℕ) (t : Talk) (outcome : Outcome) → is_ended t.place ≡ false → (talk_quiet u tick t).place ≡ AtEnd outcome → (outcome ≡ NoAnswer (sid_at u t)) × (t.since + 1000 ≤ tick)
+  pub answer : (u : UnitPlan) (tick : ℕ) (body : List ℕ) (t : Talk) (outcome : Outcome)
+      → is_ended t.place ≡ false → (talk_hears u tick (Reply body) t).place ≡ AtEnd outcome
+      → AnswerEnds u t body outcome
+  pub refusal : (u : UnitPlan) (tick code : ℕ) (t : Talk) (outcome : Outcome)
+      → (talk_hears u tick (Nacked code) t).place ≡ AtEnd outcome → outcome ≡ Undelivered code
+  pub silence : (u : UnitPlan) (tick : ℕ) (t : Talk) (outcome : Outcome) → is_ended t.place ≡ false
+      → (talk_quiet u tick t).place ≡ AtEnd outcome → (outcome ≡ NoAnswer (sid_at u t))
+      × (t.since + 1000 ≤ tick)

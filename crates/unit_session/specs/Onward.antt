@@ -38,14 +38,16 @@ HasRecord (Download n) rest = 3 ≤ number_of rest
 HasRecord stage rest = Unit {0}
 
 -- A positive answer with these bytes behind the beginning of its form leads from one stage to the other.
-pub record LeadsTo (u : UnitPlan) (marks : ℕ → Bool) (stage : Stage) (rest : List ℕ) (next : Stage) : Type 0 where
+pub record LeadsTo (u : UnitPlan) (marks : ℕ → Bool) (stage : Stage) (rest : List ℕ)
+    (next : Stage) : Type 0 where
   pub place : place_at u next ≡ place_next u marks (place_at u stage) rest
   pub fits : IsStage u next
   pub known : KnowsNext u marks next
 
 -- the stage once so many of a segment's size bytes were accepted
 abbrev pub blocks_from : ℕ → ℕ → ℕ → ℕ → ℕ → Stage
-blocks_from size segment sent counter limit = if nat_lt sent size then Block segment sent counter limit else Exit segment
+blocks_from size segment sent counter limit =
+    if nat_lt sent size then Block segment sent counter limit else Exit segment
 
 -- the segment that is erased next; where there is none, the whole is checked
 abbrev pub erase_next : Option ℕ → Stage

@@ -34,7 +34,13 @@ place_at u Seed = AtSeed (level_or_none (level_of u.key))
 place_at u (Key seed) = AtKey (level_or_none (level_of u.key)) (seed_bytes seed)
 place_at u (Erase n) = AtErase (cursor_at u n)
 place_at u (Download n) = AtDownload (cursor_at u n)
-place_at u (Block n sent counter limit) = AtBlock (cursor_at u n) (record { sent = take sent (segment_of u n).body; rest = drop sent (segment_of u n).body; counter = counter; limit = limit })
+place_at u (Block n sent counter limit) =
+    AtBlock (cursor_at u n) (record {
+      sent = take sent (segment_of u n).body;
+      rest = drop sent (segment_of u n).body;
+      counter = counter;
+      limit = limit;
+    })
 place_at u (Exit n) = AtExit (cursor_at u n)
 place_at u (Check n) = AtCheck (cursor_at u n)
 place_at u (Mark n next) = AtMark (cursor_at u n)
@@ -95,7 +101,15 @@ has_mark m n = slice_index m.bits (n / 64) / 2 ^ (n % 64) % 2 == 1
 
 -- the conversation that a session stands for
 abbrev pub talk_of : UnitPlan → UnitSession → Talk
-talk_of u s = record { place = place_at u s.stage; marks = has_mark s.marks; number = s.number; awaiting = s.awaiting; since = s.since; pendings = s.pendings; busies = s.busies }
+talk_of u s = record {
+  place = place_at u s.stage;
+  marks = has_mark s.marks;
+  number = s.number;
+  awaiting = s.awaiting;
+  since = s.since;
+  pendings = s.pendings;
+  busies = s.busies;
+}
 
 -- what of it does not lie in the unit's task
 abbrev pub talk_of_any : UnitSession → Talk
@@ -103,7 +117,13 @@ talk_of_any s = talk_of no_plan s
 
 -- a final answer leads to a place
 abbrev pub settled : Place → Talk → Talk
-settled place t = record t { place = place; number = t.number + 1; awaiting = false; pendings = 0; busies = 0 }
+settled place t = record t {
+  place = place;
+  number = t.number + 1;
+  awaiting = false;
+  pendings = 0;
+  busies = 0;
+}
 
 -- fewer requests are left at one place than at the other
 abbrev pub IsFewer : UnitPlan → Place → Place → Type 0

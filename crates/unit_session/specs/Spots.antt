@@ -13,13 +13,41 @@ abbrev pub padded : List ℕ → List ℕ
 padded seed = seed ++ drop (length seed) (replicate 32 0)
 
 abbrev pub spot_with : ℕ → ℕ → ℕ → Spot
-spot_with step part phase = record { step = step; part = part; phase = phase; offset = 0; counter = 0; room = 0; seed = padded []; seed_length = 0 }
+spot_with step part phase = record {
+  step = step;
+  part = part;
+  phase = phase;
+  offset = 0;
+  counter = 0;
+  room = 0;
+  seed = padded [];
+  seed_length = 0;
+}
 
 abbrev pub key_spot : List ℕ → Spot
-key_spot seed = record { step = 3; part = 0; phase = 0; offset = 0; counter = 0; room = 0; seed = padded seed; seed_length = length seed }
+key_spot seed = record {
+  step = 3;
+  part = 0;
+  phase = 0;
+  offset = 0;
+  counter = 0;
+  room = 0;
+  seed = padded seed;
+  seed_length = length seed;
+}
 
 abbrev pub block_spot : ℕ → ℕ → ℕ → ℕ → Spot
-block_spot part offset counter room = record { step = 4; part = part; phase = 2; offset = offset; counter = counter; room = room; seed = padded []; seed_length = 0 }
+block_spot part offset counter room =
+    record {
+      step = 4;
+      part = part;
+      phase = 2;
+      offset = offset;
+      counter = counter;
+      room = room;
+      seed = padded [];
+      seed_length = 0;
+    }
 
 -- The spot of a place of a unit's script. Identifiers and segments go by their numbers; a segment has phases, from its erasure to
 -- its mark; within the blocks stand the bytes that were accepted, the counter and the length limit of the next request.

@@ -29,14 +29,16 @@ with_good Malformed request more = more
 abbrev pub answered : UnitPlan → (ℕ → Bool) → (ℕ → Bool) → Place → List (List ℕ) → List Exchange
 answered u skipped marks place [] = []
 answered u skipped marks place (a ∷ more) =
-    with_good (judge (bytes_at u place) a) (bytes_at u place) (answered u skipped marks (past_mark skipped marks (place_after u skipped place a)) more)
+    with_good (judge (bytes_at u place) a) (bytes_at u place)
+    (answered u skipped marks (past_mark skipped marks (place_after u skipped place a)) more)
 
 -- The blocks of a transfer (ISO 14229-1, service 0x36): the request of each has as many bytes as the limit, that of the last one
 -- as many as are left, and its counter is the one behind that of the block before it. Together they are these bytes.
 abbrev pub AreBlocks : ℕ → ℕ → List ℕ → List Exchange → Type 0
 AreBlocks limit counter bytes [] = bytes ≡ []
 AreBlocks limit counter bytes (e ∷ es) =
-    (1 ≤ length bytes) × (e.request ≡ 54 ∷ counter ∷ take (limit - 2) bytes) × AreBlocks limit (next_counter counter) (drop (limit - 2) bytes) es
+    (1 ≤ length bytes) × (e.request ≡ 54 ∷ counter ∷ take (limit - 2) bytes)
+    × AreBlocks limit (next_counter counter) (drop (limit - 2) bytes) es
 
 abbrev pub range_at : UnitPlan → Segment → List ℕ
 range_at u s = range_bytes u.width s.at (length s.body)
@@ -75,7 +77,8 @@ pub record IsLastPart (es : List Exchange) : Type 0 where
 abbrev pub AreSegmentParts : UnitPlan → (ℕ → Bool) → ℕ → List Segment → List Exchange → Type 0
 AreSegmentParts u skipped n [] es = IsLastPart es
 AreSegmentParts u skipped n (s ∷ ss) es =
-    (part : List Exchange) × (more : List Exchange) × (es ≡ part ++ more) × IsSegmentOrNone u (skipped n) s part × AreSegmentParts u skipped (n + 1) ss more
+    (part : List Exchange) × (more : List Exchange) × (es ≡ part ++ more)
+    × IsSegmentOrNone u (skipped n) s part × AreSegmentParts u skipped (n + 1) ss more
 
 -- the key of this seed was sent, and nothing else
 pub record IsKeySent (u : UnitPlan) (level : ℕ) (seed : List ℕ) (es : List Exchange) : Type 0 where
@@ -109,13 +112,16 @@ pub record IsWholeScript (u : UnitPlan) (skipped : ℕ → Bool) (es : List Exch
 abbrev pub AreIdents : List Wanted → List Exchange → Type 0
 AreIdents [] es = es ≡ []
 AreIdents (w ∷ ws) es =
-    (e : Exchange) × (more : List Exchange) × (es ≡ e ∷ more) × (e.request ≡ 34 ∷ big_endian 2 w.did) × (has_value w.values e.said ≡ true) × AreIdents ws more
+    (e : Exchange) × (more : List Exchange) × (es ≡ e ∷ more) × (e.request ≡ 34 ∷ big_endian 2 w.did)
+    × (has_value w.values e.said ≡ true) × AreIdents ws more
 
 -- An attempt behind Begun reaches its end only after each request of the whole script, but for the segments left out, was answered
 -- positively, in order.
 -- One before Begun reaches Begin only after each identifier was answered with an expected value, in order.
 pub record EndsMeanAll : Type 0 where
   pub done : (u : UnitPlan) (skipped marks : ℕ → Bool) (answers : List (List ℕ)) → IsAcceptedUnit u
-      → place_of u skipped marks AtProgram answers ≡ AtDone → IsWholeScript u skipped (answered u skipped marks AtProgram answers)
+      → place_of u skipped marks AtProgram answers ≡ AtDone
+      → IsWholeScript u skipped (answered u skipped marks AtProgram answers)
   pub begin : (u : UnitPlan) (skipped marks : ℕ → Bool) (answers : List (List ℕ))
-      → place_of u skipped marks (idents_from u.idents) answers ≡ AtBegin → AreIdents u.idents (answered u skipped marks (idents_from u.idents) answers)
+      → place_of u skipped marks (idents_from u.idents) answers ≡ AtBegin
+      → AreIdents u.idents (answered u skipped marks (idents_from u.idents) answers)

@@ -35,7 +35,8 @@ impl Model for Ready {
 
     ghost view = { λ r. record { tester = r.tester; number = r.number; unit = r.unit.value; spot = r.spot } };
 
-    ghost invariant = { λ r. IsReady (record { tester = r.tester; number = r.number; unit = r.unit.value; spot = r.spot }) r.frame };
+    ghost invariant = { λ r. IsReady
+        (record { tester = r.tester; number = r.number; unit = r.unit.value; spot = r.spot }) r.frame };
 }
 
 /// The request at a spot.
@@ -74,7 +75,12 @@ pub fn prepare(
 ) -> Result<Ready, NoMemory>
     requires accepted { IsAcceptedUnit unit.now }
     requires asks { IsAsking unit.now spot }
-    ensures { IfOk result (λ r. r ≡ record { tester = tester; number = number; unit = unit.now; spot = spot }) }
+    ensures { IfOk result (λ r. r ≡ record {
+      tester = tester;
+      number = number;
+      unit = unit.now;
+      spot = spot;
+    }) }
 {
     let body = request_by(alloc, unit, spot)?;
     let frame = message(alloc, tester, unit.address, body)?;

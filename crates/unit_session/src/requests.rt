@@ -60,7 +60,8 @@ fn block(
     requires sent { sent < length body.now }
     requires few { length body.now ≤ 16777216 }
     requires low { 3 ≤ limit }
-    ensures { IfOk result (λ b. b ≡ spelled (Request.Transfer counter (take (limit - 2) (drop sent body.now)))) }
+    ensures { IfOk result (λ b. b ≡ spelled
+        (Request.Transfer counter (take (limit - 2) (drop sent body.now)))) }
 {
     let end = body.len().min(sent + (usize::from(limit) - 2));
     write::transfer(alloc, counter, &body[sent..end])

@@ -139,7 +139,8 @@ impl UnitSession {
 
     /// Where it stands, by numbers.
     pub fn spot(&self) -> Spot
-        ensures { (u : UnitPlan) → IsAcceptedUnit u → IsOf u self.now → IsSpotOf u (talk_of u self.now).place result }
+        ensures { (u : UnitPlan) → IsAcceptedUnit u → IsOf u self.now
+            → IsSpotOf u (talk_of u self.now).place result }
     {
         spot_at(self.stage)
     }
@@ -158,7 +159,8 @@ impl UnitSession {
     pub fn sent(&mut self, tick: u64)
         ensures talk { (u : UnitPlan) → talk_of u self.new ≡ talk_sent tick (talk_of u self.old) }
         ensures begun { is_begun self.new ≡ is_begun self.old }
-        ensures of { (u : UnitPlan) → needs_request (talk_of u self.old).place ≡ true → IsOf u self.old → IsOf u self.new }
+        ensures of { (u : UnitPlan) → needs_request (talk_of u self.old).place ≡ true → IsOf u self.old
+            → IsOf u self.new }
     {
         self.awaiting = true;
         self.since = tick;
@@ -178,7 +180,8 @@ impl UnitSession {
     /// A response pending: the 201st to one sending ends the conversation.
     fn pending(&mut self, sid: u8, tick: u64)
         requires { (talk_of_any self.old).pendings ≤ 200 }
-        ensures talk { (u : UnitPlan) → sid ≡ sid_at u (talk_of u self.old) → talk_of u self.new ≡ talk_judged u tick Pending (talk_of u self.old) }
+        ensures talk { (u : UnitPlan) → sid ≡ sid_at u (talk_of u self.old)
+            → talk_of u self.new ≡ talk_judged u tick Pending (talk_of u self.old) }
         ensures begun { is_begun self.new ≡ is_begun self.old }
         ensures of { (u : UnitPlan) → IsOf u self.old → IsOf u self.new }
     {
@@ -193,7 +196,8 @@ impl UnitSession {
     /// A busy answer: the request is sent again, and the 21st ends the conversation.
     fn busy(&mut self, sid: u8)
         requires { (talk_of_any self.old).busies ≤ 20 }
-        ensures talk { (u : UnitPlan) (tick : ℕ) → sid ≡ sid_at u (talk_of u self.old) → talk_of u self.new ≡ talk_judged u tick Busy (talk_of u self.old) }
+        ensures talk { (u : UnitPlan) (tick : ℕ) → sid ≡ sid_at u (talk_of u self.old)
+            → talk_of u self.new ≡ talk_judged u tick Busy (talk_of u self.old) }
         ensures begun { is_begun self.new ≡ is_begun self.old }
         ensures of { (u : UnitPlan) → IsOf u self.old → IsOf u self.new }
     {
@@ -257,7 +261,8 @@ impl UnitSession {
         requires accepted { IsAcceptedUnit unit.now }
         requires of { IsOf unit.now self.old }
         requires wait { ask_of unit.now (talk_of unit.now self.old) ≡ Ask.Wait }
-        ensures talk { talk_of unit.now self.new ≡ talk_hears unit.now tick (Reply reply.now) (talk_of unit.now self.old) }
+        ensures talk { talk_of unit.now self.new ≡ talk_hears unit.now tick (Reply reply.now)
+            (talk_of unit.now self.old) }
         ensures begun { is_begun self.new ≡ is_begun self.old }
         ensures of { IsOf unit.now self.new }
     {
@@ -267,7 +272,8 @@ impl UnitSession {
 
     /// The gateway could not deliver the request (ISO 13400-2, payload type 0x8003).
     pub fn nack(&mut self, code: u8)
-        ensures talk { (u : UnitPlan) (tick : ℕ) → talk_of u self.new ≡ talk_hears u tick (Nacked code) (talk_of u self.old) }
+        ensures talk { (u : UnitPlan) (tick : ℕ)
+            → talk_of u self.new ≡ talk_hears u tick (Nacked code) (talk_of u self.old) }
         ensures begun { is_begun self.new ≡ is_begun self.old }
         ensures of { (u : UnitPlan) → IsOf u self.old → IsOf u self.new }
     {
@@ -277,7 +283,8 @@ impl UnitSession {
     /// A poll for this unit brought nothing; `tick` is the tick at its end. It ends the conversation 1,000 ticks or
     /// more after the last request or response pending.
     pub fn quiet(&mut self, tick: u64)
-        ensures talk { (u : UnitPlan) → needs_request (talk_of u self.old).place ≡ true → talk_of u self.new ≡ talk_quiet u tick (talk_of u self.old) }
+        ensures talk { (u : UnitPlan) → needs_request (talk_of u self.old).place ≡ true
+            → talk_of u self.new ≡ talk_quiet u tick (talk_of u self.old) }
         ensures begun { is_begun self.new ≡ is_begun self.old }
         ensures of { (u : UnitPlan) → IsOf u self.old → IsOf u self.new }
     {

@@ -30,7 +30,8 @@ behind_turn t (Pending ticks until) = over t
 
 -- behind a request with this service byte; one that still waits has its number lowered
 abbrev pub lowered : ℕ → TroubleSpec → TroubleSpec
-lowered sid t = if t.sid == sid then (if nat_lt 1 t.nth then record t { nth = t.nth - 1 } else behind_turn t t.act) else t
+lowered sid t =
+    if t.sid == sid then (if nat_lt 1 t.nth then record t { nth = t.nth - 1 } else behind_turn t t.act) else t
 
 abbrev pub remains : TroubleSpec → Bool
 remains t = nat_lt 0 t.nth

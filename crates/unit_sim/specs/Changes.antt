@@ -53,7 +53,8 @@ MayChange (Checked ranges) u = IsTrue (all_ranges ranges.items)
 MayChange Passed u = Unit {0}
 MayChange (Downloads at size) u = IsOpenRange at size u.memory
 MayChange (Uploads at size) u = IsOpenRange at size u.memory
-MayChange (Written body) u = MatchOption u.transfer ⊥ (λ t. (length body.now ≤ t.rest) × (length body.now ≤ 65533))
+MayChange (Written body) u =
+    MatchOption u.transfer ⊥ (λ t. (length body.now ≤ t.rest) × (length body.now ≤ 65533))
 MayChange (Given size) u = MatchOption u.transfer ⊥ (λ t. (size ≤ t.rest) × (size ≤ 65533))
 MayChange Closed u = Unit {0}
 MayChange (Setting off) u = Unit {0}

@@ -25,7 +25,11 @@ at_once step tick = (step.0, reply_at tick step.1 ∷ [])
 
 -- in place of the obedient step, the unit stays as it was, the departure is counted, and what is said comes at once
 abbrev pub departs : Departure → ControlUnit → List ℕ → ℕ → Done
-departs kind u bytes tick = (record u { counts = raised kind u.counts }, last_replies (said_by kind (sid_of bytes)) tick)
+departs kind u bytes tick = (
+  record u { counts = raised kind u.counts },
+  last_replies
+      (said_by kind (sid_of bytes)) tick,
+)
 
 -- no refusal is one that says busy or pending, nor one that the unit says anyway
 abbrev pub refuses : ℕ → ControlUnit → ControlUnit × List ℕ → List ℕ → ℕ → Done
@@ -43,7 +47,8 @@ is_strange Malformed = true
 
 -- an answer that is in the form is not odd
 abbrev pub strays : List ℕ → ControlUnit → ControlUnit × List ℕ → List ℕ → ℕ → Done
-strays body u step bytes tick = if is_strange (judge bytes body) then departs (Odd body) u bytes tick else at_once step tick
+strays body u step bytes tick =
+    if is_strange (judge bytes body) then departs (Odd body) u bytes tick else at_once step tick
 
 abbrev pub routine_in : Request → Option ℕ
 routine_in (request.Routine id option) = Some id
@@ -69,7 +74,8 @@ routine_of (Some r) = routine_in r
 abbrev pub fails : Option ℕ → ℕ → ControlUnit → ControlUnit × List ℕ → List ℕ → ℕ → Done
 fails None status u step bytes tick = at_once step tick
 fails (Some id) status u step bytes tick =
-    if not (status == 0) && is_good (judge bytes step.1) then departs (Fails (routine_bytes id status)) u bytes tick else at_once step tick
+    if not (status == 0) && is_good (judge bytes step.1)
+    then departs (Fails (routine_bytes id status)) u bytes tick else at_once step tick
 
 -- an answer is late by 1,000 ticks or more
 abbrev pub is_long : ℕ → Bool
@@ -85,9 +91,13 @@ turns from every (suc n) = (from + every) ∷ turns (from + every) every n
 
 -- the obedient step, its answer behind responses pending: so many, and more than 200 stall; or it is held
 abbrev pub waits : ℕ → Until → ControlUnit × List ℕ → List ℕ → ℕ → Done
-waits ticks (Times times) step bytes tick =
-    (timed (is_long ticks) (nat_lt 200 times) step.0, pendings (sid_of bytes) (turns tick ticks times) ++ (reply_at (tick + ticks * times) step.1 ∷ []))
-waits ticks (Heard unit sid) step bytes tick = (step.0, record { due = Held ticks unit sid; body = step.1 } ∷ [])
+waits ticks (Times times) step bytes tick = (
+  timed (is_long ticks) (nat_lt 200 times) step.0,
+  pendings (sid_of bytes)
+      (turns tick ticks times) ++ (reply_at (tick + ticks * times) step.1 ∷ []),
+)
+waits ticks (Heard unit sid) step bytes tick =
+    (step.0, record { due = Held ticks unit sid; body = step.1 } ∷ [])
 
 -- by the trouble that acts
 abbrev pub acted : Act → ControlUnit → ControlUnit × List ℕ → List ℕ → ℕ → Done

@@ -36,7 +36,8 @@ is_for n nth a = nat_le nth n && nat_lt n (nth + span a)
 -- of the list as it was made, the first that is for the next request with this service byte, behind these
 abbrev pub first_for : ℕ → List ℕ → List TroubleSpec → Option Act
 first_for sid before [] = None
-first_for sid before (t ∷ ts) = if t.sid == sid && is_for (heard_with sid before + 1) t.nth t.act then Some t.act else first_for sid before ts
+first_for sid before (t ∷ ts) = if t.sid == sid && is_for (heard_with sid before + 1) t.nth t.act
+    then Some t.act else first_for sid before ts
 
 -- what is done, however often yet
 abbrev pub deed : Act → Act
@@ -50,7 +51,9 @@ deed (Pending ticks until) = Pending ticks until
 
 -- of a trouble under way, behind so many requests of its service, the rest is for the next one
 abbrev pub rest_under_way : TroubleSpec → Act → ℕ → List TroubleSpec
-rest_under_way t (Busy times) k = if nat_lt (k + 1) (t.nth + times) then record t { nth = 1; act = Busy (t.nth + times - (k + 1)) } ∷ [] else []
+rest_under_way t (Busy times) k =
+    if nat_lt (k + 1) (t.nth + times) then record t { nth = 1; act = Busy (t.nth + times - (k + 1)) } ∷ []
+    else []
 rest_under_way t (Refuse nrc) k = []
 rest_under_way t (Odd bytes) k = []
 rest_under_way t (Fail status) k = []
@@ -69,9 +72,13 @@ rests before (t ∷ ts) = rest_of t (heard_with t.sid before) ++ rests before ts
 
 -- each trouble of the list is counted by itself, over the requests of its service; the first that is for a request acts
 pub record AreCounted : Type 0 where
-  pub remain : (before : List ℕ) (ts : List TroubleSpec) → IsTrue (all_troubles ts) → behind before ts ≡ rests before ts
-  pub acts : (sid : ℕ) (before : List ℕ) (ts : List TroubleSpec) → IsTrue (all_troubles ts) → option_map deed (acting sid (behind before ts)) ≡ option_map deed (first_for sid before ts)
+  pub remain : (before : List ℕ) (ts : List TroubleSpec) → IsTrue (all_troubles ts)
+      → behind before ts ≡ rests before ts
+  pub acts : (sid : ℕ) (before : List ℕ) (ts : List TroubleSpec) → IsTrue (all_troubles ts)
+      → option_map deed (acting sid (behind before ts)) ≡ option_map deed (first_for sid before ts)
 
 -- a step with its answer held is a step with the answer at once
 abbrev pub MayCome : Type 0
-MayCome = (old new : ControlUnit) (bytes : List ℕ) (tick every unit sid : ℕ) (body : List ℕ) → UnitStep old bytes tick (record { due = Held every unit sid; body = body } ∷ []) new → UnitStep old bytes tick (reply_at tick body ∷ []) new
+MayCome = (old new : ControlUnit) (bytes : List ℕ) (tick every unit sid : ℕ) (body : List ℕ)
+    → UnitStep old bytes tick (record { due = Held every unit sid; body = body } ∷ []) new
+    → UnitStep old bytes tick (reply_at tick body ∷ []) new

@@ -26,7 +26,8 @@ raised_by raise.Odd c = raised (Odd []) c
 raised_by raise.Failed c = raised (Fails []) c
 raised_by raise.Muted c = raised Mutes c
 raised_by raise.Busy c = raised Busies c
-raised_by (raise.Timed late stalled) c = record c { late = raise_if late c.late; stalled = raise_if stalled c.stalled }
+raised_by (raise.Timed late stalled) c =
+    record c { late = raise_if late c.late; stalled = raise_if stalled c.stalled }
 
 abbrev pub nacked_by : ℕ → Counts → Counts
 nacked_by code c = record c { nacked = raise_code code c.nacked }

@@ -34,4 +34,10 @@ begun up at size = record { up = up; at = at; rest = size; counter = 1; last = N
 
 -- behind a block of so many bytes
 abbrev pub gone_on : Transfer → ℕ → Transfer
-gone_on t size = record { up = t.up; at = t.at + size; rest = t.rest - size; counter = next_counter t.counter; last = Some size }
+gone_on t size = record {
+  up = t.up;
+  at = t.at + size;
+  rest = t.rest - size;
+  counter = next_counter t.counter;
+  last = Some size;
+}

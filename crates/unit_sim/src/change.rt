@@ -149,7 +149,8 @@ fn behind(t: Transfer, size: u64) -> Transfer
 
 fn write(unit: &mut Unit, body: &[u8])
     requires { MayChange (Change.Written body) unit.old }
-    ensures { control_unit unit.new ≡ written_in (control_unit unit.old) (open_of unit.old.transfer) body.now }
+    ensures { control_unit unit.new ≡ written_in (control_unit unit.old)
+        (open_of unit.old.transfer) body.now }
 {
     let Some(t) = unit.transfer else {
         unreachable!();

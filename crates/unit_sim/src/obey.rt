@@ -22,7 +22,8 @@ use unit_model::Unit;
 
 fn obey<'a>(alloc: Global, unit: &Unit, request: &'a Request) -> Result<Step<'a>, NoMemory>
     requires { HasForm request.now }
-    ensures is { IfOk result (λ s. stepped s (control_unit unit.now) ≡ obey (control_unit unit.now) request.now) }
+    ensures is { IfOk result (λ s. stepped s (control_unit unit.now) ≡ obey
+        (control_unit unit.now) request.now) }
     ensures may { IfOk result (λ s. MayChange s.change unit.now) }
 {
     match request {
@@ -54,7 +55,8 @@ fn is_service(sid: u8) -> bool
 
 /// The answer to bytes that spell no request.
 fn unknown<'a>(alloc: Global, unit: &Unit, sid: u8) -> Result<Step<'a>, NoMemory>
-    ensures is { IfOk result (λ s. stepped s (control_unit unit.now) ≡ obey_in (control_unit unit.now) sid None) }
+    ensures is { IfOk result (λ s. stepped s (control_unit unit.now) ≡ obey_in
+        (control_unit unit.now) sid None) }
     ensures may { IfOk result (λ s. MayChange s.change unit.now) }
 {
     let nrc = if is_service(sid) {
@@ -73,7 +75,8 @@ pub(crate) fn obedient<'a>(
     asked: &'a Asked<'a>,
 ) -> Result<Step<'a>, NoMemory>
     requires { IsFormed (asked_of asked.now) }
-    ensures is { IfOk result (λ s. stepped s (control_unit unit.now) ≡ obey_in (control_unit unit.now) sid (asked_of asked.now)) }
+    ensures is { IfOk result (λ s. stepped s (control_unit unit.now) ≡ obey_in (control_unit unit.now) sid
+        (asked_of asked.now)) }
     ensures may { IfOk result (λ s. MayChange s.change unit.now) }
 {
     match asked {

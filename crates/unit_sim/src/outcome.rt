@@ -63,7 +63,8 @@ fn obeyed<'a>(
 ) -> Result<Outcome<'a>, NoMemory>
     ensures change { IfOk result (λ o. o.change ≡ step.entry.change) }
     ensures raise { IfOk result (λ o. o.raise ≡ raise) }
-    ensures replies { IfOk result (λ o. o.replies.items ≡ record { due = due; body = step.entry.answer } ∷ []) }
+    ensures replies { IfOk result (λ o. o.replies.items
+        ≡ record { due = due; body = step.entry.answer } ∷ []) }
 {
     let Step { change, answer } = step;
     Ok(Outcome {
@@ -111,7 +112,8 @@ fn refuse<'a>(
     heard: Heard<'_>,
 ) -> Result<Outcome<'a>, NoMemory>
     requires { IsHeard heard }
-    ensures is { IfOk result (λ o. (u : ControlUnit) → outcome_of o u ≡ refuses nrc u (stepped step.entry u) heard.entry.bytes.now heard.entry.tick) }
+    ensures is { IfOk result (λ o. (u : ControlUnit)
+        → outcome_of o u ≡ refuses nrc u (stepped step.entry u) heard.entry.bytes.now heard.entry.tick) }
     ensures change { IfOk result (λ o. IsChange o.change step.entry.change) }
 {
     if nrc == BUSY_REPEAT_REQUEST
@@ -191,7 +193,8 @@ fn stray<'a>(
     heard: Heard<'_>,
 ) -> Result<Outcome<'a>, NoMemory>
     requires { IsHeard heard }
-    ensures is { IfOk result (λ o. (u : ControlUnit) → outcome_of o u ≡ strays body.now u (stepped step.entry u) heard.entry.bytes.now heard.entry.tick) }
+    ensures is { IfOk result (λ o. (u : ControlUnit)
+        → outcome_of o u ≡ strays body.now u (stepped step.entry u) heard.entry.bytes.now heard.entry.tick) }
     ensures change { IfOk result (λ o. IsChange o.change step.entry.change) }
 {
     if !is_odd(heard, body) {
@@ -214,7 +217,8 @@ fn routine_of(asked: &Asked<'_>) -> Option<u16>
 /// The answer to what was heard is a good one.
 fn is_good(heard: Heard<'_>, answer: &[u8]) -> bool
     requires { IsHeard heard }
-    ensures { (r : Request) → request_of heard.entry.bytes.now ≡ Some r → result ≡ is_good (judge heard.entry.bytes.now answer.now) }
+    ensures { (r : Request) → request_of heard.entry.bytes.now ≡ Some r
+        → result ≡ is_good (judge heard.entry.bytes.now answer.now) }
 {
     match awaited(heard.asked) {
         Some(awaited) => is_accepted(judge(awaited, answer)),
@@ -229,7 +233,9 @@ fn fail<'a>(
     heard: Heard<'_>,
 ) -> Result<Outcome<'a>, NoMemory>
     requires { IsHeard heard }
-    ensures is { IfOk result (λ o. (u : ControlUnit) → outcome_of o u ≡ fails (routine_of (request_of heard.entry.bytes.now)) status u (stepped step.entry u) heard.entry.bytes.now heard.entry.tick) }
+    ensures is { IfOk result (λ o. (u : ControlUnit)
+        → outcome_of o u ≡ fails (routine_of (request_of heard.entry.bytes.now)) status u
+        (stepped step.entry u) heard.entry.bytes.now heard.entry.tick) }
     ensures change { IfOk result (λ o. IsChange o.change step.entry.change) }
 {
     let Some(id) = routine_of(heard.asked) else {
@@ -262,7 +268,8 @@ fn is_long(ticks: u32) -> bool
 
 fn delay<'a>(alloc: Global, ticks: u32, step: Step<'a>, tick: u64) -> Result<Outcome<'a>, NoMemory>
     requires { tick < 2 ^ 63 }
-    ensures is { IfOk result (λ o. (u : ControlUnit) → outcome_of o u ≡ delays ticks (stepped step.entry u) tick) }
+    ensures is { IfOk result (λ o. (u : ControlUnit)
+        → outcome_of o u ≡ delays ticks (stepped step.entry u) tick) }
     ensures change { IfOk result (λ o. IsChange o.change step.entry.change) }
 {
     let raise = Raise::Timed {
@@ -304,7 +311,9 @@ fn pend<'a>(
 ) -> Result<Outcome<'a>, NoMemory>
     requires is { IsHeard heard }
     requires early { heard.tick < 2 ^ 63 }
-    ensures is { IfOk result (λ o. (u : ControlUnit) → outcome_of o u ≡ waits ticks (Until.Times times) (stepped step.entry u) heard.entry.bytes.now heard.entry.tick) }
+    ensures is { IfOk result (λ o. (u : ControlUnit)
+        → outcome_of o u ≡ waits ticks (Until.Times times)
+        (stepped step.entry u) heard.entry.bytes.now heard.entry.tick) }
     ensures change { IfOk result (λ o. IsChange o.change step.entry.change) }
 {
     let mut replies = pendings(alloc, heard.sid, heard.tick, ticks, times)?;
@@ -331,7 +340,8 @@ fn wait<'a>(
 ) -> Result<Outcome<'a>, NoMemory>
     requires is { IsHeard heard }
     requires early { heard.tick < 2 ^ 63 }
-    ensures is { IfOk result (λ o. (u : ControlUnit) → outcome_of o u ≡ waits ticks until (stepped step.entry u) heard.entry.bytes.now heard.entry.tick) }
+    ensures is { IfOk result (λ o. (u : ControlUnit)
+        → outcome_of o u ≡ waits ticks until (stepped step.entry u) heard.entry.bytes.now heard.entry.tick) }
     ensures change { IfOk result (λ o. IsChange o.change step.entry.change) }
 {
     match until {
@@ -349,7 +359,8 @@ fn wait<'a>(
 
 fn busy<'a>(alloc: Global, heard: Heard<'_>) -> Result<Outcome<'a>, NoMemory>
     requires { IsHeard heard }
-    ensures is { IfOk result (λ o. (u : ControlUnit) → outcome_of o u ≡ departs Busies u heard.entry.bytes.now heard.entry.tick) }
+    ensures is { IfOk result (λ o. (u : ControlUnit)
+        → outcome_of o u ≡ departs Busies u heard.entry.bytes.now heard.entry.tick) }
     ensures change { IfOk result (λ o. o.change ≡ Change.Nothing) }
 {
     let body = negative(alloc, heard.sid, BUSY_REPEAT_REQUEST)?;
@@ -364,7 +375,8 @@ fn by_act<'a>(
 ) -> Result<Outcome<'a>, NoMemory>
     requires is { IsHeard heard }
     requires early { heard.tick < 2 ^ 63 }
-    ensures is { IfOk result (λ o. (u : ControlUnit) → outcome_of o u ≡ acted act.now u (stepped step.entry u) heard.entry.bytes.now heard.entry.tick) }
+    ensures is { IfOk result (λ o. (u : ControlUnit)
+        → outcome_of o u ≡ acted act.now u (stepped step.entry u) heard.entry.bytes.now heard.entry.tick) }
     ensures change { IfOk result (λ o. IsChange o.change step.entry.change) }
 {
     match act {
@@ -387,7 +399,9 @@ pub(crate) fn decide<'a>(
 ) -> Result<Outcome<'a>, NoMemory>
     requires is { IsHeard heard }
     requires early { heard.tick < 2 ^ 63 }
-    ensures is { IfOk result (λ o. (u : ControlUnit) → outcome_of o u ≡ acted_in (option_map (λ a. a.now) act.entry) u (stepped step.entry u) heard.entry.bytes.now heard.entry.tick) }
+    ensures is { IfOk result (λ o. (u : ControlUnit)
+        → outcome_of o u ≡ acted_in (option_map (λ a. a.now) act.entry) u
+        (stepped step.entry u) heard.entry.bytes.now heard.entry.tick) }
     ensures change { IfOk result (λ o. IsChange o.change step.entry.change) }
 {
     match act {

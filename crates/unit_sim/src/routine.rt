@@ -95,7 +95,8 @@ pub(crate) fn routine_answer(alloc: Global, id: u16, status: u8) -> Result<Bytes
 }
 
 fn erase<'a>(alloc: Global, unit: &Unit, option: &[u8]) -> Result<Step<'a>, NoMemory>
-    ensures is { IfOk result (λ s. stepped s (control_unit unit.now) ≡ erase_in (control_unit unit.now) (range_of option.now)) }
+    ensures is { IfOk result (λ s. stepped s (control_unit unit.now) ≡ erase_in (control_unit unit.now)
+        (range_of option.now)) }
     ensures may { IfOk result (λ s. MayChange s.change unit.now) }
 {
     let Some(p) = range(option) else {
@@ -140,7 +141,8 @@ fn with_range(
 }
 
 fn check<'a>(alloc: Global, unit: &Unit, id: u16, option: &[u8]) -> Result<Step<'a>, NoMemory>
-    ensures is { IfOk result (λ s. stepped s (control_unit unit.now) ≡ check_in (control_unit unit.now) id (range_of option.now)) }
+    ensures is { IfOk result (λ s. stepped s (control_unit unit.now) ≡ check_in (control_unit unit.now) id
+        (range_of option.now)) }
     ensures may { IfOk result (λ s. MayChange s.change unit.now) }
 {
     let Some(p) = range(option) else {
@@ -178,7 +180,8 @@ fn check<'a>(alloc: Global, unit: &Unit, id: u16, option: &[u8]) -> Result<Step<
 
 /// The final check: it passes where some range was found equal.
 fn finish<'a>(alloc: Global, unit: &Unit) -> Result<Step<'a>, NoMemory>
-    ensures is { IfOk result (λ s. stepped s (control_unit unit.now) ≡ finish_in (control_unit unit.now) (control_unit unit.now).checked) }
+    ensures is { IfOk result (λ s. stepped s (control_unit unit.now) ≡ finish_in (control_unit unit.now)
+        (control_unit unit.now).checked) }
     ensures may { IfOk result (λ s. MayChange s.change unit.now) }
 {
     if unit.checked.is_empty() {
@@ -202,7 +205,8 @@ pub(crate) fn routine<'a>(
     id: u16,
     option: &[u8],
 ) -> Result<Step<'a>, NoMemory>
-    ensures is { IfOk result (λ s. stepped s (control_unit unit.now) ≡ obey (control_unit unit.now) (Request.Routine id option.now)) }
+    ensures is { IfOk result (λ s. stepped s (control_unit unit.now) ≡ obey (control_unit unit.now)
+        (Request.Routine id option.now)) }
     ensures may { IfOk result (λ s. MayChange s.change unit.now) }
 {
     if unit.session != 2 {

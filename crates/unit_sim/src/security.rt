@@ -56,7 +56,8 @@ fn given(alloc: Global, unit: &Unit) -> Result<Bytes, NoMemory>
 
 /// A seed of this level.
 pub(crate) fn seed<'a>(alloc: Global, unit: &Unit, level: u8) -> Result<Step<'a>, NoMemory>
-    ensures is { IfOk result (λ s. stepped s (control_unit unit.now) ≡ obey (control_unit unit.now) (Request.Seed level)) }
+    ensures is { IfOk result (λ s. stepped s (control_unit unit.now) ≡ obey (control_unit unit.now)
+        (Request.Seed level)) }
     ensures may { IfOk result (λ s. MayChange s.change unit.now) }
 {
     if unit.session != 2 {
@@ -132,7 +133,8 @@ pub(crate) fn key<'a>(
     key: &[u8],
 ) -> Result<Step<'a>, NoMemory>
     requires { level < 255 }
-    ensures is { IfOk result (λ s. stepped s (control_unit unit.now) ≡ obey (control_unit unit.now) (Request.Key level key.now)) }
+    ensures is { IfOk result (λ s. stepped s (control_unit unit.now) ≡ obey (control_unit unit.now)
+        (Request.Key level key.now)) }
     ensures may { IfOk result (λ s. MayChange s.change unit.now) }
 {
     if unit.session != 2 {

@@ -20,7 +20,8 @@ use unit_model::Unit;
 /// DiagnosticSessionControl, with the times P2 of 50 ms and P2* of 5 s in the answer.
 pub(crate) fn session<'a>(alloc: Global, unit: &Unit, kind: u8) -> Result<Step<'a>, NoMemory>
     requires { IsTrue (is_kind kind) }
-    ensures is { IfOk result (λ s. stepped s (control_unit unit.now) ≡ obey (control_unit unit.now) (Request.Session kind)) }
+    ensures is { IfOk result (λ s. stepped s (control_unit unit.now) ≡ obey (control_unit unit.now)
+        (Request.Session kind)) }
     ensures may { IfOk result (λ s. MayChange s.change unit.now) }
 {
     let first = DIAGNOSTIC_SESSION_CONTROL + POSITIVE_RESPONSE;
@@ -33,7 +34,8 @@ pub(crate) fn session<'a>(alloc: Global, unit: &Unit, kind: u8) -> Result<Step<'
 
 /// ECUReset: the unit is in its default session again.
 pub(crate) fn reset<'a>(alloc: Global, unit: &Unit) -> Result<Step<'a>, NoMemory>
-    ensures is { IfOk result (λ s. stepped s (control_unit unit.now) ≡ obey (control_unit unit.now) Request.Reset) }
+    ensures is { IfOk result (λ s. stepped s (control_unit unit.now) ≡ obey
+        (control_unit unit.now) Request.Reset) }
     ensures may { IfOk result (λ s. MayChange s.change unit.now) }
 {
     let answer = Bytes::from_slice(alloc, &[ECU_RESET + POSITIVE_RESPONSE, 0x01])?;
@@ -56,7 +58,8 @@ fn ident<'a>(idents: &'a [(u16, Bytes)], did: u16) -> Option<&'a Bytes>
 
 /// ReadDataByIdentifier, of one identifier.
 pub(crate) fn read_id<'a>(alloc: Global, unit: &Unit, did: u16) -> Result<Step<'a>, NoMemory>
-    ensures is { IfOk result (λ s. stepped s (control_unit unit.now) ≡ obey (control_unit unit.now) (Request.ReadId did)) }
+    ensures is { IfOk result (λ s. stepped s (control_unit unit.now) ≡ obey (control_unit unit.now)
+        (Request.ReadId did)) }
     ensures may { IfOk result (λ s. MayChange s.change unit.now) }
 {
     let Some(value) = ident(unit.idents.as_slice(), did) else {
@@ -74,7 +77,8 @@ pub(crate) fn read_id<'a>(alloc: Global, unit: &Unit, did: u16) -> Result<Step<'
 
 /// ControlDTCSetting, which the default session does not have.
 pub(crate) fn setting<'a>(alloc: Global, unit: &Unit, off: bool) -> Result<Step<'a>, NoMemory>
-    ensures is { IfOk result (λ s. stepped s (control_unit unit.now) ≡ obey (control_unit unit.now) (Request.Setting off)) }
+    ensures is { IfOk result (λ s. stepped s (control_unit unit.now) ≡ obey (control_unit unit.now)
+        (Request.Setting off)) }
     ensures may { IfOk result (λ s. MayChange s.change unit.now) }
 {
     if unit.session == 1 {
@@ -94,7 +98,8 @@ pub(crate) fn setting<'a>(alloc: Global, unit: &Unit, off: bool) -> Result<Step<
 
 /// CommunicationControl, which the default session does not have.
 pub(crate) fn messages<'a>(alloc: Global, unit: &Unit, off: bool) -> Result<Step<'a>, NoMemory>
-    ensures is { IfOk result (λ s. stepped s (control_unit unit.now) ≡ obey (control_unit unit.now) (Request.Messages off)) }
+    ensures is { IfOk result (λ s. stepped s (control_unit unit.now) ≡ obey (control_unit unit.now)
+        (Request.Messages off)) }
     ensures may { IfOk result (λ s. MayChange s.change unit.now) }
 {
     if unit.session == 1 {

@@ -96,7 +96,8 @@ impl UnitSim {
 
     /// The next reply that waits, taken out; None exactly where none waits.
     pub fn reply(&mut self) -> Option<UnitReply>
-        ensures { MatchOption result (((sim_of self.old).waiting ≡ []) × (sim_of self.new ≡ sim_of self.old)) (λ r. Takes r (sim_of self.old) (sim_of self.new)) }
+        ensures { MatchOption result (((sim_of self.old).waiting ≡ []) × (sim_of self.new ≡ sim_of self.old))
+            (λ r. Takes r (sim_of self.old) (sim_of self.new)) }
     {
         self.waiting.pop_front()
     }
@@ -118,14 +119,16 @@ impl UnitSim {
 
     /// Counts a held answer that has more than 200 responses pending before it.
     pub fn stalled(&mut self)
-        ensures { sim_of self.new ≡ with_counts (stalled_more (sim_of self.old).unit.counts) (sim_of self.old) }
+        ensures { sim_of self.new ≡ with_counts (stalled_more (sim_of self.old).unit.counts)
+            (sim_of self.old) }
     {
         self.tally.stalled();
     }
 
     /// Counts a message to the unit that the gateway refused with this code.
     pub fn nacked(&mut self, code: u8)
-        ensures { sim_of self.new ≡ with_counts (nacked_by code (sim_of self.old).unit.counts) (sim_of self.old) }
+        ensures { sim_of self.new ≡ with_counts (nacked_by code (sim_of self.old).unit.counts)
+            (sim_of self.old) }
     {
         self.tally.nack(code);
     }

@@ -60,7 +60,8 @@ pub(crate) fn download<'a>(
     size: u64,
 ) -> Result<Step<'a>, NoMemory>
     requires { IsLow at size }
-    ensures is { IfOk result (λ s. stepped s (control_unit unit.now) ≡ obey (control_unit unit.now) (Request.Download _width at size)) }
+    ensures is { IfOk result (λ s. stepped s (control_unit unit.now) ≡ obey (control_unit unit.now)
+        (Request.Download _width at size)) }
     ensures may { IfOk result (λ s. MayChange s.change unit.now) }
 {
     if unit.session != 2 {
@@ -93,7 +94,8 @@ pub(crate) fn upload<'a>(
     size: u64,
 ) -> Result<Step<'a>, NoMemory>
     requires { IsLow at size }
-    ensures is { IfOk result (λ s. stepped s (control_unit unit.now) ≡ obey (control_unit unit.now) (Request.Upload _width at size)) }
+    ensures is { IfOk result (λ s. stepped s (control_unit unit.now) ≡ obey (control_unit unit.now)
+        (Request.Upload _width at size)) }
     ensures may { IfOk result (λ s. MayChange s.change unit.now) }
 {
     if unit.session != 2 {
@@ -140,7 +142,8 @@ pub(crate) fn receive<'a>(
     body: &'a [u8],
 ) -> Result<Step<'a>, NoMemory>
     requires { length body.now ≤ 65533 }
-    ensures is { IfOk result (λ s. stepped s (control_unit unit.now) ≡ obey (control_unit unit.now) (Request.Transfer counter body.now)) }
+    ensures is { IfOk result (λ s. stepped s (control_unit unit.now) ≡ obey (control_unit unit.now)
+        (Request.Transfer counter body.now)) }
     ensures may { IfOk result (λ s. MayChange s.change unit.now) }
 {
     if unit.session != 2 {
@@ -189,7 +192,8 @@ fn block<'a>(
     size: u64,
 ) -> Result<Step<'a>, NoMemory>
     requires { IsBlock at size unit.now.memory }
-    ensures { IfOk result (λ s. (s.change ≡ change.entry) × (s.answer ≡ 118 ∷ counter ∷ bytes_of at size unit.now.memory)) }
+    ensures { IfOk result (λ s. (s.change ≡ change.entry)
+        × (s.answer ≡ 118 ∷ counter ∷ bytes_of at size unit.now.memory)) }
 {
     let mut answer = Vec::with_capacity(alloc, 2 + size as usize)?;
     answer.extend_from_slice(&[TRANSFER_DATA + POSITIVE_RESPONSE, counter])?;
@@ -203,7 +207,8 @@ fn block<'a>(
 /// The last block once more.
 fn again<'a>(alloc: Global, unit: &Unit, t: &Transfer, counter: u8) -> Result<Step<'a>, NoMemory>
     requires { IsTrue (transfer_in unit.now.memory (Some t.now)) }
-    ensures { IfOk result (λ s. (s.change ≡ Change.Nothing) × (s.answer ≡ 118 ∷ counter ∷ block_again (control_unit unit.now) t.now)) }
+    ensures { IfOk result (λ s. (s.change ≡ Change.Nothing)
+        × (s.answer ≡ 118 ∷ counter ∷ block_again (control_unit unit.now) t.now)) }
 {
     match t.last {
         None => taken(alloc, Change::Nothing, counter),
@@ -221,7 +226,8 @@ fn block_up(unit: &Unit, t: &Transfer) -> u64
 
 /// TransferData that asks for a block; the block before it once more is given again.
 pub(crate) fn give<'a>(alloc: Global, unit: &Unit, counter: u8) -> Result<Step<'a>, NoMemory>
-    ensures is { IfOk result (λ s. stepped s (control_unit unit.now) ≡ obey (control_unit unit.now) (Request.Pull counter)) }
+    ensures is { IfOk result (λ s. stepped s (control_unit unit.now) ≡ obey (control_unit unit.now)
+        (Request.Pull counter)) }
     ensures may { IfOk result (λ s. MayChange s.change unit.now) }
 {
     if unit.session != 2 {
@@ -256,7 +262,8 @@ pub(crate) fn give<'a>(alloc: Global, unit: &Unit, counter: u8) -> Result<Step<'
 
 /// RequestTransferExit: of the transfer no byte may be left.
 pub(crate) fn exit<'a>(alloc: Global, unit: &Unit) -> Result<Step<'a>, NoMemory>
-    ensures is { IfOk result (λ s. stepped s (control_unit unit.now) ≡ obey (control_unit unit.now) Request.Exit) }
+    ensures is { IfOk result (λ s. stepped s (control_unit unit.now) ≡ obey
+        (control_unit unit.now) Request.Exit) }
     ensures may { IfOk result (λ s. MayChange s.change unit.now) }
 {
     if unit.session != 2 {

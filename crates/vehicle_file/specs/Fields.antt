@@ -97,7 +97,8 @@ an_object read d = if is_some (as_object d) then read d else refused
 -- behind these, of which the next is entry i
 abbrev pub entries_from : {A : Type 0} → (Data → Reading A) → List A → ℕ → Items → Reading (List A)
 entries_from read before i no_items = Ok before
-entries_from read before i (item d ds) = under (decimal i) (read d) >>= λ x. entries_from read (before ++ x ∷ []) (i + 1) ds
+entries_from read before i (item d ds) =
+    under (decimal i) (read d) >>= λ x. entries_from read (before ++ x ∷ []) (i + 1) ds
 
 abbrev pub list_with : {A : Type 0} → (Items → Reading A) → Option Items → Reading A
 list_with read None = refused
@@ -124,7 +125,8 @@ place d = of_form (as_str d >=> λ t. hex_text t >=> λ n. only_if (nat_lt n LIM
 
 -- bytes, one at least and at most so many
 abbrev pub bytes_to : ℕ → Data → Reading (List ℕ)
-bytes_to most d = of_form (as_str d >=> bytes_text >=> λ bytes. only_if (nat_le 1 (length bytes) && nat_le (length bytes) most) bytes)
+bytes_to most d = of_form (as_str d >=> bytes_text
+    >=> λ bytes. only_if (nat_le 1 (length bytes) && nat_le (length bytes) most) bytes)
 
 -- bytes, at most so many
 abbrev pub bytes_up_to : ℕ → Data → Reading (List ℕ)
@@ -146,7 +148,8 @@ text d = of_form (as_str d)
 
 -- "on" or "off": whether it is off
 abbrev pub off_in : List ℕ → Option Bool
-off_in t = if bytes_eq t (codes "on") then Some false else if bytes_eq t (codes "off") then Some true else None
+off_in t = if bytes_eq t (codes "on") then Some false else if bytes_eq t (codes "off") then Some true
+    else None
 
 abbrev pub is_off : Data → Reading Bool
 is_off d = of_form (as_str d >=> off_in)

@@ -31,10 +31,14 @@ vehicle_members o =
     needed (codes "entity") four o >>= λ entity.
     needed (codes "units") units o >>= λ us.
     chosen (codes "gateway") [] gate_troubles o >>= λ troubles.
-    Ok (record { gateway = record { entity = entity; gateway = troubles; units = map address_in us }; units = us })
+    Ok (record {
+      gateway = record { entity = entity; gateway = troubles; units = map address_in us };
+      units = us;
+    })
 
 abbrev pub is_vehicle_member : List ℕ → Bool
-is_vehicle_member name = bytes_eq name (codes "entity") || bytes_eq name (codes "units") || bytes_eq name (codes "gateway")
+is_vehicle_member name =
+    bytes_eq name (codes "entity") || bytes_eq name (codes "units") || bytes_eq name (codes "gateway")
 
 abbrev pub vehicle : Data → Reading VehicleSpec
 vehicle d = object_of is_vehicle_member vehicle_members d

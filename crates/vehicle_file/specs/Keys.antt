@@ -17,16 +17,19 @@ abbrev pub is_free_member : List ℕ → Bool
 is_free_member name = bytes_eq name (codes "rule")
 
 abbrev pub is_xor_member : List ℕ → Bool
-is_xor_member name = bytes_eq name (codes "rule") || bytes_eq name (codes "level") || bytes_eq name (codes "mask")
+is_xor_member name =
+    bytes_eq name (codes "rule") || bytes_eq name (codes "level") || bytes_eq name (codes "mask")
 
 abbrev pub is_digest_member : List ℕ → Bool
-is_digest_member name = bytes_eq name (codes "rule") || bytes_eq name (codes "level") || bytes_eq name (codes "length") || bytes_eq name (codes "secret")
+is_digest_member name = bytes_eq name (codes "rule") || bytes_eq name (codes "level")
+    || bytes_eq name (codes "length") || bytes_eq name (codes "secret")
 
 abbrev pub free : Data → Reading KeyRule
 free d = Ok Free
 
 abbrev pub xor : Data → Reading KeyRule
-xor d = needed (codes "level") level d >>= λ l. needed (codes "mask") (bytes_to 32) d >>= λ mask. Ok (Xor l mask)
+xor d = needed (codes "level") level d >>= λ l. needed (codes "mask") (bytes_to 32) d
+    >>= λ mask. Ok (Xor l mask)
 
 abbrev pub digest : Data → Reading KeyRule
 digest d =

@@ -36,7 +36,8 @@ abbrev pub is_until_member : List ℕ → Bool
 is_until_member name = bytes_eq name (codes "unit") || bytes_eq name (codes "sid")
 
 abbrev pub until_members : Data → Reading Until
-until_members o = needed (codes "unit") four o >>= λ unit. needed (codes "sid") two o >>= λ sid. Ok (Heard unit sid)
+until_members o =
+    needed (codes "unit") four o >>= λ unit. needed (codes "sid") two o >>= λ sid. Ok (Heard unit sid)
 
 abbrev pub until : Data → Reading Until
 until d = object_of is_until_member until_members d
@@ -55,7 +56,8 @@ waits d =
     else refused_at (codes "times")
 
 abbrev pub pending : Data → Reading Act
-pending d = needed (codes "ticks") (whole 1 MOST_TICKS) d >>= λ ticks. waits d >>= λ until. Ok (act.Pending ticks until)
+pending d = needed (codes "ticks") (whole 1 MOST_TICKS) d >>= λ ticks. waits d
+    >>= λ until. Ok (act.Pending ticks until)
 
 -- what is done, by the members that it has
 abbrev pub act_of : Deed → Data → Reading Act
@@ -116,7 +118,8 @@ abbrev pub gate_deed : Data → Reading GateDeed
 gate_deed d = of_form (as_str d >=> gate_deed_in)
 
 abbrev pub deny : Data → Reading GatewayTrouble
-deny d = needed (codes "nth") (whole 1 LAST_NTH) d >>= λ nth. needed (codes "code") two d >>= λ code. Ok (gate.Deny nth code)
+deny d = needed (codes "nth") (whole 1 LAST_NTH) d >>= λ nth. needed (codes "code") two d
+    >>= λ code. Ok (gate.Deny nth code)
 
 abbrev pub silent : Data → Reading GatewayTrouble
 silent d = needed (codes "nth") (whole 1 LAST_NTH) d >>= λ nth. Ok (gate.Silent nth)

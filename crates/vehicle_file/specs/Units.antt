@@ -25,7 +25,8 @@ size d = whole 1 LAST_COUNT d
 
 -- ------ regions, each apart from those before it and below the limit
 abbrev pub is_region_member : List ℕ → Bool
-is_region_member name = bytes_eq name (codes "at") || bytes_eq name (codes "size") || bytes_eq name (codes "fill")
+is_region_member name =
+    bytes_eq name (codes "at") || bytes_eq name (codes "size") || bytes_eq name (codes "fill")
 
 abbrev pub region_members : Data → Reading RegionSpec
 region_members o =
@@ -42,7 +43,8 @@ region before d = object_of is_region_member region_members d >>= λ r. hold_to 
 
 abbrev pub regions_from : List RegionSpec → ℕ → Items → Reading (List RegionSpec)
 regions_from before i no_items = Ok before
-regions_from before i (item d ds) = under (decimal i) (region before d) >>= λ r. regions_from (before ++ r ∷ []) (i + 1) ds
+regions_from before i (item d ds) =
+    under (decimal i) (region before d) >>= λ r. regions_from (before ++ r ∷ []) (i + 1) ds
 
 abbrev pub regions : Data → Reading (List RegionSpec)
 regions d = list_with (regions_from [] 0) (as_array d)
@@ -52,7 +54,8 @@ abbrev pub is_patch_member : List ℕ → Bool
 is_patch_member name = bytes_eq name (codes "at") || bytes_eq name (codes "hex")
 
 abbrev pub patch_members : Data → Reading PatchSpec
-patch_members o = needed (codes "at") place o >>= λ at. needed (codes "hex") any_bytes o >>= λ bytes. Ok (record { at = at; bytes = bytes })
+patch_members o = needed (codes "at") place o >>= λ at. needed (codes "hex") any_bytes o
+    >>= λ bytes. Ok (record { at = at; bytes = bytes })
 
 -- the regions have each address of the range
 abbrev pub lies_in : List RegionSpec → ℕ → ℕ → Bool
@@ -65,7 +68,8 @@ patch rs d = object_of is_patch_member patch_members d >>= λ p. hold_to (lies_i
 -- where an identifier goes among these, the first of which stands at place i; none where it is there
 abbrev pub position_from : ℕ → ℕ → List (ℕ × List ℕ) → Option ℕ
 position_from i did [] = Some i
-position_from i did (j ∷ js) = if nat_lt did j.0 then Some i else if did == j.0 then None else position_from (i + 1) did js
+position_from i did (j ∷ js) =
+    if nat_lt did j.0 then Some i else if did == j.0 then None else position_from (i + 1) did js
 
 abbrev pub ident_at : ℕ → Option ℕ → List (ℕ × List ℕ) → Data → Reading (List (ℕ × List ℕ))
 ident_at did None before d = refused
@@ -116,7 +120,8 @@ last_block taken (Some n) = if taken then Some n else None
 
 abbrev pub is_transfer_member : List ℕ → Bool
 is_transfer_member name =
-    bytes_eq name (codes "at") || bytes_eq name (codes "rest") || bytes_eq name (codes "counter") || bytes_eq name (codes "taken")
+    bytes_eq name (codes "at") || bytes_eq name (codes "rest") || bytes_eq name (codes "counter")
+    || bytes_eq name (codes "taken")
     || bytes_eq name (codes "up") || bytes_eq name (codes "last")
 
 abbrev pub transfer_members : Data → Reading Transfer
@@ -130,7 +135,8 @@ transfer_members o =
     Ok (record { up = up; at = at; rest = rest; counter = counter; last = last_block taken last })
 
 abbrev pub transfer : List RegionSpec → Data → Reading (Option Transfer)
-transfer rs d = object_of is_transfer_member transfer_members d >>= λ t. hold_to (transfer_in (filled rs) (Some t)) (Some t)
+transfer rs d = object_of is_transfer_member transfer_members d
+    >>= λ t. hold_to (transfer_in (filled rs) (Some t)) (Some t)
 
 -- ------ a unit, behind these units
 abbrev pub has_address : ℕ → List UnitSpec → Bool
@@ -176,7 +182,14 @@ state rs o =
     chosen (codes "transfer") None (transfer rs) o >>= λ t.
     chosen (codes "dtc") false is_off o >>= λ dtc_off.
     chosen (codes "messages") false is_off o >>= λ messages_off.
-    Ok (record { kind = kind; unlocked = unlocked; last_seed = last_seed; transfer = t; dtc_off = dtc_off; messages_off = messages_off })
+    Ok (record {
+      kind = kind;
+      unlocked = unlocked;
+      last_seed = last_seed;
+      transfer = t;
+      dtc_off = dtc_off;
+      messages_off = messages_off;
+    })
 
 abbrev pub unit_of : Layout → Rules → Past → State → UnitSpec
 unit_of l r p s = record {
@@ -201,31 +214,38 @@ unit_of l r p s = record {
 }
 
 abbrev pub unit_members : List UnitSpec → Data → Reading UnitSpec
-unit_members before o = layout before o >>= λ l. rules_at o >>= λ r. past o >>= λ p. state l.regions o >>= λ s. Ok (unit_of l r p s)
+unit_members before o = layout before o >>= λ l. rules_at o >>= λ r. past o >>= λ p. state l.regions o
+    >>= λ s. Ok (unit_of l r p s)
 
 abbrev pub is_layout_member : List ℕ → Bool
-is_layout_member name = bytes_eq name (codes "address") || bytes_eq name (codes "regions") || bytes_eq name (codes "bytes") || bytes_eq name (codes "idents")
+is_layout_member name = bytes_eq name (codes "address") || bytes_eq name (codes "regions")
+    || bytes_eq name (codes "bytes") || bytes_eq name (codes "idents")
 
 abbrev pub is_rules_member : List ℕ → Bool
-is_rules_member name = bytes_eq name (codes "key") || bytes_eq name (codes "seed") || bytes_eq name (codes "block") || bytes_eq name (codes "check")
+is_rules_member name = bytes_eq name (codes "key") || bytes_eq name (codes "seed")
+    || bytes_eq name (codes "block") || bytes_eq name (codes "check")
 
 abbrev pub is_past_member : List ℕ → Bool
-is_past_member name = bytes_eq name (codes "checked") || bytes_eq name (codes "passed") || bytes_eq name (codes "heard") || bytes_eq name (codes "troubles")
+is_past_member name = bytes_eq name (codes "checked") || bytes_eq name (codes "passed")
+    || bytes_eq name (codes "heard") || bytes_eq name (codes "troubles")
 
 abbrev pub is_state_member : List ℕ → Bool
 is_state_member name =
-    bytes_eq name (codes "kind") || bytes_eq name (codes "unlocked") || bytes_eq name (codes "last_seed") || bytes_eq name (codes "transfer")
+    bytes_eq name (codes "kind") || bytes_eq name (codes "unlocked") || bytes_eq name (codes "last_seed")
+    || bytes_eq name (codes "transfer")
     || bytes_eq name (codes "dtc") || bytes_eq name (codes "messages")
 
 abbrev pub is_unit_member : List ℕ → Bool
-is_unit_member name = is_layout_member name || is_rules_member name || is_past_member name || is_state_member name
+is_unit_member name =
+    is_layout_member name || is_rules_member name || is_past_member name || is_state_member name
 
 abbrev pub unit : List UnitSpec → Data → Reading UnitSpec
 unit before d = object_of is_unit_member (unit_members before) d
 
 abbrev pub units_from : List UnitSpec → ℕ → Items → Reading (List UnitSpec)
 units_from before i no_items = Ok before
-units_from before i (item d ds) = under (decimal i) (unit before d) >>= λ u. units_from (before ++ u ∷ []) (i + 1) ds
+units_from before i (item d ds) =
+    under (decimal i) (unit before d) >>= λ u. units_from (before ++ u ∷ []) (i + 1) ds
 
 abbrev pub units : Data → Reading (List UnitSpec)
 units d = list_with (units_from [] 0) (as_array d)

@@ -172,7 +172,8 @@ impl Reader for AnyBytes {
 }
 
 fn whole_of(least: u64, most: u64, value: &Value) -> Option<u64>
-    ensures { result ≡ (as_number (view value.now) >=> as_u64 >=> λ n. only_if (nat_le least n && nat_le n most) n) }
+    ensures { result ≡ (as_number (view value.now) >=> as_u64
+        >=> λ n. only_if (nat_le least n && nat_le n most) n) }
 {
     let number = value.as_u64()?;
     if number >= least && number <= most {

@@ -25,7 +25,8 @@ enum RuleName {
 }
 
 fn level_of(value: &Value) -> Option<u8>
-    ensures { result ≡ (as_str (view value.now) >=> byte_text >=> λ n. only_if (n % 2 == 1 && nat_le n 125) n) }
+    ensures { result ≡ (as_str (view value.now) >=> byte_text
+        >=> λ n. only_if (n % 2 == 1 && nat_le n 125) n) }
 {
     let number = hex_byte(value.as_str()?)?;
     if number % 2 == 1 && number <= 125 {

@@ -131,7 +131,8 @@ fn next_region(
     value: &Value,
     before: &Items<RegionSpec>,
 ) -> Result<RegionSpec, Refused>
-    ensures { (result ≡ Err Refused.NoMemory) ⊎ (result ≡ under (decimal i) (region before.now (view value.now))) }
+    ensures { (result ≡ Err Refused.NoMemory)
+        ⊎ (result ≡ under (decimal i) (region before.now (view value.now))) }
 {
     let reader = RegionBehind {
         before: before.as_slice(),
@@ -157,7 +158,8 @@ impl Reader for Regions {
 
 /// How many bytes the region has from an address on, where it has the address.
 fn left_in(region: &RegionSpec, at: u64) -> Option<u64>
-    ensures { MatchOption result (is_in region.now.at region.now.size at ≡ false) (λ n. (1 ≤ n) × (region.now.at ≤ at) × (at + n ≡ region.now.at + region.now.size)) }
+    ensures { MatchOption result (is_in region.now.at region.now.size at ≡ false)
+        (λ n. (1 ≤ n) × (region.now.at ≤ at) × (at + n ≡ region.now.at + region.now.size)) }
 {
     if region.at <= at && at - region.at < region.size {
         Some(region.size - (at - region.at))
@@ -168,7 +170,8 @@ fn left_in(region: &RegionSpec, at: u64) -> Option<u64>
 
 /// How many bytes lie side by side from an address on, at least.
 fn left_from(regions: &[RegionSpec], at: u64) -> Option<u64>
-    ensures { MatchOption result (byte_at (filled regions.now) at ≡ None) (λ n. (1 ≤ n) × (has_each at n (filled regions.now) ≡ true)) }
+    ensures { MatchOption result (byte_at (filled regions.now) at ≡ None)
+        (λ n. (1 ≤ n) × (has_each at n (filled regions.now) ≡ true)) }
 {
     for region in regions {
         if let Some(n) = left_in(region, at) {

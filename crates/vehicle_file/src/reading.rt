@@ -125,7 +125,8 @@ pub(crate) fn needed<R: Reader>(
     name: &str,
     reader: &R,
 ) -> Result<R::Value, Refused>
-    ensures { (result ≡ Err Refused.NoMemory) ⊎ (result ≡ needed name.now (R.reading reader.now) (view value.now)) }
+    ensures { (result ≡ Err Refused.NoMemory)
+        ⊎ (result ≡ needed name.now (R.reading reader.now) (view value.now)) }
 {
     match value.get(name) {
         Some(found) => under(alloc, name, reader.read(alloc, found)),
@@ -141,7 +142,8 @@ pub(crate) fn chosen<R: Reader>(
     otherwise: R::Value,
     reader: &R,
 ) -> Result<R::Value, Refused>
-    ensures { (result ≡ Err Refused.NoMemory) ⊎ (result ≡ chosen name.now otherwise (R.reading reader.now) (view value.now)) }
+    ensures { (result ≡ Err Refused.NoMemory)
+        ⊎ (result ≡ chosen name.now otherwise (R.reading reader.now) (view value.now)) }
 {
     match value.get(name) {
         Some(found) => under(alloc, name, reader.read(alloc, found)),
@@ -168,7 +170,8 @@ pub(crate) fn object_of<M: Members>(
     value: &Value,
     table: &M,
 ) -> Result<M::Value, Refused>
-    ensures { (result ≡ Err Refused.NoMemory) ⊎ (result ≡ object_of (M.has table.now) (M.reading table.now) (view value.now)) }
+    ensures { (result ≡ Err Refused.NoMemory)
+        ⊎ (result ≡ object_of (M.has table.now) (M.reading table.now) (view value.now)) }
 {
     let Some(map) = value.as_object() else {
         return Err(bad(alloc));
@@ -187,7 +190,8 @@ pub(crate) fn entry<R: Reader>(
     value: &Value,
     reader: &R,
 ) -> Result<R::Value, Refused>
-    ensures { (result ≡ Err Refused.NoMemory) ⊎ (result ≡ under (decimal i) (R.reading reader.now (view value.now))) }
+    ensures { (result ≡ Err Refused.NoMemory)
+        ⊎ (result ≡ under (decimal i) (R.reading reader.now (view value.now))) }
 {
     let mut buffer = Buffer::new();
     let name = buffer.format(i);
@@ -200,7 +204,8 @@ pub(crate) fn entries<R: Reader>(
     list: &[Value],
     reader: &R,
 ) -> Result<Items<R::Value>, Refused>
-    ensures { (result ≡ Err Refused.NoMemory) ⊎ (result ≡ entries_from (R.reading reader.now) [] 0 (items_view list.now)) }
+    ensures { (result ≡ Err Refused.NoMemory)
+        ⊎ (result ≡ entries_from (R.reading reader.now) [] 0 (items_view list.now)) }
 {
     let mut found = Items::new(alloc);
     for i in 0..list.len() {

@@ -88,7 +88,8 @@ fn with_pair(found: Pairs, i: usize, pair: (u16, Bytes)) -> Result<Pairs, NoMemo
 }
 
 fn ident_at(alloc: Global, did: u16, found: Pairs, value: &Value) -> Result<Pairs, Refused>
-    ensures { (result ≡ Err Refused.NoMemory) ⊎ (result ≡ ident_at did (position_from 0 did found) found (view value.now)) }
+    ensures { (result ≡ Err Refused.NoMemory)
+        ⊎ (result ≡ ident_at did (position_from 0 did found) found (view value.now)) }
 {
     let Some(i) = position(found.as_slice(), did) else {
         return Err(bad(alloc));
@@ -174,7 +175,8 @@ fn patches_in(
     regions: &[RegionSpec],
     value: &Value,
 ) -> Result<Items<PatchSpec>, Refused>
-    ensures { (result ≡ Err Refused.NoMemory) ⊎ (result ≡ chosen (codes "bytes") [] (list_of (patch regions.now)) (view value.now)) }
+    ensures { (result ≡ Err Refused.NoMemory)
+        ⊎ (result ≡ chosen (codes "bytes") [] (list_of (patch regions.now)) (view value.now)) }
 {
     let patches = ListOf {
         reader: Patch { regions },
@@ -359,7 +361,8 @@ fn next_unit(
     value: &Value,
     before: &Items<UnitSpec>,
 ) -> Result<UnitSpec, Refused>
-    ensures { (result ≡ Err Refused.NoMemory) ⊎ (result ≡ under (decimal i) (unit before.now (view value.now))) }
+    ensures { (result ≡ Err Refused.NoMemory)
+        ⊎ (result ≡ under (decimal i) (unit before.now (view value.now))) }
 {
     let reader = UnitBehind {
         before: before.as_slice(),
