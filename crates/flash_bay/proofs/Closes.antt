@@ -5,17 +5,18 @@ use Rattle.std.proofs.lemmas.Bool.{false≢true}
 use Rattle.barrier_board.specs.declared.post.Post.{Post}
 use Rattle.bay_core.specs.declared.event.Event.{Event}
 use Rattle.bay_core.specs.declared.event.Event.TheVariants.{Claimed, Began, Sent, Collected, Tended, Marked, Completed, DiskFailed, Ended}
+use Rattle.bay_core.specs.declared.event.Log.{Log}
 use Rattle.bay_law.proofs.Closing.{says}
 use Rattle.bay_law.proofs.Quiet.{quiet_keeps, ended_quiet}
 use Rattle.bay_replay.specs.Held.{IsBoardOf}
-use Rattle.flash_bay.specs.Closing.{Closes, NoneClaimed, NoneOpen}
+use Rattle.flash_bay.specs.Closing.{Closes, ClosesLogged, NoneClaimed, NoneOpen}
 use Rattle.flash_bay.specs.State.{BayState, IsBayOf, state_of}
 use Rattle.flash_journal.specs.Kept.{IsKeptOn}
 use Rattle.flash_journal.specs.declared.journal.Journal.{Journal}
 use Rattle.flash_run.proofs.Ends.{none_ready}
 use Rattle.flash_run.specs.Ending.{AllEnded, Finishes, IsOver, are_ends}
 use Rattle.flash_run.specs.Group.{takes_all}
-use Rattle.flash_run.specs.Run.{RunState, IsKept, core_of_run, with_event}
+use Rattle.flash_run.specs.Run.{RunState, IsKept, core_of_run, log_of, with_event}
 use Rattle.shop_model.specs.History.{History}
 
 -- ------ before the end
@@ -38,9 +39,9 @@ module _ (td tv : Bool) (first now : History) (j : Journal) where
   ends_keep (DiskFailed u e ∷ es) r are is = absurd (false≢true are)
 
 -- ------ what it answers
-pub closes : {S : Type 0} (td tv : Bool) (history : S → History) (b : BayState S) (r r2 : RunState) (first shop : S) (a : ℕ) (j : Journal) (board : List Post) → ◌≡◌ {A = BayState S} (record { run = r; first = first; shop = shop; slots = a }) b
-    → Finishes r r2 → AllEnded r2 → IsKept r2 → IsBoardOf r2.plan (core_of_run r2) board → IsBayOf td tv r (history first) (history shop) j → Closes td tv history b shop board
-closes {S = S} td tv history b r r2 first shop a j board view did all kept posts is =
+pub closes : {S : Type 0} (td tv : Bool) (history : S → History) (b : BayState S) (r r2 : RunState) (first shop : S) (a : ℕ) (j : Journal) (board : List Post) (log : Log) → ◌≡◌ {A = BayState S} (record { run = r; first = first; shop = shop; slots = a }) b
+    → Finishes r r2 → AllEnded r2 → IsKept r2 → IsBoardOf r2.plan (core_of_run r2) board → log ≡ log_of r2 → IsBayOf td tv r (history first) (history shop) j → ClosesLogged td tv history b shop board log
+closes {S = S} td tv history b r r2 first shop a j board log view did all kept posts logged is =
     let base : IsBayOf td tv (takes_all did.events r) (history first) (history shop) j = ends_keep td tv (history first) (history shop) j did.events r did.are is in
     let here : IsBayOf td tv r2 (history first) (history shop) j = subst (λ (x : RunState). IsBayOf td tv x (history first) (history shop) j) (sym did.becomes) base in
     let last : Closes td tv history (record { run = r; first = first; shop = shop; slots = a }) shop board = record {
@@ -52,4 +53,5 @@ closes {S = S} td tv history b r r2 first shop a j board view did all kept posts
       kept = kept;
       says = says td tv r2 (history first) (history shop) (state_of j) (IsKeptOn j) kept here;
     } in
-    subst (λ (x : BayState S). Closes td tv history x shop board) view last
+    let whole : ClosesLogged td tv history (record { run = r; first = first; shop = shop; slots = a }) shop board log = record { closes = last; log_is = logged } in
+    subst (λ (x : BayState S). ClosesLogged td tv history x shop board log) view whole

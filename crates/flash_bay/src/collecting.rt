@@ -126,7 +126,7 @@ impl<S: Shop> Bay<S> {
         ensures memory { IfErr result (λ _. Starves S.tells_vehicle S.history self.old self.new) }
     {
         self.run.is_due();
-        if self.run.has_word(plan, unit) {
+        if self.run.has_message(plan, unit) {
             self.take_word(plan, unit)
         } else {
             self.look(plan, unit)

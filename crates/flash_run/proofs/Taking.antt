@@ -208,7 +208,7 @@ losses_seen : (P : List UnitPlan) (c : Core) (starved : Bool) → (seen_core P s
 losses_seen P c true = refl
 losses_seen P c false = refl
 
-fed_core : (P : List UnitPlan) (c : Core) (starved : Bool) → starved ≡ false → seen_core P starved c ≡ c
+pub fed_core : (P : List UnitPlan) (c : Core) (starved : Bool) → starved ≡ false → seen_core P starved c ≡ c
 fed_core P c true e = absurd (false≢true (sym e))
 fed_core P c false e = refl
 
@@ -218,7 +218,7 @@ losses_is r n is = is ∙ losses_seen r.plan (core_of_run r) r.starved
 pub phase_is : (r : RunState) (p : Phase) → r.starved ≡ false → p ≡ (seen_core r.plan r.starved (core_of_run r)).link.phase → p ≡ (core_of_run r).link.phase
 phase_is r p fed is = is ∙ ap (λ (c : Core). c.link.phase) (fed_core r.plan (core_of_run r) r.starved fed)
 
-pub word_is : (r : RunState) (P : List UnitPlan) (rules : LinkRules) (found : List Entry) (events : List Event) (starved : Bool) (u : ℕ) (b : Bool) → P ≡ r.plan → rules ≡ r.rules → found ≡ r.found → events ≡ r.events → starved ≡ r.starved → r.starved ≡ false
+pub message_is : (r : RunState) (P : List UnitPlan) (rules : LinkRules) (found : List Entry) (events : List Event) (starved : Bool) (u : ℕ) (b : Bool) → P ≡ r.plan → rules ≡ r.rules → found ≡ r.found → events ≡ r.events → starved ≡ r.starved → r.starved ≡ false
     → b ≡ has_message P (seen_core P starved (core_by rules P found events)) u → b ≡ has_message r.plan (core_of_run r) u
-word_is r P rules found events starved u b p q f e s fed is =
+message_is r P rules found events starved u b p q f e s fed is =
     is ∙ (λ i. has_message (p i) (seen_core (p i) (s i) (core_by (q i) (p i) (f i) (e i))) u) ∙ ap (λ (c : Core). has_message r.plan c u) (fed_core r.plan (core_of_run r) r.starved fed)

@@ -8,6 +8,7 @@ use Rattle.bay_core.specs.Core.{Core, Slot, core_start, link_stop}
 use Rattle.bay_core.specs.Joint.{IsSane}
 use Rattle.bay_core.specs.Legal.{is_allowed, is_legal, is_open_unit}
 use Rattle.bay_core.specs.declared.event.Event.{Event}
+use Rattle.bay_core.specs.declared.event.Log.{Log}
 use Rattle.bay_core.specs.declared.event.Event.TheVariants.{Claimed as Claimed_event, Began, Sent, Collected, Tended, Marked, Completed, DiskFailed, Ended}
 use Rattle.bay_replay.specs.Held.{Told, Holds, shut}
 use Rattle.bay_replay.specs.Replays.{core_by}
@@ -35,6 +36,10 @@ core_of_run r = core_by r.rules r.plan r.found r.events
 -- what is kept of it: where a receive found no memory, no connection and no attempt that was under way
 abbrev pub seen_core : List UnitPlan → Bool → Core → Core
 seen_core P starved c = if starved then shut P c else c
+
+-- what a run leaves of itself
+abbrev pub log_of : RunState → Log
+log_of r = record { found = r.found; events = r.events }
 
 abbrev pub told_seen : List UnitPlan → LinkRules → List Entry → List Event → Bool → Told
 told_seen P rules found events starved =

@@ -6,15 +6,15 @@ ghost use Rattle.bay_replay.specs.Bytes.{has_bytes};
 ghost use Rattle.bay_replay.specs.Held.{IsBoardOf, Told};
 ghost use Rattle.flash_plan.specs.Plan.{count_of};
 ghost use Rattle.flash_run.specs.Need.{AreDue, seen_ask, stop_for, stop_or};
-ghost use Rattle.flash_run.specs.Run.{IsKept, is_closing, is_complete_entry, ClaimsNext, IsUnfinished, RunState, may_take, is_open, with_event, with_room, starving, run_start, left_in, core_of_run};
+ghost use Rattle.flash_run.specs.Run.{IsKept, is_closing, is_complete_entry, ClaimsNext, IsUnfinished, RunState, may_take, is_open, with_event, with_room, starving, run_start, left_in, core_of_run, log_of};
 
 use crate::notes::Notes;
 use crate::steps::{
-    claim_in, conversation_in, has_faulted_in, has_word_in, is_open_in, may_take_in, starve_in,
+    claim_in, conversation_in, has_faulted_in, has_message_in, is_open_in, may_take_in, starve_in,
     take_in,
 };
 use barrier_board::{Board, Claimed};
-use bay_core::Event;
+use bay_core::{Event, Log};
 use bay_replay::Core;
 use flash_base::NoMemory;
 use flash_plan::{Entries, Entry, LinkRules, Outcome, Plan};
@@ -160,13 +160,13 @@ impl Run {
     }
 
     /// Whether a message of the unit is in its inbox.
-    pub fn has_word(&self, plan: &Plan, unit: u16) -> bool
+    pub fn has_message(&self, plan: &Plan, unit: u16) -> bool
         requires plan { plan.now ≡ self.now.plan }
         requires within { unit < count_of plan.now }
         requires fed { self.now.starved ≡ false }
         ensures { result ≡ has_message self.now.plan (core_of_run self.now) unit }
     {
-        has_word_in(
+        has_message_in(
             &self.core,
             plan,
             &self.rules,
@@ -185,19 +185,21 @@ impl Run {
         self.notes.count()
     }
 
-    /// The board: each unit's outcome.
-    pub fn into_board(self) -> Board
-        ensures { IsBoardOf self.plan (core_of_run self) result }
+    /// The board, with each unit's outcome, and the log. It wants no memory.
+    pub fn into_log(self) -> (Board, Log)
+        ensures board { IsBoardOf self.plan (core_of_run self) result.0 }
+        ensures log { result.1 ≡ log_of self }
     {
         let Run {
             plan: _plan,
             rules: _rules,
-            found: _found,
+            found,
             core,
-            notes: _notes,
+            notes,
             starved: _starved,
         } = self;
-        core.into_board()
+        let events = notes.into_events();
+        (core.into_board(), Log { found, events })
     }
 
     /// Takes up the lowest unit that is ready; nothing where the run is stopped. It wants no memory.

@@ -1,5 +1,6 @@
 //! Where the conversation of a unit stands, and what it waits for.
 ghost use Rattle.std.specs.Prelude.{◌≡◌, ◌<◌, false};
+ghost use Rattle.bay_replay.specs.Held.{IsConversation};
 ghost use Rattle.flash_plan.specs.Plan.{count_of, plan_of};
 ghost use Rattle.flash_run.specs.Run.{core_of_run};
 ghost use Rattle.flash_plan.specs.declared.unit.UnitPlan.{UnitPlan as AUnitPlan};
@@ -24,6 +25,24 @@ fn waiting_of(session: &UnitSession) -> Option<u8>
 }
 
 impl Run {
+    /// The conversation of the unit.
+    fn conversation(&self, plan: &Plan, unit: u16) -> UnitSession
+        requires plan { plan.now ≡ self.now.plan }
+        requires within { unit < count_of plan.now }
+        requires fed { self.now.starved ≡ false }
+        ensures { IsConversation (plan_of self.now.plan unit) ((core_of_run self.now).slots unit) result }
+    {
+        conversation_in(
+            &self.core,
+            plan,
+            &self.rules,
+            &self.found,
+            &self.notes,
+            self.starved,
+            unit,
+        )
+    }
+
     /// Where the conversation of the unit stands, by numbers.
     pub fn spot(&self, plan: &Plan, unit: u16) -> Spot
         requires plan { plan.now ≡ self.now.plan }
@@ -33,16 +52,7 @@ impl Run {
             ((core_of_run self.now).slots unit).talk.place result }
     {
         plan.is_accepted();
-        let session = conversation_in(
-            &self.core,
-            plan,
-            &self.rules,
-            &self.found,
-            &self.notes,
-            self.starved,
-            unit,
-        );
-        session.spot()
+        self.conversation(plan, unit).spot()
     }
 
     /// How many final answers the unit's attempt has: the number of its next request, from 0.
@@ -52,16 +62,7 @@ impl Run {
         requires fed { self.now.starved ≡ false }
         ensures { result ≡ ((core_of_run self.now).slots unit).talk.number }
     {
-        let session = conversation_in(
-            &self.core,
-            plan,
-            &self.rules,
-            &self.found,
-            &self.notes,
-            self.starved,
-            unit,
-        );
-        session.number()
+        self.conversation(plan, unit).number()
     }
 
     /// How many responses pending have come to the unit's last request; `None` where no answer is awaited.
@@ -71,15 +72,6 @@ impl Run {
         requires fed { self.now.starved ≡ false }
         ensures { result ≡ waiting_in self.now unit }
     {
-        let session = conversation_in(
-            &self.core,
-            plan,
-            &self.rules,
-            &self.found,
-            &self.notes,
-            self.starved,
-            unit,
-        );
-        waiting_of(&session)
+        waiting_of(&self.conversation(plan, unit))
     }
 }

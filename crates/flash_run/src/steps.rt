@@ -139,7 +139,7 @@ pub(crate) fn starve_in(
 }
 
 /// Whether a message of the unit is in its inbox.
-pub(crate) fn has_word_in(
+pub(crate) fn has_message_in(
     core: &Core,
     plan: &Plan,
     rules: &LinkRules,

@@ -1,9 +1,9 @@
-use Rattle.std.proofs.Common.{ap}
-use Rattle.flash_run.specs.Run.{RunState}
+use Rattle.flash_plan.specs.Plan.{plan_of}
+use Rattle.flash_run.specs.Run.{core_of_run}
 use Rattle.flash_run.proofs.Spotted.{number_seen}
 use Rattle.flash_run.proofs.run.Run.number.Goals as goal
 
 pub returns : goal.returns
 returns c =
-    number_seen c.args.self.now c.args.plan.now c.self.inside.rules c.self.inside.found c.self.inside.notes.events c.self.inside.starved c.args.unit c.conversation_in-session.result c.number.result c.requires.plan (ap (λ (r : RunState). r.rules) c.self.view_is)
-    (ap (λ (r : RunState). r.found) c.self.view_is) (ap (λ (r : RunState). r.events) c.self.view_is) (ap (λ (r : RunState). r.starved) c.self.view_is) c.requires.fed c.conversation_in-session.ensures c.number.ensures
+    number_seen (plan_of c.args.self.now.plan c.args.unit) ((core_of_run c.args.self.now).slots c.args.unit) c.conversation.result c.number.result
+    c.conversation.ensures c.number.ensures
