@@ -1,17 +1,8 @@
 //! The program: it programs the control units that an order names, over a shop in memory.
 #![tactic(auto)]
 
-mod flashing;
-mod outcomes;
-mod printing;
-mod running;
-#[cfg(test)]
-mod tests;
-mod words;
-
+use flash_commands::{Status, flash};
 use flash_shelf::{FolderShelf, StreamSink};
-pub use flashing::{flash, flash_plain};
-pub use plan_commands::Status;
 use std::env;
 use std::env::Env;
 use std::process::ExitCode;

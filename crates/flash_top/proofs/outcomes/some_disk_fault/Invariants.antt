@@ -1,6 +1,0 @@
-use Rattle.std.proofs.Common.{◌≡◌, drop}
-use Rattle.flash_top.specs.Outcomes.{is_disk_fault, some_is}
-use Rattle.flash_top.proofs.outcomes.some_disk_fault.Given as goal
-
-abbrev pub invariant-loop-outcome : goal.invariant-loop-outcome
-invariant-loop-outcome l = some_is is_disk_fault (drop l.outcome-index l.outcomes) ≡ some_is is_disk_fault l.outcomes
