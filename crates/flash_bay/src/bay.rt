@@ -123,6 +123,13 @@ impl<S: Shop> Bay<S> {
         self.run.is_due();
     }
 
+    /// Whether the bay was stopped for want of memory.
+    pub fn is_starved(&self) -> bool
+        ensures { result ≡ self.now.run.starved }
+    {
+        self.run.is_starved()
+    }
+
     /// Takes up the lowest unit that is ready; nothing where the bay is stopped. It wants no memory.
     pub fn claim(&mut self, plan: &Plan) -> Claimed
         requires { plan.now ≡ self.old.run.plan }

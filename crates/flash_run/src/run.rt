@@ -177,6 +177,13 @@ impl Run {
         )
     }
 
+    /// Whether it was stopped for want of memory.
+    pub fn is_starved(&self) -> bool
+        ensures { result ≡ self.now.starved }
+    {
+        self.starved
+    }
+
     /// The number of events.
     pub fn count(&self) -> u64
         ensures number { result ≡ length self.now.events }
