@@ -2,12 +2,13 @@
 use Rattle.std.specs.Prelude.{◌≡◌, ◌<◌, Bool, true, false, List, ◌++◌, length}
 use Rattle.barrier_board.specs.declared.post.Post.{Post}
 use Rattle.bay_core.specs.declared.event.Event.{Event}
+use Rattle.bay_core.specs.declared.event.Log.{Log}
 use Rattle.bay_law.specs.Closed.{Says}
 use Rattle.bay_replay.specs.Held.{IsBoardOf}
 use Rattle.flash_bay.specs.Calls.{Grows}
 use Rattle.flash_bay.specs.State.{BayState}
 use Rattle.flash_run.specs.Ending.{AllEnded}
-use Rattle.flash_run.specs.Run.{RunState, IsKept, core_of_run}
+use Rattle.flash_run.specs.Run.{RunState, IsKept, core_of_run, log_of}
 use Rattle.flash_run.specs.declared.need.Need.{Need}
 use Rattle.flash_run.specs.declared.need.Need.TheVariants as need
 use Rattle.shop_model.specs.History.{History}
@@ -40,3 +41,9 @@ pub record IsWorked {S : Type 0} (tells_disk tells_vehicle : Bool) (history : S 
   pub board : IsBoardOf bay.run.plan (core_of_run run) posts
   pub kept : IsKept run
   pub says : Says tells_disk tells_vehicle run (history bay.first) (history shop)
+
+-- the same, and the log is that of the run that was closed
+pub record IsWorkedLogged {S : Type 0} (tells_disk tells_vehicle : Bool) (history : S → History)
+    (bay : BayState S) (shop : S) (posts : List Post) (log : Log) : Type 0 where
+  pub worked : IsWorked tells_disk tells_vehicle history bay shop posts
+  pub log_is : log ≡ log_of worked.run
