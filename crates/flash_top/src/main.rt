@@ -1,11 +1,13 @@
 //! The program: it programs the control units that an order names, over a shop in memory.
 #![tactic(auto)]
 
-use flash_commands::{Status, flash};
+use flash_commands::{Status, flash_watched};
 use flash_shelf::{FolderShelf, StreamSink};
 use std::env;
 use std::env::Env;
+use std::io::IsTerminal;
 use std::process::ExitCode;
+use run_progress::Progress;
 use thin_shop::ThinShop;
 
 /// The words after the program's name; None where there is no memory for them or one is no text.
@@ -35,6 +37,15 @@ fn main(rt: HostRuntime) -> ExitCode {
         return ended(Status::NoMemory);
     };
     let mut out = StreamSink::new(rt.stdout());
-    let (_shop, status) = flash(&rt, alloc, words.as_slice(), &mut shelf, shop, &mut out);
+    let progress = Progress::new(&rt, alloc, rt.stderr().is_terminal());
+    let (_shop, status) = flash_watched(
+        &rt,
+        alloc,
+        words.as_slice(),
+        &mut shelf,
+        shop,
+        &mut out,
+        &progress,
+    );
     ended(status)
 }

@@ -8,10 +8,11 @@ use Rattle.bay_core.specs.Core.{Core, Slot, core_after, core_start, link_after, 
 use Rattle.bay_core.specs.Legal.{is_open_unit, is_ready}
 use Rattle.bay_core.specs.declared.event.Event.{Event}
 use Rattle.bay_core.specs.declared.event.Event.TheVariants.{Claimed}
+use Rattle.bay_core.specs.declared.event.Log.{Log}
 use Rattle.bay_law.specs.Closed.{Says}
 use Rattle.bay_replay.specs.Held.{IsBoardOf}
 use Rattle.flash_bay.specs.Calls.{Adds, Grows, SendsRequest, takes}
-use Rattle.flash_bay.specs.Closing.{Closes}
+use Rattle.flash_bay.specs.Closing.{Closes, ClosesLogged}
 use Rattle.flash_bay.specs.Recording.{HasRecordDue, records_next}
 use Rattle.flash_bay.specs.Sending.{SendsReady, spot_in}
 use Rattle.flash_bay.specs.State.{BayState}
@@ -27,7 +28,7 @@ use Rattle.flash_run.specs.Need.{ask_in, is_linked, need_of, need_by, step_of, s
 use Rattle.flash_run.specs.Run.{RunState, core_of_run, is_open, is_stopped, may_take, with_event}
 use Rattle.flash_run.specs.declared.need.Need.{Need}
 use Rattle.flash_run.specs.declared.need.Need.TheVariants as need
-use Rattle.flash_workers.specs.Growing.{Goes, IsWorked, is_gone}
+use Rattle.flash_workers.specs.Growing.{Goes, IsWorked, IsWorkedLogged, is_gone}
 use Rattle.shop_model.specs.History.{History}
 use Rattle.unit_session.specs.Prepared.{ReadyState}
 use Rattle.unit_session.specs.declared.session.Ask.{Ask}
@@ -121,6 +122,18 @@ pub claim_open : {S : Type 0} (u : ℕ) (a b : BayState S) → may_take a.run (C
 claim_open u a b may is = ap (λ (x : BayState _). is_open x.run u) is ∙ claimed_open a.run u may
 
 -- ------ the end
+pub grows-trans : {S : Type 0} (a b c : BayState S) → Grows a b → Grows b c → Grows a c
+grows-trans a b c x y = record {
+  opening = record {
+    plan = y.opening.plan ∙ x.opening.plan;
+    rules = y.opening.rules ∙ x.opening.rules;
+    found = y.opening.found ∙ x.opening.found;
+    first = y.opening.first ∙ x.opening.first;
+  };
+  more = x.more ++ y.more;
+  events = y.events ∙ ap (λ (es : List Event). es ++ y.more) x.events ∙ append_assoc a.run.events x.more y.more;
+}
+
 pub worked : {S : Type 0} (td tv : Bool) (history : S → History) (bay last : BayState S) (shop : S) (posts : List Post) → Grows bay last → Closes td tv history last shop posts → IsWorked td tv history bay shop posts
 worked {S} td tv history bay last shop posts g c =
     let all : c.run ≡ record last.run { events = last.run.events ++ c.finishes.events; room = last.run.room - length c.finishes.events } = c.finishes.becomes ∙ takes_all_is c.finishes.events last.run in
@@ -141,3 +154,10 @@ worked {S} td tv history bay last shop posts g c =
       kept = c.kept;
       says = subst (λ (x : S). Says td tv c.run (history x) (history shop)) g.opening.first c.says;
     }
+
+pub worked_logged : {S : Type 0} (td tv : Bool) (history : S → History) (bay mid last : BayState S) (shop : S) (posts : List Post) (log : Log)
+    → Grows bay mid → Grows mid last → ClosesLogged td tv history last shop posts log → IsWorkedLogged td tv history bay shop posts log
+worked_logged td tv history bay mid last shop posts log a b c = record {
+  worked = worked td tv history bay last shop posts (grows-trans bay mid last a b) c.closes;
+  log_is = c.log_is;
+}

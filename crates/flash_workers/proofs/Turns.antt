@@ -14,7 +14,7 @@ use Rattle.flash_plan.specs.Plan.{count_of}
 use Rattle.flash_plan.specs.declared.unit.UnitPlan.{UnitPlan}
 use Rattle.flash_run.specs.Run.{is_open}
 use Rattle.flash_workers.proofs.Steps.{claimed_within}
-use Rattle.flash_workers.specs.Crew.{ClaimsBy, ClaimsInTurn, HasUnit, IsOfPlan, IsReadyOf, Keeps, StepsInTurn, unit_of}
+use Rattle.flash_workers.specs.Crew.{ClaimsBy, ClaimsInTurn, Follows, HasUnit, IsOfPlan, IsReadyOf, Keeps, StepsInTurn, unit_of}
 use Rattle.flash_workers.specs.Openings.{opening_of}
 use Rattle.turn_lock.proofs.Prefixes.{begins-trans}
 use Rattle.turn_lock.specs.Lists.{Begins}
@@ -135,3 +135,13 @@ pub ready_for : {S : Type 0} (o : Option (Opening S)) (b : BayState S) (u : ℕ)
 ready_for o b u ready e made =
     let m = subst (λ (x : Option (Opening _)). IsReadyOf x u ready) e made in
     record { tester = m.tester_is; number = m.number; unit = m.unit }
+
+-- ------ the bay out of the turn
+pub grows_closed : {S : Type 0} (a b : BayState S) (first last : PassState (Opening S) Event)
+    → first.opening ≡ Some (opening_of a) → first.seen ≡ a.run.events → Follows first last
+    → last.opening ≡ Some (opening_of b) → b.run.events ≡ last.seen → Grows a b
+grows_closed a b first last opened seen follows closed all = record {
+  opening = same_opening a b (sym opened ∙ sym follows.opening ∙ closed);
+  more = follows.seen.0;
+  events = all ∙ follows.seen.1 ∙ ap (λ (es : List Event). es ++ follows.seen.0) seen;
+}

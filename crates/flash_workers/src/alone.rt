@@ -36,6 +36,7 @@ pub fn work_alone_watched<S: Shop, W: Watcher>(
     watcher.begins(plan);
     let mut bay = bay;
     finish(alloc, plan, &mut bay, watcher);
+    watcher.ends(plan);
     bay.close(plan)
 }
 

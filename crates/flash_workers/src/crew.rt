@@ -94,12 +94,30 @@ fn begins<R: Wait, S: Shop>(
     ensures number { length crew.new.items ≡ length crew.old.items }
     ensures follows { Follows first.old first.new }
 {
-    if let Some(i) = idle(crew.as_slice()) {
-        if let Some(unit) = claim_in_turn(rt, turn, first, plan) {
-            crew[i].unit = Some(unit);
-        }
-    }
+    claim_for_one(rt, turn, first, crew, plan);
     crew.iter().any(|worker| worker.unit.is_some())
+}
+
+/// Claims a unit for a worker that has none, if there are both.
+fn claim_for_one<R: Wait, S: Shop>(
+    rt: &R,
+    turn: &Turn<Desk<S>>,
+    first: &mut Pass<Desk<S>>,
+    crew: &mut Vec<Worker<S>>,
+    plan: &Plan,
+)
+    requires crew { IsCrew turn.now plan.now first.old crew.old.items }
+    ensures crew { IsCrew turn.now plan.now first.new crew.new.items }
+    ensures number { length crew.new.items ≡ length crew.old.items }
+    ensures follows { Follows first.old first.new }
+{
+    let Some(i) = idle(crew.as_slice()) else {
+        return;
+    };
+    let Some(unit) = claim_in_turn(rt, turn, first, plan) else {
+        return;
+    };
+    crew[i].unit = Some(unit);
 }
 
 /// A worker that has no unit.

@@ -89,6 +89,7 @@ fn work_told<R: Threads + Wait + Sync, S: Shop + Send, G: Gate + Sync, W: Watche
     watcher.begins(plan);
     let mut bay = in_turns(rt, alloc, plan, bay, workers, gate, watcher);
     finish(alloc, plan, &mut bay, watcher);
+    watcher.ends(plan);
     bay.close_logged(plan)
 }
 

@@ -18,6 +18,9 @@ pub trait Watcher {
     /// The unit has its outcome.
     fn ended(&self, plan: &Plan, unit: u16)
         requires { unit < count_of plan.now };
+
+    /// No unit is worked on any more. The outcomes are printed after this.
+    fn ends(&self, plan: &Plan);
 }
 
 /// Nobody looks.
@@ -29,4 +32,6 @@ impl Watcher for Unwatched {
     fn stands(&self, _plan: &Plan, _unit: u16, _spot: Spot) {}
 
     fn ended(&self, _plan: &Plan, _unit: u16) {}
+
+    fn ends(&self, _plan: &Plan) {}
 }
