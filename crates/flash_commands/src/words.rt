@@ -2,7 +2,8 @@ ghost use Rattle.std.specs.Prelude.{◌≡◌, ◌≤◌, option_map, map, strin
 ghost use Rattle.flash_commands.specs.Words.{IsCrewSize, run_named, run_order};
 ghost use Rattle.flash_words.specs.Words.{IsCommand, owned};
 
-use flash_words::{CommandRef, read_ref, words_are_written_out};
+use flash_words::laws::words_are_written_out;
+use flash_words::{CommandRef, read_ref};
 
 /// The order file of a run, and how many workers it is to have.
 fn run_named(said: Option<CommandRef<'_>>) -> Option<(&str, u16)>

@@ -1,5 +1,5 @@
 -- What a step adds to the events of a bay, who is open, and what is said of a bay that was closed.
-use Rattle.std.proofs.Common.{◌≡◌, ℕ, ◌+◌, ◌-◌, ◌<◌, true, false, List, [], ◌∷◌, ◌++◌, length, refl, sym, ◌∙◌, ap, subst, arith, append_assoc, length-append}
+use Rattle.std.proofs.Common.{◌≡◌, ℕ, ◌+◌, ◌-◌, ◌<◌, true, false, List, [], ◌∷◌, ◌++◌, length, refl, sym, ◌∙◌, ap, subst, arith, append_assoc, append-nil, length-append}
 use Rattle.std.specs.Prelude.{Bool, not, ◌&&◌, ◌||◌, nat_lt, is_none, if◌then◌else◌}
 use Rattle.std.proofs.lemmas.Bool.{and_parts, and_from, eq-eqb, ltb-true, lt-ltb}
 use Rattle.barrier_board.specs.Board.{has_entry}
@@ -157,7 +157,20 @@ worked {S} td tv history bay last shop posts g c =
 
 pub worked_logged : {S : Type 0} (td tv : Bool) (history : S → History) (bay mid last : BayState S) (shop : S) (posts : List Post) (log : Log)
     → Grows bay mid → Grows mid last → ClosesLogged td tv history last shop posts log → IsWorkedLogged td tv history bay shop posts log
+unfolding worked
 worked_logged td tv history bay mid last shop posts log a b c = record {
   worked = worked td tv history bay last shop posts (grows-trans bay mid last a b) c.closes;
   log_is = c.log_is;
+}
+
+pub grows_same : {S : Type 0} (a b : BayState S) → b ≡ a → Grows a b
+grows_same {S} a b e = record {
+  opening = record {
+    plan = ap (λ (x : BayState S). x.run.plan) e;
+    rules = ap (λ (x : BayState S). x.run.rules) e;
+    found = ap (λ (x : BayState S). x.run.found) e;
+    first = ap (λ (x : BayState S). x.first) e;
+  };
+  more = [];
+  events = ap (λ (x : BayState S). x.run.events) e ∙ sym (append-nil a.run.events);
 }

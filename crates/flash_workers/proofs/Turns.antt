@@ -2,6 +2,7 @@
 use Rattle.std.proofs.Common.{◌≡◌, ℕ, ◌<◌, true, false, List, [], ◌∷◌, ◌++◌, Some, length, sym, ap, ◌∙◌, subst, append-nil}
 use Rattle.std.specs.Prelude.{Bool, Option}
 use Rattle.std.proofs.lemmas.Bool.{and_parts}
+use Rattle.atomic_table.specs.Seated.{TableId}
 use Rattle.barrier_board.specs.declared.board.Claimed.{Claimed}
 use Rattle.barrier_board.specs.declared.board.Claimed.TheVariants.{Unit as Took, Nothing}
 use Rattle.bay_core.specs.declared.event.Event.{Event}
@@ -13,12 +14,13 @@ use Rattle.flash_bay.specs.declared.bay.Opening.{Opening}
 use Rattle.flash_plan.specs.Plan.{count_of}
 use Rattle.flash_plan.specs.declared.unit.UnitPlan.{UnitPlan}
 use Rattle.flash_run.specs.Run.{is_open}
-use Rattle.flash_workers.proofs.Steps.{claimed_within}
+use Rattle.flash_workers.proofs.Crews.{follows-trans}
+use Rattle.flash_workers.proofs.Steps.{claimed_within, grows_same}
 use Rattle.flash_workers.specs.Crew.{ClaimsBy, ClaimsInTurn, Follows, HasUnit, IsOfPlan, IsReadyOf, Keeps, StepsInTurn, unit_of}
 use Rattle.flash_workers.specs.Openings.{opening_of}
 use Rattle.turn_lock.proofs.Prefixes.{begins-trans}
 use Rattle.turn_lock.specs.Lists.{Begins}
-use Rattle.turn_lock.specs.PassState.{PassState}
+use Rattle.turn_lock.specs.PassState.{PassState, first_pass}
 use Rattle.unit_session.specs.Prepared.{ReadyState}
 
 -- ------ openings
@@ -57,16 +59,7 @@ grows_took {S} e a b is = record {
 
 pub grows_claims : {S : Type 0} (a b : BayState S) (x : Claimed) → Claims a x b → Grows a b
 grows_claims a b (Took u) c = grows_took (Claimed_event u) a b c.1
-grows_claims {S} a b Nothing c = record {
-  opening = record {
-    plan = ap (λ (x : BayState S). x.run.plan) c.0;
-    rules = ap (λ (x : BayState S). x.run.rules) c.0;
-    found = ap (λ (x : BayState S). x.run.found) c.0;
-    first = ap (λ (x : BayState S). x.first) c.0;
-  };
-  more = [];
-  events = ap (λ (x : BayState S). x.run.events) c.0 ∙ sym (append-nil a.run.events);
-}
+grows_claims a b Nothing c = grows_same a b c.0
 
 pub claims_by : {S : Type 0} (a b : BayState S) (x : Claimed) → Claims a x b → ClaimsBy (opening_of a) a.run.events (unit_of x) b.run.events
 claims_by {S} a b (Took u) c = ((and_parts _ _ c.0).1, ap (λ (x : BayState S). x.run.events) c.1)
@@ -145,3 +138,13 @@ grows_closed a b first last opened seen follows closed all = record {
   more = follows.seen.0;
   events = all ∙ follows.seen.1 ∙ ap (λ (es : List Event). es ++ follows.seen.0) seen;
 }
+
+-- from the making of the turn to its closing
+pub grows_made : {S : Type 0} (a d b back : BayState S) (turn : TableId) (made hired worked last : PassState (Opening S) Event)
+    → d ≡ a → made ≡ first_pass turn (opening_of d) d.run.events
+    → Follows made hired → Follows hired worked → Follows worked last
+    → last.opening ≡ Some (opening_of b) → b.run.events ≡ last.seen → back ≡ b → Grows a back
+grows_made {S} a d b back turn made hired worked last same first f g h opened seen out =
+    let P = PassState (Opening S) Event in
+    let whole : Grows d b = grows_closed d b made last (ap (λ (p : P). p.opening) first) (ap (λ (p : P). p.seen) first) (follows-trans made worked last (follows-trans made hired worked f g) h) opened seen in
+    subst (λ (x : BayState S). Grows x back) same (subst (λ (x : BayState S). Grows d x) (sym out) whole)

@@ -5,6 +5,7 @@ ghost use Rattle.flash_workers.specs.Crew.{Follows, IsAtRest, IsCrew, IsHired};
 use crate::bell::Bell;
 use crate::desk::Desk;
 use crate::gate::Gate;
+use crate::shift::Shift;
 use crate::watcher::Watcher;
 use crate::worker::{Worker, claim_in_turn};
 use flash_plan::Plan;
@@ -146,13 +147,18 @@ fn round<R: Threads + Wait + Sync, S: Shop + Send, G: Gate + Sync, W: Watcher + 
     requires some { 1 ≤ length crew.old }
     ensures { All (IsHired turn.now plan.now) crew.new }
 {
-    let bell = Bell::new();
+    let shift = Shift {
+        gate,
+        watcher,
+        bell: Bell::new(),
+        alloc,
+    };
     let threads = crew.len();
     thread::for_each_mut(
         rt,
         crew,
         threads,
-        &|_, worker| worker.run(rt, alloc, turn, plan, gate, watcher, &bell),
+        &|_, worker| worker.run(rt, turn, plan, &shift),
     );
 }
 

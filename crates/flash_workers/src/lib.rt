@@ -17,6 +17,7 @@ mod desk;
 mod gate;
 mod holding;
 mod progress;
+mod shift;
 mod together;
 mod unit_step;
 mod watcher;

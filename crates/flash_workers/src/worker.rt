@@ -8,6 +8,7 @@ use crate::bell::Bell;
 use crate::desk::Desk;
 use crate::gate::Gate;
 use crate::holding::{Stand, ready_at};
+use crate::shift::Shift;
 use crate::watcher::Watcher;
 use flash_plan::Plan;
 use shop_model::Shop;
@@ -94,12 +95,9 @@ impl<S: Shop> Worker<S> {
     pub fn run<R: Wait, G: Gate, W: Watcher>(
         &mut self,
         rt: &R,
-        alloc: Global,
         turn: &Turn<Desk<S>>,
         plan: &Plan,
-        gate: &G,
-        watcher: &W,
-        bell: &Bell,
+        shift: &Shift<'_, G, W>,
     )
         requires pass { IsAtRest turn.now plan.now self.old.pass }
         requires unit { HasUnit plan.now self.old.unit }
@@ -107,17 +105,17 @@ impl<S: Shop> Worker<S> {
         ensures unit { HasUnit plan.now self.new.unit }
     {
         for _ in rt.forever() {
-            if bell.is_rung() {
+            if shift.bell.is_rung() {
                 return;
             }
             match self.unit {
                 Some(unit) => {
-                    if self.serve(rt, alloc, turn, plan, unit, gate, watcher, bell) {
+                    if self.serve(rt, turn, plan, unit, shift) {
                         return;
                     }
                 }
                 None => {
-                    if !self.seek(rt, turn, plan, bell) {
+                    if !self.seek(rt, turn, plan, &shift.bell) {
                         return;
                     }
                 }
@@ -146,13 +144,10 @@ impl<S: Shop> Worker<S> {
     fn serve<R: Wait, G: Gate, W: Watcher>(
         &mut self,
         rt: &R,
-        alloc: Global,
         turn: &Turn<Desk<S>>,
         plan: &Plan,
         unit: u16,
-        gate: &G,
-        watcher: &W,
-        bell: &Bell,
+        shift: &Shift<'_, G, W>,
     ) -> bool
         requires pass { IsAtRest turn.now plan.now self.old.pass }
         requires unit { HasUnit plan.now self.old.unit }
@@ -162,19 +157,27 @@ impl<S: Shop> Worker<S> {
     {
         let mut ready: Option<Ready> = None;
         for _ in rt.forever() {
-            if bell.is_rung() {
+            if shift.bell.is_rung() {
                 return true;
             }
-            gate.pass(unit);
-            let stand = step_in_turn(rt, alloc, turn, &mut self.pass, plan, unit, ready.as_ref());
-            report(plan, unit, stand, watcher);
+            shift.gate.pass(unit);
+            let stand = step_in_turn(
+                rt,
+                shift.alloc,
+                turn,
+                &mut self.pass,
+                plan,
+                unit,
+                ready.as_ref(),
+            );
+            report(plan, unit, stand, shift.watcher);
             if !stand.made {
                 self.unit = None;
-                bell.ring();
+                shift.bell.ring();
                 return false;
             }
             pause(stand.waits);
-            ready = ready_at(alloc, plan, unit, stand);
+            ready = ready_at(shift.alloc, plan, unit, stand);
         }
         unreachable!()
     }

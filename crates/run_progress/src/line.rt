@@ -1,11 +1,12 @@
 use std::fmt;
-use std::fmt::{Display, Formatter};
+use std::fmt::{Display, Formatter, Write};
 
 /// Bytes as MiB, with one digit behind the point.
+#[derive(Clone, Copy)]
 struct Mebibytes(u64);
 
 impl Display for Mebibytes {
-    fn fmt(&self, f: &mut Formatter<'_>) -> fmt::Result {
+    fn fmt<W: Write>(&self, f: &mut Formatter<W>) -> fmt::Result {
         let tenths = (self.0 / 1024).saturating_mul(10) / 1024;
         write!(f, "{}.{}", tenths / 10, tenths % 10)
     }
@@ -47,7 +48,7 @@ impl Line {
 
 /// Units and bytes of all, the rate, and the time that is left.
 impl Display for Line {
-    fn fmt(&self, f: &mut Formatter<'_>) -> fmt::Result {
+    fn fmt<W: Write>(&self, f: &mut Formatter<W>) -> fmt::Result {
         write!(f, "{} of {} units, ", self.ended, self.units)?;
         write!(f, "{} of ", Mebibytes(self.reached))?;
         write!(f, "{} MiB, ", Mebibytes(self.bytes))?;
