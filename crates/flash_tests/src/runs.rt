@@ -194,15 +194,15 @@ fn status_after_a_run(rt: HostRuntime) -> Result<(), Fail> {
     Ok(())
 }
 
-/// A command over the shop that the smallest run hands back.
+/// A run by 16 workers over the shop that the smallest run by two hands back.
 fn flash_after<R: Threads + Wait + Sync>(
     rt: &R,
     alloc: Global,
     order: &str,
 ) -> Result<(ThinShop, Status, MemorySink), NoMemory> {
-    let (shop, _status, _report) = flash_over(rt, alloc, "run one.json 1", SMALLEST, &[])?;
+    let (shop, _status, _report) = flash_over(rt, alloc, "run one.json 2", SMALLEST, &[])?;
     let mut shelf = shelf_of(alloc, order)?;
-    let words = words_of(alloc, "run one.json 1")?;
+    let words = words_of(alloc, "run one.json 16")?;
     let mut sink = MemorySink::new(alloc, &[])?;
     let (shop, status) = flash(rt, alloc, words.as_slice(), &mut shelf, shop, &mut sink);
     Ok((shop, status, sink))
@@ -254,7 +254,7 @@ fn refused_words(rt: HostRuntime) -> Result<(), Fail> {
         "run -x 1",
         "check -x",
         "image one.json A-B",
-        "run one.json 2",
+        "run one.json +2",
         "drill 0",
     ] {
         let (shop, status, sink) = flash_over(&rt, alloc, command, SMALLEST, &[])?;

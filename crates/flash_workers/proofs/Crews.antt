@@ -1,7 +1,6 @@
 -- Passes of a crew.
-use Rattle.std.proofs.Common.{◌≡◌, ℕ, ◌+◌, ◌<◌, List, [], ◌∷◌, ◌++◌, All, length, get_or, subst, sym, ap, ◌∙◌, arith, length-append}
+use Rattle.std.proofs.Common.{◌+◌, List, [], ◌∷◌, ◌++◌, All, subst, ◌∙◌, arith, length-append}
 use Rattle.std.proofs.lemmas.List.{get_or_append_left}
-use Rattle.turn_lock.specs.Lists.{Begins}
 use Rattle.turn_lock.specs.PassState.{PassState}
 use Rattle.turn_lock.proofs.Prefixes.{begins-trans}
 use Rattle.flash_bay.specs.declared.bay.Opening.{Opening}

@@ -1,5 +1,5 @@
-use Rattle.std.proofs.Common.{rules, ◌≡◌, List, [], ◌∷◌, ◌++◌, All, length, subst, ap, arith, length-append}
-use Rattle.flash_workers.specs.Crew.{IsCrew, IsHired, Follows}
+use Rattle.std.proofs.Common.{[], ◌∷◌, All, length, subst, ap, arith, length-append}
+use Rattle.flash_workers.specs.Crew.{IsHired}
 use Rattle.flash_workers.proofs.Crews.{all_but_last, follows-trans}
 use Rattle.flash_workers.proofs.crew.dismiss.Goals as goal
 

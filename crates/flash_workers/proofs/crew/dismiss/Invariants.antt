@@ -1,4 +1,4 @@
-use Rattle.std.proofs.Common.{◌≡◌, ◌≤◌, length, vec_len}
+use Rattle.std.proofs.Common.{vec_len}
 use Rattle.flash_workers.specs.Crew.{IsCrew, Follows}
 use Rattle.flash_workers.proofs.crew.dismiss.Given as goal
 

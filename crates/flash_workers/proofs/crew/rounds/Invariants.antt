@@ -1,4 +1,4 @@
-use Rattle.std.proofs.Common.{◌≡◌, ◌≤◌, length}
+use Rattle.std.proofs.Common.{◌≤◌, length}
 use Rattle.flash_workers.specs.Crew.{IsCrew, Follows}
 use Rattle.flash_workers.proofs.crew.rounds.Given as goal
 

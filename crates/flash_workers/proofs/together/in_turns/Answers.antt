@@ -1,6 +1,4 @@
-use Rattle.std.proofs.Common.{◌≡◌, sym, ◌∙◌, ap, refl}
-use Rattle.flash_bay.specs.Calls.{Grows}
-use Rattle.flash_bay.specs.State.{BayState}
+use Rattle.std.proofs.Common.{◌∙◌}
 use Rattle.flash_workers.proofs.Steps.{grows_same}
 use Rattle.flash_workers.proofs.Turns.{grows_made}
 use Rattle.flash_workers.proofs.together.in_turns.Goals as goal

@@ -1,4 +1,3 @@
-use Rattle.std.proofs.Common.{◌≡◌}
 use Rattle.flash_workers.specs.Crew.{IsAtRest, HasUnit}
 use Rattle.flash_workers.proofs.worker.Worker.run.Given as goal
 

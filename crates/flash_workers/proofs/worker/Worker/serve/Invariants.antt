@@ -1,4 +1,3 @@
-use Rattle.std.proofs.Common.{◌≡◌}
 use Rattle.std.specs.Prelude.{IfSome}
 use Rattle.flash_workers.specs.Crew.{HasUnit, IsAtRest, IsReadyOf}
 use Rattle.flash_workers.proofs.worker.Worker.serve.Given as goal
