@@ -45,8 +45,15 @@ fn run_built<R: Threads + Wait + Sync, S: Shop + Send, K: Sink, W: Watcher + Syn
     let rules = rules_of(&built.order);
     match Bay::open(alloc, &built.plan, &rules, shop) {
         Ok(bay) => {
-            let (shop, board) =
-                work_watched(rt, alloc, &built.plan, bay, workers, &OpenGate, watcher);
+            let (shop, board) = work_watched(
+                rt,
+                alloc,
+                &built.plan,
+                bay,
+                workers,
+                &OpenGate,
+                watcher,
+            );
             let status = finish(alloc, out, &built.plan, &board);
             (shop, status)
         }
@@ -58,13 +65,7 @@ fn run_built<R: Threads + Wait + Sync, S: Shop + Send, K: Sink, W: Watcher + Syn
 }
 
 /// Builds the plan of an order file, and runs it.
-fn run_order<
-    R: Threads + Wait + Sync,
-    F: Shelf,
-    S: Shop + Send,
-    K: Sink,
-    W: Watcher + Sync,
->(
+fn run_order<R: Threads + Wait + Sync, F: Shelf, S: Shop + Send, K: Sink, W: Watcher + Sync>(
     rt: &R,
     alloc: Global,
     order: &str,

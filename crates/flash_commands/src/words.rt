@@ -7,7 +7,7 @@ use flash_words::{CommandRef, read_ref};
 
 /// The order file of a run, and how many workers it is to have.
 fn run_named(said: Option<CommandRef<'_>>) -> Option<(&str, u16)>
-    requires { IfSome (option_map owned said.entry) IsCommand }
+    requires { IfSome (option_map owned said) IsCommand }
     ensures order { option_map (λ t. t.0.now) result ≡ run_named (option_map owned said.entry) }
     ensures workers { IfSome result (λ t. IsCrewSize t.1) }
 {
