@@ -1,0 +1,4 @@
+pub mod Feeding
+pub mod Saving
+pub mod States
+pub mod Worlds
