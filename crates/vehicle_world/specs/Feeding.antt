@@ -1,10 +1,9 @@
 -- What bytes make of a simulated vehicle.
-use Rattle.std.specs.Prelude.{◌≡◌, ℕ, Bool, List, [], ◌∷◌, ◌++◌, map, take, Option, None, Some, if◌then◌else◌}
+use Rattle.std.specs.Prelude.{ℕ, Bool, List, [], ◌∷◌, ◌++◌, map, Option, None, Some, if◌then◌else◌}
 use Rattle.uds_codec.specs.Request.{sid_of}
 use Rattle.doip_frame.specs.Deframe.{bad_in}
 use Rattle.doip_frame.specs.declared.frame.Frame.{Frame}
 use Rattle.unit_model.specs.Feed.{DueReply, due_replies, held_answers, released, still_held}
-use Rattle.unit_model.specs.Vehicle.{Vehicle, redialed}
 use Rattle.unit_model.specs.declared.reply.Due.{Due}
 use Rattle.unit_model.specs.declared.reply.Due.TheVariants.{At, Held}
 use Rattle.unit_model.specs.declared.reply.UnitReply.{UnitReply}
@@ -13,7 +12,7 @@ use Rattle.unit_sim.specs.Tallies.{nacked_by}
 use Rattle.gateway_sim.specs.Feeding.{cut_off, ended, target_of}
 use Rattle.gateway_sim.specs.Gates.{Gate, front_of}
 use Rattle.gateway_sim.specs.Handling.{Sent, Nothing, Heard, Refused, handled, queued, refusing}
-use Rattle.vehicle_world.specs.States.{State, change_at, forgotten, has_heard, is_there, sim_at, vehicle_in}
+use Rattle.vehicle_world.specs.States.{State, change_at, has_heard, is_there, sim_at}
 
 -- a state, and the replies of units that are to be queued
 abbrev pub Ran : Type 0
@@ -90,9 +89,3 @@ state_fed bytes s = record (ran bytes s).0 {
   gate = all_queued (ran bytes s).1
       (refusing (bad_in (front_of s.gate.gateway) bytes) (ran bytes s).0.gate);
 }
-
--- the first of the frames were handled, and the connection is a new one
-pub record IsFedPart (bytes : List ℕ) (old : State) (new : Vehicle) : Type 0 where
-  pub count : ℕ
-  pub becomes : new ≡ forgotten
-      (frames_done (take count (ended old.gate bytes)) (record old { gate = cut_off old.gate bytes })).0

@@ -22,3 +22,11 @@ pub(crate) struct Held {
     ghost some: { 1 ≤ length body },
     ghost few: { length body ≤ 65535 },
 }
+
+/// A unit hears a service at a tick.
+#[derive(Clone, Copy)]
+pub(crate) struct Hearing {
+    pub(crate) unit: u16,
+    pub(crate) sid: u8,
+    pub(crate) tick: u64,
+}

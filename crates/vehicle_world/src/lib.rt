@@ -7,12 +7,16 @@
 //! - `Worlds`: what each call makes of a vehicle, and which relation of the vehicle model that meets.
 #![tactic(auto)]
 
+mod finding;
 mod held;
+mod keeping;
 mod laws;
 mod making;
 mod node;
 mod outgoing;
+mod raising;
 mod spec;
+mod turning;
 mod world;
 
 pub use laws::nothing_sent;

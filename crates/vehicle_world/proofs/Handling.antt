@@ -1,0 +1,141 @@
+-- What a frame makes of a simulated vehicle is what it may make of the vehicle.
+use Rattle.std.proofs.Common.{◌≡◌, ◌⊎◌, inl, inr, ℕ, Bool, true, false, List, [], ◌∷◌, ◌++◌, map, Some, None, Option, refl, sym, ◌∙◌, ap, subst}
+use Rattle.std.specs.Prelude.{◌==◌, is_some, option_map, if◌then◌else◌}
+use Rattle.std.proofs.lemmas.Bool.{cases_Bool, cases_eq, eqb-true, ne_eqb, false≢true}
+use Rattle.doip_frame.specs.declared.frame.Frame.{Frame}
+use Rattle.doip_frame.specs.declared.frame.Frame.TheVariants.{HeaderNack, Activate, Activated, AliveAsk, AliveSay, Message, Ack, Nack, Other}
+use Rattle.unit_model.specs.Feed.{DueReply, Handles, HandlesMessage, HandlesAt, Hears, Nacks, Activation, Accepts, Denies, Ignores, activation, IsActivation}
+use Rattle.unit_model.specs.Unit.{ControlUnit}
+use Rattle.unit_model.specs.Vehicle.{Vehicle, unit_at}
+use Rattle.unit_sim.specs.Sims.{Sim, heard_by}
+use Rattle.gateway_sim.specs.Acting.{how, nack_for, turn_of, chosen, counted_activation}
+use Rattle.gateway_sim.specs.Gates.{Gate}
+use Rattle.gateway_sim.specs.Handling.{Sent, Nothing, Heard, Refused, Step, handled, delivers, comes, answered}
+use Rattle.gateway_sim.specs.declared.spec.GatewayTrouble.{GatewayTrouble}
+use Rattle.gateway_sim.specs.declared.spec.GatewayTrouble.TheVariants as trouble
+use Rattle.gateway_sim.specs.declared.trouble.Answer.{Answer}
+use Rattle.gateway_sim.specs.declared.trouble.Answer.TheVariants as answer
+use Rattle.vehicle_world.specs.Feeding.{Ran, after, all_met, does, frame_done, hears, nacked, is_known}
+use Rattle.vehicle_world.specs.Running.{Handled, StepsIn}
+use Rattle.vehicle_world.specs.States.{State, change_at, sim_at, unit_in, vehicle_in}
+use Rattle.vehicle_world.proofs.Meeting.{met_step}
+use Rattle.vehicle_world.proofs.Places.{units_at, units_with}
+
+-- ------ activation
+act_of : Answer → Activation
+act_of answer.Accept = Accepts
+act_of (answer.Deny code) = Denies code
+act_of answer.Ignore = Ignores
+
+IsAct : Answer → Type 0
+IsAct a = IsActivation (act_of a)
+
+denied : (code : ℕ) → IsAct (if code == 16 then answer.Accept else answer.Deny code)
+denied code = elim (cases_eq code 16) [
+  | inl e ↦ subst (λ (n : ℕ). IsAct (if n == 16 then answer.Accept else answer.Deny n)) (sym e) tt
+  | inr n ↦ let b : (code == 16) ≡ false = ne_eqb code 16 n in subst (λ (c : Bool). IsAct (if c then answer.Accept else answer.Deny code)) (sym b) n
+]
+
+IsActOr : Option Answer → Type 0
+IsActOr None = Unit {0}
+IsActOr (Some a) = IsAct a
+
+turn : (t : GatewayTrouble) → IsActOr (turn_of t)
+turn (trouble.Deny nth code) = go (nth == 1)
+  where
+    go : (c : Bool) → IsActOr (if c then Some (if code == 16 then answer.Accept else answer.Deny code) else None)
+    go true = denied code
+    go false = tt
+turn (trouble.Silent nth) = go (nth == 1)
+  where
+    go : (c : Bool) → IsActOr (if c then Some answer.Ignore else None)
+    go true = tt
+    go false = tt
+turn (trouble.Nack unit nth code) = tt
+turn (trouble.Alive tick) = tt
+
+chosen_is : (o : Option Answer) (a : Answer) → IsActOr o → IsAct a → IsAct (chosen o a)
+chosen_is None a x y = y
+chosen_is (Some b) a x y = x
+
+how_is : (ts : List GatewayTrouble) → IsAct (how ts)
+how_is [] = tt
+how_is (t ∷ ts) = chosen_is (turn_of t) (how ts) (turn t) (how_is ts)
+
+answers : (a : Answer) (source : ℕ) (ts : List GatewayTrouble) (s : State) → vehicle_in (record s { gate = record s.gate { gateway = answered a source s.gate.gateway; troubles = ts } }) ≡ activation (act_of a) source (vehicle_in s)
+answers answer.Accept source ts s = refl
+answers (answer.Deny code) source ts s = refl
+answers answer.Ignore source ts s = refl
+
+-- ------ messages
+-- where a unit is to hear a request, its step
+abbrev pub StepsSent : Sent → State → Type 0
+StepsSent Nothing s = Unit {0}
+StepsSent (Refused unit code) s = Unit {0}
+StepsSent (Heard unit body) s = StepsIn body s.gate.gateway.tick (sim_at unit s.sims)
+
+module _ (source target : ℕ) (body : List ℕ) (s : State) where
+  abbrev done : Step → Ran
+  done step = does step.1 (record s { gate = step.0 })
+
+  -- the code with which the message is refused, or none
+  one_unit : (u : Sim) → sim_at target s.sims ≡ Some u → (code : Option ℕ) → StepsSent (comes source target body code s.gate).1 (record s { gate = (comes source target body code s.gate).0 })
+      → HandlesAt source target body (Some (unit_in u)) (vehicle_in s) (vehicle_in (done (comes source target body code s.gate)).0) (done (comes source target body code s.gate)).1
+  one_unit u there (Some code) step = inl (record {
+    code = code;
+    none = refl;
+    becomes = λ i. record {
+      gateway = (vehicle_in (done (comes source target body (Some code) s.gate)).0).gateway;
+      units = sym (units_with target (nacked code) s.sims u there) i;
+    };
+  })
+  one_unit u there None step =
+      let tick : ℕ = s.gate.gateway.tick in
+      let mid : State = record s { gate = (comes source target body None s.gate).0 } in
+      let steps : StepsIn body tick (Some u) = subst (λ (o : Option Sim). StepsIn body tick o) there step in
+      let done_is : hears target body (Some u) mid ≡ hears target body (sim_at target s.sims) mid = ap (λ (o : Option Sim). hears target body o mid) (sym there) in
+      let sims : List Sim = change_at target (after body tick) s.sims in
+      let rs = (heard_by u body tick).waiting in
+      let heard : Hears source target body (unit_in u) (vehicle_in s) (vehicle_in (hears target body (Some u) mid).0) (hears target body (Some u) mid).1 = record {
+        replies = all_met sims tick rs;
+        after = (after body tick u).unit;
+        step = met_step sims u.unit body tick rs _ steps;
+        lets_out = refl;
+        becomes = λ i. record {
+          gateway = (vehicle_in (hears target body (Some u) mid).0).gateway;
+          units = sym (units_with target (after body tick) s.sims u there) i;
+        };
+      } in
+      subst (λ (r : Ran). HandlesAt source target body (Some (unit_in u)) (vehicle_in s) (vehicle_in r.0) r.1) done_is (inr heard)
+
+  abbrev step_at : Option Sim → Option ℕ → Step
+  step_at o active = delivers source target body (is_some o) active s.gate
+
+  some_tester : (tester : ℕ) (o : Option Sim) → sim_at target s.sims ≡ o → StepsSent (step_at o (Some tester)).1 (record s { gate = (step_at o (Some tester)).0 })
+      → HandlesAt source target body (option_map unit_in o) (vehicle_in s) (vehicle_in (done (step_at o (Some tester))).0) (done (step_at o (Some tester))).1
+  some_tester tester None there step = record { none = refl; becomes = refl }
+  some_tester tester (Some u) there step = one_unit u there (nack_for target s.gate.troubles) step
+
+  message : (active : Option ℕ) → StepsSent (step_at (sim_at target s.sims) active).1 (record s { gate = (step_at (sim_at target s.sims) active).0 })
+      → HandlesMessage source target body active (vehicle_in s) (vehicle_in (done (step_at (sim_at target s.sims) active)).0) (done (step_at (sim_at target s.sims) active)).1
+  message None step = record { none = refl; becomes = refl }
+  message (Some tester) step =
+      let r : Ran = done (step_at (sim_at target s.sims) (Some tester)) in
+      subst (λ (o : Option ControlUnit). HandlesAt source target body o (vehicle_in s) (vehicle_in r.0) r.1) (sym (units_at target s.sims)) (some_tester tester (sim_at target s.sims) refl step)
+
+-- ------ each frame
+pub frame_handles : (f : Frame) (s : State) → StepsSent (handled f (is_known f s) s.gate).1 (record s { gate = (handled f (is_known f s) s.gate).0 }) → Handled f s
+frame_handles (Activate source kind oem) s step = record {
+  how = act_of (how s.gate.troubles);
+  is = how_is s.gate.troubles;
+  none = refl;
+  becomes = answers (how s.gate.troubles) source (counted_activation s.gate.troubles) s;
+}
+frame_handles (Message source target body) s step = message source target body s s.gate.gateway.active step
+frame_handles (HeaderNack code) s step = record { none = refl; becomes = refl }
+frame_handles (Activated tester entity code oem) s step = record { none = refl; becomes = refl }
+frame_handles AliveAsk s step = record { none = refl; becomes = refl }
+frame_handles (AliveSay source) s step = record { none = refl; becomes = refl }
+frame_handles (Ack source target code old) s step = record { none = refl; becomes = refl }
+frame_handles (Nack source target code old) s step = record { none = refl; becomes = refl }
+frame_handles (Other kind payload) s step = record { none = refl; becomes = refl }

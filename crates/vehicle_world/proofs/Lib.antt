@@ -1,0 +1,14 @@
+pub mod Bodies
+pub mod Fed
+pub mod Framewise
+pub mod Fronts
+pub mod Handling
+pub mod Kept
+pub mod Lists
+pub mod Meeting
+pub mod Nothing
+pub mod Places
+pub mod Prefixes
+pub mod Refusals
+pub mod Stepping
+pub mod Streaming
