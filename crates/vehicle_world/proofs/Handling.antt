@@ -4,68 +4,30 @@ use Rattle.std.specs.Prelude.{◌==◌, is_some, option_map, if◌then◌else◌
 use Rattle.std.proofs.lemmas.Bool.{cases_Bool, cases_eq, eqb-true, ne_eqb, false≢true}
 use Rattle.doip_frame.specs.declared.frame.Frame.{Frame}
 use Rattle.doip_frame.specs.declared.frame.Frame.TheVariants.{HeaderNack, Activate, Activated, AliveAsk, AliveSay, Message, Ack, Nack, Other}
-use Rattle.unit_model.specs.Feed.{DueReply, Handles, HandlesMessage, HandlesAt, Hears, Nacks, Activation, Accepts, Denies, Ignores, activation, IsActivation}
+use Rattle.unit_model.specs.Feed.{DueReply, Handles, HandlesMessage, HandlesAt, Hears, Nacks, Activation, Accepts, Denies, Delays, Ignores, activation}
 use Rattle.unit_model.specs.Unit.{ControlUnit}
-use Rattle.unit_model.specs.Vehicle.{Vehicle, unit_at}
+use Rattle.unit_model.specs.Vehicle.{Gateway, Vehicle, unit_at}
 use Rattle.unit_sim.specs.Sims.{Sim, heard_by}
-use Rattle.gateway_sim.specs.Acting.{how, nack_for, turn_of, chosen, counted_activation}
+use Rattle.gateway_sim.specs.Acting.{how, nack_for, counted_activation}
 use Rattle.gateway_sim.specs.Gates.{Gate}
 use Rattle.gateway_sim.specs.Handling.{Sent, Nothing, Heard, Refused, Step, handled, delivers, comes, answered}
 use Rattle.gateway_sim.specs.declared.spec.GatewayTrouble.{GatewayTrouble}
-use Rattle.gateway_sim.specs.declared.spec.GatewayTrouble.TheVariants as trouble
-use Rattle.gateway_sim.specs.declared.trouble.Answer.{Answer}
-use Rattle.gateway_sim.specs.declared.trouble.Answer.TheVariants as answer
 use Rattle.vehicle_world.specs.Feeding.{Ran, after, all_met, does, frame_done, hears, nacked, is_known}
 use Rattle.vehicle_world.specs.Running.{Handled, StepsIn}
 use Rattle.vehicle_world.specs.States.{State, change_at, sim_at, unit_in, vehicle_in}
+use Rattle.vehicle_world.proofs.Activating.{Acts, acted, acts}
 use Rattle.vehicle_world.proofs.Meeting.{met_step}
 use Rattle.vehicle_world.proofs.Places.{units_at, units_with}
 
 -- ------ activation
-act_of : Answer → Activation
-act_of answer.Accept = Accepts
-act_of (answer.Deny code) = Denies code
-act_of answer.Ignore = Ignores
+acts_so : (a : Activation) (source : ℕ) (s : State) (ts : List GatewayTrouble) → vehicle_in (record s { gate = record s.gate { gateway = acted a source s.gate.gateway; troubles = ts } }) ≡ activation a source (vehicle_in s)
+acts_so Accepts source s ts = refl
+acts_so (Denies code) source s ts = refl
+acts_so (Delays ticks) source s ts = refl
+acts_so Ignores source s ts = refl
 
-IsAct : Answer → Type 0
-IsAct a = IsActivation (act_of a)
-
-denied : (code : ℕ) → IsAct (if code == 16 then answer.Accept else answer.Deny code)
-denied code = elim (cases_eq code 16) [
-  | inl e ↦ subst (λ (n : ℕ). IsAct (if n == 16 then answer.Accept else answer.Deny n)) (sym e) tt
-  | inr n ↦ let b : (code == 16) ≡ false = ne_eqb code 16 n in subst (λ (c : Bool). IsAct (if c then answer.Accept else answer.Deny code)) (sym b) n
-]
-
-IsActOr : Option Answer → Type 0
-IsActOr None = Unit {0}
-IsActOr (Some a) = IsAct a
-
-turn : (t : GatewayTrouble) → IsActOr (turn_of t)
-turn (trouble.Deny nth code) = go (nth == 1)
-  where
-    go : (c : Bool) → IsActOr (if c then Some (if code == 16 then answer.Accept else answer.Deny code) else None)
-    go true = denied code
-    go false = tt
-turn (trouble.Silent nth) = go (nth == 1)
-  where
-    go : (c : Bool) → IsActOr (if c then Some answer.Ignore else None)
-    go true = tt
-    go false = tt
-turn (trouble.Nack unit nth code) = tt
-turn (trouble.Alive tick) = tt
-
-chosen_is : (o : Option Answer) (a : Answer) → IsActOr o → IsAct a → IsAct (chosen o a)
-chosen_is None a x y = y
-chosen_is (Some b) a x y = x
-
-how_is : (ts : List GatewayTrouble) → IsAct (how ts)
-how_is [] = tt
-how_is (t ∷ ts) = chosen_is (turn_of t) (how ts) (turn t) (how_is ts)
-
-answers : (a : Answer) (source : ℕ) (ts : List GatewayTrouble) (s : State) → vehicle_in (record s { gate = record s.gate { gateway = answered a source s.gate.gateway; troubles = ts } }) ≡ activation (act_of a) source (vehicle_in s)
-answers answer.Accept source ts s = refl
-answers (answer.Deny code) source ts s = refl
-answers answer.Ignore source ts s = refl
+activates_so : (source : ℕ) (s : State) (ts : List GatewayTrouble) (h : Gateway) → (a : Acts source s.gate.gateway h) → vehicle_in (record s { gate = record s.gate { gateway = h; troubles = ts } }) ≡ activation a.act source (vehicle_in s)
+activates_so source s ts h a = (λ i. vehicle_in (record s { gate = record s.gate { gateway = a.becomes i; troubles = ts } })) ∙ acts_so a.act source s ts
 
 -- ------ messages
 -- where a unit is to hear a request, its step
@@ -125,12 +87,14 @@ module _ (source target : ℕ) (body : List ℕ) (s : State) where
 
 -- ------ each frame
 pub frame_handles : (f : Frame) (s : State) → StepsSent (handled f (is_known f s) s.gate).1 (record s { gate = (handled f (is_known f s) s.gate).0 }) → Handled f s
-frame_handles (Activate source kind oem) s step = record {
-  how = act_of (how s.gate.troubles);
-  is = how_is s.gate.troubles;
-  none = refl;
-  becomes = answers (how s.gate.troubles) source (counted_activation s.gate.troubles) s;
-}
+frame_handles (Activate source kind oem) s step =
+    let a : Acts source s.gate.gateway (answered (how s.gate.troubles) source s.gate.gateway) = acts source s.gate.gateway s.gate.troubles in
+    record {
+      how = a.act;
+      is = a.is;
+      none = refl;
+      becomes = activates_so source s (counted_activation s.gate.troubles) _ a;
+    }
 frame_handles (Message source target body) s step = message source target body s s.gate.gateway.active step
 frame_handles (HeaderNack code) s step = record { none = refl; becomes = refl }
 frame_handles (Activated tester entity code oem) s step = record { none = refl; becomes = refl }

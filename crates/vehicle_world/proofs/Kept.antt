@@ -1,5 +1,5 @@
 -- What handling a frame keeps of a gateway.
-use Rattle.std.proofs.Common.{◌≡◌, ℕ, Bool, true, false, List, [], ◌∷◌, Some, None, Option, refl, sym, ◌∙◌, ap}
+use Rattle.std.proofs.Common.{◌≡◌, ℕ, Bool, true, false, List, [], ◌∷◌, Some, None, Option, refl, sym, ◌∙◌, ap, subst}
 use Rattle.std.specs.Prelude.{nat_le, if◌then◌else◌}
 use Rattle.std.proofs.Common.{inl, inr}
 use Rattle.std.proofs.lemmas.Bool.{cases_Bool}
@@ -8,14 +8,13 @@ use Rattle.doip_frame.specs.declared.frame.Bad.{Bad}
 use Rattle.doip_frame.specs.declared.frame.Bad.TheVariants.{Pattern, Length, TooLarge, Failed}
 use Rattle.doip_frame.specs.declared.frame.Frame.{Frame}
 use Rattle.doip_frame.specs.declared.frame.Frame.TheVariants.{HeaderNack, Activate, Activated, AliveAsk, AliveSay, Message, Ack, Nack, Other}
-use Rattle.unit_model.specs.Feed.{DueReply, enqueue, queue_due, tester_of}
+use Rattle.unit_model.specs.Feed.{Activation, Accepts, Denies, Delays, Ignores, DueReply, enqueue, queue_due, tester_of}
 use Rattle.unit_model.specs.Vehicle.{Gateway, HeldAnswer, Vehicle, redialed}
 use Rattle.unit_sim.specs.Sims.{Sim}
-use Rattle.gateway_sim.specs.Acting.{how, nack_for}
+use Rattle.gateway_sim.specs.Acting.{nack_for}
 use Rattle.gateway_sim.specs.Gates.{Gate, redialed_gate}
-use Rattle.gateway_sim.specs.Handling.{Sent, Nothing, Heard, Refused, handled, delivers, comes, answered, queued, refusing}
-use Rattle.gateway_sim.specs.declared.trouble.Answer.{Answer}
-use Rattle.gateway_sim.specs.declared.trouble.Answer.TheVariants as answer
+use Rattle.gateway_sim.specs.Handling.{Sent, Nothing, Heard, Refused, handled, delivers, comes, queued, refusing}
+use Rattle.vehicle_world.proofs.Activating.{Acts, acted, acts}
 use Rattle.vehicle_world.specs.Feeding.{all_queued, does, frame_done, frames_done, hears, is_known}
 use Rattle.vehicle_world.specs.States.{State, forgotten, sim_at, vehicle_in}
 
@@ -28,10 +27,14 @@ pub record Keeps (old new : Gateway) : Type 0 where
 keeps_then : (a b c : Gateway) → Keeps a b → Keeps b c → Keeps a c
 keeps_then a b c x y = record { deaf = y.deaf ∙ x.deaf; unfinished = y.unfinished ∙ x.unfinished; tick = y.tick ∙ x.tick }
 
-answered_keeps : (a : Answer) (source : ℕ) (h : Gateway) → Keeps h (answered a source h)
-answered_keeps answer.Accept source h = record { deaf = refl; unfinished = refl; tick = refl }
-answered_keeps (answer.Deny code) source h = record { deaf = refl; unfinished = refl; tick = refl }
-answered_keeps answer.Ignore source h = record { deaf = refl; unfinished = refl; tick = refl }
+act_keeps : (a : Activation) (source : ℕ) (h : Gateway) → Keeps h (acted a source h)
+act_keeps Accepts source h = record { deaf = refl; unfinished = refl; tick = refl }
+act_keeps (Denies code) source h = record { deaf = refl; unfinished = refl; tick = refl }
+act_keeps (Delays ticks) source h = record { deaf = refl; unfinished = refl; tick = refl }
+act_keeps Ignores source h = record { deaf = refl; unfinished = refl; tick = refl }
+
+acts_keep : (source : ℕ) (old new : Gateway) → Acts source old new → Keeps old new
+acts_keep source old new a = subst (Keeps old) (sym a.becomes) (act_keeps a.act source old)
 
 came : (source target : ℕ) (body : List ℕ) (code : Option ℕ) (g : Gate) → Keeps g.gateway (comes source target body code g).0.gateway
 came source target body None g = record { deaf = refl; unfinished = refl; tick = refl }
@@ -43,7 +46,7 @@ delivered source target body true (Some tester) g = came source target body (nac
 delivered source target body false (Some tester) g = record { deaf = refl; unfinished = refl; tick = refl }
 
 pub handled_keeps : (f : Frame) (known : Bool) (g : Gate) → Keeps g.gateway (handled f known g).0.gateway
-handled_keeps (Activate source kind oem) known g = answered_keeps (how g.troubles) source g.gateway
+handled_keeps (Activate source kind oem) known g = acts_keep source g.gateway _ (acts source g.gateway g.troubles)
 handled_keeps (Message source target body) known g = delivered source target body known g.gateway.active g
 handled_keeps (HeaderNack code) known g = record { deaf = refl; unfinished = refl; tick = refl }
 handled_keeps (Activated tester entity code oem) known g = record { deaf = refl; unfinished = refl; tick = refl }
@@ -81,7 +84,7 @@ frames_keep [] s = record { deaf = refl; unfinished = refl; tick = refl }
 frames_keep (f ∷ fs) s = keeps_then _ _ _ (frame_keeps f s) (frames_keep fs (frame_done f s).0)
 
 -- ------ queued replies
-with_held : List HeldAnswer → Gateway → Gateway
+abbrev pub with_held : List HeldAnswer → Gateway → Gateway
 with_held held h = record h { held = held }
 
 one_queued : (held : List HeldAnswer) (h : Gateway) (due : ℕ) (frame : List ℕ) → with_held held (enqueue h due frame) ≡ enqueue (with_held held h) due frame
@@ -94,7 +97,7 @@ queued_held held (w ∷ ws) g =
     ∙ ap (λ (h : Gateway). queue_due h ws) (one_queued held g.gateway w.due (message_bytes w.unit (tester_of g.gateway) w.body))
 
 -- a new connection forgets them
-cleared : Gateway → Gateway
+abbrev pub cleared : Gateway → Gateway
 cleared h = record h { active = None; deaf = false; unfinished = []; ready = []; later = []; held = []; carried = [] }
 
 one_cleared : (h : Gateway) (due : ℕ) (frame : List ℕ) → cleared (enqueue h due frame) ≡ cleared h

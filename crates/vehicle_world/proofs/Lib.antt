@@ -1,4 +1,6 @@
+pub mod Activating
 pub mod Bodies
+pub mod Changes
 pub mod Fed
 pub mod Framewise
 pub mod Fronts
@@ -9,6 +11,8 @@ pub mod Meeting
 pub mod Nothing
 pub mod Places
 pub mod Prefixes
+pub mod Queued
 pub mod Refusals
+pub mod Specs
 pub mod Stepping
 pub mod Streaming

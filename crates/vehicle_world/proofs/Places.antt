@@ -2,11 +2,14 @@
 use Rattle.std.proofs.Common.{◌≡◌, inl, inr, ℕ, zero, suc, ◌+◌, ◌<◌, true, false, List, [], ◌∷◌, length, map, set, get_or, Some, None, Option, refl, sym, ◌∙◌, ap, subst, arith}
 use Rattle.std.specs.Prelude.{Bool, ◌==◌, option_map, is_some, if◌then◌else◌}
 use Rattle.std.proofs.lemmas.Bool.{cases_Bool}
+use Rattle.std.proofs.lemmas.List.{length-map, map-set}
 use Rattle.unit_model.specs.Feed.{with_unit}
 use Rattle.unit_model.specs.Unit.{ControlUnit}
 use Rattle.unit_model.specs.Vehicle.{unit_at}
 use Rattle.unit_sim.specs.Sims.{Sim}
-use Rattle.vehicle_world.specs.States.{change_at, place_from, sim_at, unit_in}
+use Rattle.vehicle_world.specs.States.{change_at, node_sim, place_from, sim_at, unit_in}
+use Rattle.vehicle_world.specs.declared.node.Node.{Node}
+use Rattle.vehicle_world.proofs.Changes.{got}
 
 -- the first unit with the address stands at this place
 pub record FoundAt (t : ℕ) (ss : List Sim) (i : ℕ) : Type 0 where
@@ -104,3 +107,22 @@ units_with t f (s ∷ ss) u e = elim (cases_Bool (s.unit.address == t)) [
       let there : sim_at t ss ≡ Some u = ap (λ (b : Bool). if b then Some s else sim_at t ss) (sym z) ∙ e in
       rw z (ap (λ (xs : List ControlUnit). s.unit ∷ xs) (units_with t f ss u there))
 ]
+
+-- ------ in a list of nodes
+pub in_nodes : (t : ℕ) (items seen : List Node) (o : Option ℕ) (i : ℕ) → seen ≡ items → o ≡ place_from 0 t (map node_sim seen) → o ≡ Some i → FoundAt t (map node_sim items) i
+in_nodes t items seen o i same is found = found_at t (map node_sim items) i (ap (λ (ns : List Node). place_from 0 t (map node_sim ns)) (sym same) ∙ sym is ∙ found)
+
+pub not_in_nodes : (t : ℕ) (items seen : List Node) (o : Option ℕ) → seen ≡ items → o ≡ place_from 0 t (map node_sim seen) → o ≡ None → NoneAt t (map node_sim items)
+not_in_nodes t items seen o same is found = none_at t (map node_sim items) (ap (λ (ns : List Node). place_from 0 t (map node_sim ns)) (sym same) ∙ sym is ∙ found)
+
+pub there_in : (t : ℕ) (items : List Node) (i : ℕ) (x : Node) → (f : FoundAt t (map node_sim items) i) → x ≡ get_or items i x → node_sim x ≡ f.there
+there_in t items i x f is = ap node_sim is ∙ sym (got node_sim items i x) ∙ f.is (node_sim x)
+
+pub within_nodes : (t : ℕ) (items : List Node) (i : ℕ) → FoundAt t (map node_sim items) i → i < length items
+within_nodes t items i f = omega (arith, f.within, length-map items node_sim)
+
+pub put_back : (t : ℕ) (items : List Node) (i : ℕ) (g : Sim → Sim) (x w : Node) → FoundAt t (map node_sim items) i → x ≡ get_or items i x → node_sim w ≡ g (node_sim x) → map node_sim (set items i w) ≡ change_at t g (map node_sim items)
+put_back t items i g x w f is new =
+    map-set node_sim items i w
+    ∙ ap (λ (s : Sim). set (map node_sim items) i s) (new ∙ ap g (there_in t items i x f is))
+    ∙ f.change g

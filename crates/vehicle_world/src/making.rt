@@ -78,15 +78,21 @@ fn unmet(units: &[Node], troubles: Items<TroubleSpec>) -> Items<TroubleSpec>
     Items::from_vec(list)
 }
 
+fn with_unmet(units: &[Node], spec: UnitSpec) -> UnitSpec
+    ensures { result ≡ record spec { troubles = unmet (map node_sim units.now) spec.troubles } }
+{
+    UnitSpec {
+        troubles: unmet(units, spec.troubles),
+        ..spec
+    }
+}
+
 /// The unit as a spec.
 fn spec_of(alloc: Global, units: &[Node], node: &Node) -> Result<UnitSpec, NoMemory>
     ensures is { IfOk result (SavesUnit (map node_sim units.now) (node_sim node.now)) }
     ensures form { IfOk result IsUnitSpec }
 {
-    let mut spec = node.sim.spec(alloc)?;
-    let all = std::mem::replace(&mut spec.troubles, Items::new(alloc));
-    spec.troubles = unmet(units, all);
-    Ok(spec)
+    Ok(with_unmet(units, node.sim.spec(alloc)?))
 }
 
 /// The units as specs.

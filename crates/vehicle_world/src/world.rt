@@ -160,9 +160,10 @@ impl World {
           sims = change_at unit (nacked code) (state_of self.old).sims;
         } }
     {
-        if let Some(place) = place_of(&self.units, unit) {
-            self.units[place].nack(code);
-        }
+        let Some(place) = place_of(&self.units, unit) else {
+            return;
+        };
+        self.units[place].nack(code);
     }
 
     /// Handles one frame.
