@@ -1,5 +1,6 @@
 pub mod Activating
 pub mod Bodies
+pub mod Calling
 pub mod Changes
 pub mod Fed
 pub mod Framewise
