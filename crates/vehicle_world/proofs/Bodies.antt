@@ -119,12 +119,12 @@ of_frame kind payload form =
 
 in_stream : (n : ℕ) (bytes : List ℕ) → Each HasBody (stream_in n bytes).frames
 in_stream zero bytes = tt
-in_stream (suc n) bytes = go (cut_frame bytes) (formed bytes)
+in_stream (suc n) bytes = go (in_stream n) (cut_frame bytes) (formed bytes)
   where
-    go : (cut : Cut) → Formed cut → Each HasBody (stream_after cut (stream_in n) bytes).frames
-    go Partial form = tt
-    go (Wrong bad) form = tt
-    go (Whole kind payload rest) form = (of_frame kind payload form, in_stream n rest)
+    go : ((rest : List ℕ) → Each HasBody (stream_in n rest).frames) → (cut : Cut) → Formed cut → Each HasBody (stream_after cut (stream_in n) bytes).frames
+    go again Partial form = tt
+    go again (Wrong bad) form = tt
+    go again (Whole kind payload rest) form = (of_frame kind payload form, again rest)
 
 pub have_bodies : (held : Option (List ℕ)) (piece : List ℕ) → Each HasBody (frames_in held piece)
 have_bodies None piece = tt

@@ -141,3 +141,14 @@ module _ (bytes : List ℕ) (old : State) where
       go : (deaf : Bool) → g.deaf ≡ deaf → FeedsBroken bytes (vehicle_in old) new
       go true e = part_unheard new e (moved None (front_deaf e))
       go false e = part_heard new e part (moved (Some g.unfinished) (front_hears e))
+
+-- ------ what was cut
+pub deaf_none : (front : Option (List ℕ)) → is_deaf front ≡ true → unfinished_of front ≡ []
+deaf_none None e = refl
+deaf_none (Some held) e = let p : ⊥ = cc in absurd p
+
+pub moved_all : (fs gs : List Frame) (bad bad' : Option Bad) (mid cut new : State) → fs ≡ gs → bad ≡ bad' → mid ≡ cut → WentAll fs bad mid new → WentAll gs bad' cut new
+moved_all fs gs bad bad' mid cut new fs_is bad_is mid_is w = subst (λ (p : List Frame × Option Bad × State). WentAll p.0 p.1 p.2 new) (λ i. (fs_is i, bad_is i, mid_is i)) w
+
+pub moved_part : (fs gs : List Frame) (mid cut : State) (old new : Vehicle) → fs ≡ gs → mid ≡ cut → new ≡ old → WentPart fs mid old → WentPart gs cut new
+moved_part fs gs mid cut old new fs_is mid_is new_is w = subst (λ (p : List Frame × State). WentPart p.0 p.1 new) (λ i. (fs_is i, mid_is i)) (record { count = w.count; now = w.now; out = w.out; went = w.went; leaves = new_is ∙ w.leaves })

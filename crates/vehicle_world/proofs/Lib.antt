@@ -10,6 +10,7 @@ pub mod Kept
 pub mod Lists
 pub mod Meeting
 pub mod Nothing
+pub mod Passing
 pub mod Places
 pub mod Prefixes
 pub mod Queued

@@ -5,7 +5,6 @@ use Rattle.unit_model.specs.Poll.{Ticks, Carries, IsPlain, held_on, pending_of, 
 use Rattle.unit_model.specs.Vehicle.{HeldAnswer, Vehicle, redialed}
 use Rattle.unit_model.specs.declared.reply.Got.{Got}
 use Rattle.unit_model.specs.declared.reply.Got.TheVariants.{Quiet, Bytes}
-use Rattle.unit_model.specs.declared.spec.UnitSpec.{UnitSpec}
 use Rattle.unit_model.specs.Feed.{tester_of}
 use Rattle.unit_sim.specs.Sims.{Sim, made_of as sim_made}
 use Rattle.gateway_sim.specs.Feeding.{garbled as gate_garbled}
@@ -13,7 +12,8 @@ use Rattle.gateway_sim.specs.Gates.{Gate, gate_of, made_of as gate_made, rediale
 use Rattle.gateway_sim.specs.Handling.{ticks, with_gateway}
 use Rattle.gateway_sim.specs.Saving.{left_at}
 use Rattle.vehicle_world.specs.Feeding.{state_fed}
-use Rattle.vehicle_world.specs.Saving.{IsVehicleSpec, SavesState}
+use Rattle.gateway_sim.specs.declared.spec.GatewaySpec.{GatewaySpec}
+use Rattle.vehicle_world.specs.Saving.{address_in, SavesState}
 use Rattle.vehicle_world.specs.States.{State, answer_of, node_sim, vehicle_in}
 use Rattle.vehicle_world.specs.declared.spec.VehicleSpec.{VehicleSpec}
 use Rattle.vehicle_world.specs.declared.world.World.{World}
@@ -37,9 +37,16 @@ abbrev pub world_of : World → Simulated
 world_of w = simulated (state_of w)
 
 -- an alive check at tick 0 is over
+abbrev pub gate_in : VehicleSpec → GatewaySpec
+gate_in spec = record {
+  entity = spec.gateway.entity;
+  gateway = left_at 0 spec.gateway.gateway;
+  units = map address_in spec.units;
+}
+
 abbrev pub state_made : VehicleSpec → State
 state_made spec = record {
-  gate = gate_made (record spec.gateway { gateway = left_at 0 spec.gateway.gateway });
+  gate = gate_made (gate_in spec);
   sims = map sim_made spec.units;
   held = [];
 }
