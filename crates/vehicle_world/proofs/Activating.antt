@@ -1,8 +1,8 @@
 -- An activation request is answered in one of the ways that there are.
-use Rattle.std.proofs.Common.{◌≡◌, inl, inr, ℕ, Bool, true, false, List, [], ◌∷◌, refl, sym, ◌∙◌, ap, subst}
+use Rattle.std.proofs.Common.{◌≡◌, inl, inr, ℕ, true, false, List, [], ◌∷◌, refl}
 use Rattle.std.specs.Prelude.{◌==◌}
 use Rattle.std.proofs.lemmas.Bool.{cases_Bool, cases_eq, eq-eqb, ne_eqb}
-use Rattle.unit_model.specs.Feed.{Activation, Accepts, Denies, Delays, Ignores, activation, IsActivation}
+use Rattle.unit_model.specs.Feed.{Activation, Accepts, Denies, Ignores, activation, IsActivation}
 use Rattle.unit_model.specs.Vehicle.{Gateway}
 use Rattle.gateway_sim.specs.Acting.{how}
 use Rattle.gateway_sim.specs.Handling.{answered}

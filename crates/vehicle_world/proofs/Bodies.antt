@@ -1,14 +1,14 @@
 -- A message that was cut out of a stream has user data.
-use Rattle.std.proofs.Common.{◌≡◌, inl, inr, ℕ, zero, suc, ◌≤◌, true, false, List, [], ◌∷◌, ◌++◌, length, take, drop, refl, arith}
-use Rattle.std.specs.Prelude.{Bool, Option, ◌==◌, ◌&&◌, not, nat_le, nat_lt, if◌then◌else◌, Some, None}
-use Rattle.std.proofs.lemmas.Bool.{cases_Bool, cases_lt, lt-ltb, le-ltb, leb-true, eqb-true}
+use Rattle.std.proofs.Common.{◌≡◌, inl, inr, ℕ, zero, suc, ◌≤◌, true, false, List, [], ◌∷◌, ◌++◌, length, take, refl, arith}
+use Rattle.std.specs.Prelude.{Bool, Option, ◌==◌, ◌&&◌, nat_le, nat_lt, if◌then◌else◌, Some, None}
+use Rattle.std.proofs.lemmas.Bool.{cases_Bool, cases_lt, lt-ltb, le-ltb, leb-true}
 use Rattle.std.proofs.lemmas.List.{length-take-le}
 use Rattle.flash_base.specs.Lists.{Each}
 use Rattle.flash_base.specs.Numbers.{number2, number4}
 use Rattle.doip_frame.specs.Deframe.{frames_in}
-use Rattle.doip_frame.specs.Frame.{Cut, Partial, Wrong, Whole, cut_frame, cut_body, cut_sized, is_length, frame_of, addressed_of, ack_of, nack_of, activate_of, activated_of, alive_of, header_nack_of, stream_of, stream_in, stream_after}
+use Rattle.doip_frame.specs.Frame.{Cut, Partial, Wrong, Whole, cut_frame, cut_body, cut_sized, is_length, frame_of, addressed_of, ack_of, nack_of, activate_of, activated_of, alive_of, header_nack_of, stream_in, stream_after}
 use Rattle.doip_frame.specs.declared.frame.Frame.{Frame}
-use Rattle.doip_frame.specs.declared.frame.Frame.TheVariants.{HeaderNack, Activate, Activated, AliveAsk, AliveSay, Message, Ack, Nack, Other}
+use Rattle.doip_frame.specs.declared.frame.Frame.TheVariants.{Message}
 use Rattle.vehicle_world.specs.Running.{HasBody}
 
 -- a payload that has one of the lengths of its kind

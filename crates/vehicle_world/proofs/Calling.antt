@@ -1,5 +1,5 @@
 -- A unit hears a request, and a frame is handled.
-use Rattle.std.proofs.Common.{◌≡◌, ◌⊎◌, inl, inr, ℕ, ◌+◌, ◌<◌, Bool, true, false, List, [], ◌∷◌, ◌++◌, length, map, set, get_or, take, drop, Some, None, Ok, Err, Option, refl, sym, ◌∙◌, ap, subst}
+use Rattle.std.proofs.Common.{◌≡◌, inl, inr, ℕ, ◌+◌, ◌<◌, Bool, true, false, List, ◌∷◌, length, map, set, get_or, drop, Some, None, Ok, Err, Option, refl, sym, ◌∙◌, ap, subst}
 use Rattle.std.specs.Prelude.{Result, OnOk, OnErr, slice_get}
 use Rattle.std.proofs.lemmas.List.{append-nil, drop_more}
 use Rattle.std.proofs.lemmas.Option.{get_or_from_slice_get, slice_get_within}
@@ -11,16 +11,15 @@ use Rattle.doip_frame.specs.declared.frame.Frame.{Frame}
 use Rattle.doip_frame.specs.declared.frame.Frame.TheVariants.{HeaderNack, Activate, Activated, AliveAsk, AliveSay, Message, Ack, Nack, Other}
 use Rattle.unit_model.specs.Feed.{DueReply}
 use Rattle.unit_model.specs.Step.{UnitStep}
-use Rattle.unit_model.specs.Unit.{ControlUnit}
-use Rattle.unit_model.specs.Vehicle.{Gateway, Vehicle, redialed}
+use Rattle.unit_model.specs.Vehicle.{Vehicle}
 use Rattle.unit_model.specs.declared.reply.UnitReply.{UnitReply}
 use Rattle.unit_sim.specs.Sims.{Sim, heard_by}
 use Rattle.gateway_sim.specs.Acting.{nack_for}
 use Rattle.gateway_sim.specs.Gates.{Gate, redialed_gate}
 use Rattle.gateway_sim.specs.Handling.{Sent, Nothing, Heard, Refused, Step, handled, delivers, comes, refusing}
 use Rattle.vehicle_world.specs.Feeding.{Ran, after, does, frame_done, gathered, hears, is_known}
-use Rattle.vehicle_world.specs.Running.{Adds, Handled, Hearkened, HeardOrNot, OneOrNone, StepsIn}
-use Rattle.vehicle_world.specs.States.{State, change_at, forgotten, node_sim, sim_at, unit_in, vehicle_in}
+use Rattle.vehicle_world.specs.Running.{Adds, Handled, HeardOrNot, OneOrNone, StepsIn}
+use Rattle.vehicle_world.specs.States.{State, change_at, forgotten, node_sim, sim_at, unit_in}
 use Rattle.vehicle_world.specs.declared.node.Node.{Node}
 use Rattle.vehicle_world.proofs.Handling.{StepsSent, frame_handles}
 use Rattle.vehicle_world.proofs.Kept.{cleared, refused_forgotten}

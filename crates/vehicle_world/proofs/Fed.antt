@@ -1,5 +1,5 @@
 -- What a feed makes of a simulated vehicle is what it may make of the vehicle.
-use Rattle.std.proofs.Common.{◌≡◌, ◌⊎◌, inl, inr, ℕ, zero, suc, Bool, true, false, List, [], ◌∷◌, ◌++◌, map, take, Some, None, Option, refl, sym, ◌∙◌, ap, subst}
+use Rattle.std.proofs.Common.{◌≡◌, ℕ, zero, suc, Bool, true, false, List, [], ◌++◌, map, take, Some, None, Option, refl, sym, ◌∙◌, ap, subst}
 use Rattle.std.specs.Prelude.{MatchBool, if◌then◌else◌}
 use Rattle.doip_frame.specs.declared.frame.Bad.{Bad}
 use Rattle.doip_frame.specs.declared.frame.Bad.TheVariants.{Failed}
@@ -7,12 +7,12 @@ use Rattle.doip_frame.specs.declared.frame.Frame.{Frame}
 use Rattle.doip_frame.specs.Deframe.{frames_in, bad_in, held_after, kept}
 use Rattle.doip_frame.specs.Frame.{Partial, Stream, cut_frame, stream_of, header_nack_bytes, nack_code}
 use Rattle.unit_model.specs.Feed.{DueReply, Feeds, FeedsHearing, queue_due}
-use Rattle.unit_model.specs.Vehicle.{Gateway, HeldAnswer, Vehicle, redialed}
+use Rattle.unit_model.specs.Vehicle.{Gateway, Vehicle, redialed}
 use Rattle.gateway_sim.specs.Feeding.{at_front, cut_off, ended}
 use Rattle.gateway_sim.specs.Fronts.{is_deaf, unfinished_of}
 use Rattle.gateway_sim.specs.Gates.{Gate, front_of}
 use Rattle.gateway_sim.specs.Handling.{refusing}
-use Rattle.vehicle_world.specs.Feeding.{all_queued, frames_done, ran, state_fed}
+use Rattle.vehicle_world.specs.Feeding.{all_queued, frames_done, state_fed}
 use Rattle.vehicle_world.specs.Running.{Runs, Went, WentAll, WentPart}
 use Rattle.vehicle_world.specs.States.{State, forgotten, unit_in, vehicle_in}
 use Rattle.vehicle_world.specs.Worlds.{FeedsBroken}

@@ -1,5 +1,5 @@
 -- Frames that are handled one after another.
-use Rattle.std.proofs.Common.{◌≡◌, ◌⊎◌, inl, inr, ℕ, ◌+◌, ◌<◌, ◌≤◌, List, [], ◌∷◌, ◌++◌, length, take, get_or, Some, None, Option, refl, sym, ◌∙◌, ap, subst, append_assoc, arith}
+use Rattle.std.proofs.Common.{◌≡◌, inl, inr, ℕ, ◌+◌, ◌<◌, ◌≤◌, List, [], ◌∷◌, ◌++◌, length, take, Some, Option, refl, sym, ◌∙◌, ap, subst, append_assoc}
 use Rattle.std.specs.Prelude.{slice_get}
 use Rattle.std.proofs.lemmas.List.{take_more, take_all, append-nil}
 use Rattle.std.proofs.lemmas.Option.{get_or_from_slice_get, slice_get_within}
@@ -7,7 +7,6 @@ use Rattle.doip_frame.specs.declared.frame.Bad.{Bad}
 use Rattle.doip_frame.specs.declared.frame.Frame.{Frame}
 use Rattle.unit_model.specs.Feed.{DueReply, Handles}
 use Rattle.unit_model.specs.Vehicle.{Vehicle}
-use Rattle.gateway_sim.specs.Gates.{Gate}
 use Rattle.gateway_sim.specs.Handling.{refusing}
 use Rattle.vehicle_world.specs.Feeding.{all_queued, frame_done, frames_done}
 use Rattle.vehicle_world.specs.Running.{Adds, Handled, OneOrNone, Runs, Went, WentAll, WentPart}

@@ -1,18 +1,16 @@
 -- What a frame makes of a simulated vehicle is what it may make of the vehicle.
-use Rattle.std.proofs.Common.{◌≡◌, ◌⊎◌, inl, inr, ℕ, Bool, true, false, List, [], ◌∷◌, ◌++◌, map, Some, None, Option, refl, sym, ◌∙◌, ap, subst}
-use Rattle.std.specs.Prelude.{◌==◌, is_some, option_map, if◌then◌else◌}
-use Rattle.std.proofs.lemmas.Bool.{cases_Bool, cases_eq, eqb-true, ne_eqb, false≢true}
+use Rattle.std.proofs.Common.{◌≡◌, inl, inr, ℕ, List, Some, None, Option, refl, sym, ◌∙◌, ap, subst}
+use Rattle.std.specs.Prelude.{is_some, option_map}
 use Rattle.doip_frame.specs.declared.frame.Frame.{Frame}
 use Rattle.doip_frame.specs.declared.frame.Frame.TheVariants.{HeaderNack, Activate, Activated, AliveAsk, AliveSay, Message, Ack, Nack, Other}
-use Rattle.unit_model.specs.Feed.{DueReply, Handles, HandlesMessage, HandlesAt, Hears, Nacks, Activation, Accepts, Denies, Delays, Ignores, activation}
+use Rattle.unit_model.specs.Feed.{HandlesMessage, HandlesAt, Hears, Activation, Accepts, Denies, Delays, Ignores, activation}
 use Rattle.unit_model.specs.Unit.{ControlUnit}
-use Rattle.unit_model.specs.Vehicle.{Gateway, Vehicle, unit_at}
+use Rattle.unit_model.specs.Vehicle.{Gateway}
 use Rattle.unit_sim.specs.Sims.{Sim, heard_by}
 use Rattle.gateway_sim.specs.Acting.{how, nack_for, counted_activation}
-use Rattle.gateway_sim.specs.Gates.{Gate}
 use Rattle.gateway_sim.specs.Handling.{Sent, Nothing, Heard, Refused, Step, handled, delivers, comes, answered}
 use Rattle.gateway_sim.specs.declared.spec.GatewayTrouble.{GatewayTrouble}
-use Rattle.vehicle_world.specs.Feeding.{Ran, after, all_met, does, frame_done, hears, nacked, is_known}
+use Rattle.vehicle_world.specs.Feeding.{Ran, after, all_met, does, hears, nacked, is_known}
 use Rattle.vehicle_world.specs.Running.{Handled, StepsIn}
 use Rattle.vehicle_world.specs.States.{State, change_at, sim_at, unit_in, vehicle_in}
 use Rattle.vehicle_world.proofs.Activating.{Acts, acted, acts}

@@ -1,6 +1,6 @@
 -- What handling a frame keeps of a gateway.
 use Rattle.std.proofs.Common.{◌≡◌, ℕ, Bool, true, false, List, [], ◌∷◌, Some, None, Option, refl, sym, ◌∙◌, ap, subst}
-use Rattle.std.specs.Prelude.{nat_le, if◌then◌else◌}
+use Rattle.std.specs.Prelude.{nat_le}
 use Rattle.std.proofs.Common.{inl, inr}
 use Rattle.std.proofs.lemmas.Bool.{cases_Bool}
 use Rattle.doip_frame.specs.Frame.{message_bytes}
@@ -16,7 +16,7 @@ use Rattle.gateway_sim.specs.Gates.{Gate, redialed_gate}
 use Rattle.gateway_sim.specs.Handling.{Sent, Nothing, Heard, Refused, handled, delivers, comes, queued, refusing}
 use Rattle.vehicle_world.proofs.Activating.{Acts, acted, acts}
 use Rattle.vehicle_world.specs.Feeding.{all_queued, does, frame_done, frames_done, hears, is_known}
-use Rattle.vehicle_world.specs.States.{State, forgotten, sim_at, vehicle_in}
+use Rattle.vehicle_world.specs.States.{State, forgotten, sim_at}
 
 -- the beginning of a frame, and the tick
 pub record Keeps (old new : Gateway) : Type 0 where

@@ -1,4 +1,5 @@
 pub mod Activating
+pub mod Anew
 pub mod Bodies
 pub mod Calling
 pub mod Changes

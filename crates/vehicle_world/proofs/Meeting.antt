@@ -1,17 +1,15 @@
 -- Replies of a unit, of which one that waits for what was heard already comes at once.
-use Rattle.std.proofs.Common.{◌≡◌, ◌⊎◌, inl, inr, ℕ, ◌≤◌, Bool, true, false, List, [], ◌∷◌, ◌++◌, map, Some, None, Option, refl, sym, ◌∙◌, ap, subst}
+use Rattle.std.proofs.Common.{◌≡◌, ◌⊎◌, inl, inr, ℕ, Bool, List, [], ◌∷◌, ◌++◌, Some, None, Option, refl, sym, ◌∙◌, ap, subst}
 use Rattle.std.specs.Prelude.{if◌then◌else◌}
 use Rattle.std.proofs.lemmas.Bool.{cases_Bool}
-use Rattle.std.proofs.lemmas.List.{map-append}
 use Rattle.flash_base.specs.Lists.{Each}
-use Rattle.unit_model.specs.declared.reply.Due.{Due}
 use Rattle.unit_model.specs.declared.reply.Due.TheVariants.{At, Held}
 use Rattle.unit_model.specs.declared.reply.UnitReply.{UnitReply}
 use Rattle.unit_model.specs.Step.{CanSend, UnitStep, Obeys, Holds, Departs, reply_at, pendings, last_replies}
 use Rattle.unit_model.specs.Unit.{ControlUnit}
 use Rattle.unit_sim.specs.Sims.{Sim}
 use Rattle.unit_sim.proofs.Held.{may_come}
-use Rattle.vehicle_world.specs.Feeding.{all_met, met, met_due}
+use Rattle.vehicle_world.specs.Feeding.{all_met}
 use Rattle.vehicle_world.specs.Running.{HasTurns, IsReply}
 use Rattle.vehicle_world.specs.States.{has_heard}
 

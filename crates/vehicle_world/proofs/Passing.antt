@@ -1,21 +1,19 @@
 -- What a receive does.
-use Rattle.std.proofs.Common.{◌≡◌, ◌⊎◌, inl, inr, ℕ, zero, suc, ◌+◌, ◌-◌, ◌<◌, ◌≤◌, Bool, true, false, List, [], ◌∷◌, ◌++◌, length, map, take, drop, Some, None, Ok, Err, Option, refl, sym, ◌∙◌, ap, subst, arith}
-use Rattle.std.specs.Prelude.{min, nat_lt, ◌==◌, Result, if◌then◌else◌}
-use Rattle.std.proofs.lemmas.Bool.{ltb-true, lt-ltb, false≢true, eq-eqb, ne_eqb}
-use Rattle.std.proofs.lemmas.List.{length-append, length-take-le}
-use Rattle.std.proofs.Math.Seq.{take-append_seam, drop-append_seam}
-use Rattle.unit_model.specs.Poll.{Ticks, Carries, IsPlain, raises, raised_by, ticked, held_on, pending_of}
+use Rattle.std.proofs.Common.{◌≡◌, ℕ, ◌+◌, ◌≤◌, Bool, true, false, List, [], ◌∷◌, length, map, refl, sym, ◌∙◌, ap, subst, arith}
+use Rattle.std.specs.Prelude.{min, nat_lt, ◌==◌, if◌then◌else◌}
+use Rattle.std.proofs.lemmas.Bool.{lt-ltb, false≢true, eq-eqb}
+use Rattle.unit_model.specs.Poll.{raises, raised_by, ticked, held_on, pending_of}
 use Rattle.unit_model.specs.Feed.{tester_of}
 use Rattle.unit_model.specs.Unit.{ControlUnit}
-use Rattle.unit_model.specs.Vehicle.{HeldAnswer, Vehicle}
+use Rattle.unit_model.specs.Vehicle.{HeldAnswer}
 use Rattle.unit_model.specs.declared.reply.Got.{Got}
 use Rattle.unit_model.specs.declared.reply.Got.TheVariants.{Quiet, Bytes}
 use Rattle.unit_sim.specs.Sims.{Sim}
 use Rattle.gateway_sim.specs.Feeding.{IsFilled, IsPiece, Polled}
 use Rattle.gateway_sim.specs.Gates.{Gate}
-use Rattle.gateway_sim.specs.Handling.{ticks, with_gateway}
+use Rattle.gateway_sim.specs.Handling.{ticks}
 use Rattle.vehicle_world.specs.States.{State, unit_in, vehicle_in}
-use Rattle.vehicle_world.specs.Worlds.{PolledTo, all_raised, carried_on, carries_on, raised, state_polled, ticks_on}
+use Rattle.vehicle_world.specs.Worlds.{PolledTo, all_raised, carries_on, raised, state_polled, ticks_on}
 
 -- ------ a tick
 pub was_quiet : (room : ℕ) (more out : List ℕ) (old new : Gate) (got : Got) → old.gateway.ready ≡ [] → Polled more out old new got → IsPiece room got → IsFilled room old got → (got ≡ Quiet) × (new ≡ ticks more old)

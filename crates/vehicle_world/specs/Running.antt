@@ -1,10 +1,9 @@
 -- What the parts of a feed do, with the relations of the vehicle model that they meet.
-use Rattle.std.specs.Prelude.{◌≡◌, ◌⊎◌, ℕ, ◌≤◌, List, [], ◌∷◌, ◌++◌, map, take, Option, None, Some}
+use Rattle.std.specs.Prelude.{◌≡◌, ◌⊎◌, ℕ, ◌≤◌, List, [], ◌∷◌, ◌++◌, take, Option, None, Some}
 use Rattle.doip_frame.specs.declared.frame.Bad.{Bad}
 use Rattle.doip_frame.specs.declared.frame.Frame.{Frame}
 use Rattle.doip_frame.specs.declared.frame.Frame.TheVariants.{HeaderNack, Activate, Activated, AliveAsk, AliveSay, Message, Ack, Nack, Other}
 use Rattle.std.specs.Prelude.{length}
-use Rattle.flash_base.specs.Lists.{Each}
 use Rattle.unit_model.specs.Feed.{DueReply, Handles}
 use Rattle.unit_model.specs.Step.{CanSend, UnitStep}
 use Rattle.unit_model.specs.Vehicle.{Vehicle}

@@ -4,7 +4,7 @@ use Rattle.unit_model.specs.Feed.{DueReply}
 use Rattle.unit_model.specs.Unit.{ControlUnit}
 use Rattle.unit_model.specs.Vehicle.{HeldAnswer, Vehicle, redialed}
 use Rattle.unit_sim.specs.Sims.{Sim, sim_of}
-use Rattle.gateway_sim.specs.Gates.{Gate, gate_of}
+use Rattle.gateway_sim.specs.Gates.{Gate}
 use Rattle.vehicle_world.specs.declared.held.Held.{Held}
 use Rattle.vehicle_world.specs.declared.node.Node.{Node}
 use Rattle.vehicle_world.specs.declared.outgoing.Outgoing.{Outgoing}

@@ -1,4 +1,4 @@
-use Rattle.std.proofs.Common.{◌≡◌, ◌++◌, List, drop, map}
+use Rattle.std.proofs.Common.{◌++◌, List, drop, map}
 use Rattle.flash_base.specs.Lists.{Each}
 use Rattle.unit_model.specs.Running.{IsUnitSpec}
 use Rattle.unit_model.specs.declared.spec.UnitSpec.{UnitSpec}

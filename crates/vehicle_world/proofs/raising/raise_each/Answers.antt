@@ -1,4 +1,4 @@
-use Rattle.std.proofs.Common.{◌∙◌, ◌<◌, ap, arith, length}
+use Rattle.std.proofs.Common.{◌<◌, arith, length}
 use Rattle.vehicle_world.specs.States.{answer_of, node_sim}
 use Rattle.vehicle_world.specs.Worlds.{raised}
 use Rattle.vehicle_world.proofs.Changes.{changed}

@@ -1,4 +1,4 @@
-use Rattle.std.proofs.Common.{◌∙◌, ◌<◌, ap, arith, length}
+use Rattle.std.proofs.Common.{◌<◌, arith, length}
 use Rattle.vehicle_world.specs.Holding.{held_once}
 use Rattle.vehicle_world.specs.States.{answer_of}
 use Rattle.vehicle_world.proofs.Changes.{changed, below_more}

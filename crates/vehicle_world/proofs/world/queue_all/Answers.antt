@@ -1,4 +1,3 @@
-use Rattle.std.proofs.Common.{◌∙◌, map, drop}
 use Rattle.gateway_sim.specs.Gates.{gate_of}
 use Rattle.vehicle_world.proofs.Queued.{queue_on, cleared_on}
 use Rattle.vehicle_world.proofs.world.queue_all.Goals as goal

@@ -1,11 +1,11 @@
-use Rattle.std.proofs.Common.{◌≡◌, ◌∙◌, ap, refl, subst, sym}
+use Rattle.std.proofs.Common.{◌≡◌, ◌∙◌, ap, subst, sym}
 use Rattle.flash_base.specs.Lists.{Each}
 use Rattle.doip_frame.specs.Deframe.{bad_in}
 use Rattle.gateway_sim.specs.Feeding.{cut_off, ended}
-use Rattle.gateway_sim.specs.Gates.{Gate, front_of, gate_of}
+use Rattle.gateway_sim.specs.Gates.{front_of, gate_of}
 use Rattle.unit_model.specs.Vehicle.{Vehicle}
 use Rattle.vehicle_world.specs.Running.{HasBody, WentAll, WentPart}
-use Rattle.vehicle_world.specs.States.{State, forgotten, vehicle_in}
+use Rattle.vehicle_world.specs.States.{forgotten, vehicle_in}
 use Rattle.vehicle_world.specs.Worlds.{state_of}
 use Rattle.vehicle_world.proofs.Bodies.{have_bodies}
 use Rattle.vehicle_world.proofs.Fed.{all_tick, broken, deaf_none, feeds, moved_all, moved_part, tick_same}

@@ -1,7 +1,6 @@
-use Rattle.std.proofs.Common.{◌≡◌, ◌∙◌, ap, map, sym, subst}
-use Rattle.gateway_sim.specs.Gates.{Gate, gate_of}
-use Rattle.gateway_sim.specs.Handling.{Sent, Heard, Nothing, Refused, handled, sent_of}
-use Rattle.vehicle_world.specs.Feeding.{is_known}
+use Rattle.std.proofs.Common.{◌∙◌, map, sym}
+use Rattle.gateway_sim.specs.Gates.{gate_of}
+use Rattle.gateway_sim.specs.Handling.{Heard, Nothing, Refused, sent_of}
 use Rattle.vehicle_world.specs.States.{is_there, node_sim}
 use Rattle.vehicle_world.specs.Worlds.{state_of}
 use Rattle.vehicle_world.proofs.Calling.{heard_part, map_err, map_ok, sent_handled}

@@ -1,4 +1,4 @@
-use Rattle.std.proofs.Common.{◌≡◌, ◌∙◌, ap, arith, length, map, refl, sym}
+use Rattle.std.proofs.Common.{◌∙◌, ap, map}
 use Rattle.gateway_sim.specs.Gates.{gate_of}
 use Rattle.vehicle_world.specs.Running.{HasBody}
 use Rattle.vehicle_world.specs.States.{State, reply_of}

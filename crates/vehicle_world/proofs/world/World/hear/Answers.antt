@@ -1,4 +1,4 @@
-use Rattle.std.proofs.Common.{◌≡◌, ◌∙◌, ap, arith, inl, inr, length, map, refl, set, sym}
+use Rattle.std.proofs.Common.{◌∙◌, ap, arith, inl, inr, length, map, refl, set}
 use Rattle.unit_sim.proofs.Committing.{first_byte}
 use Rattle.vehicle_world.specs.States.{forgotten, node_sim, reply_of}
 use Rattle.vehicle_world.specs.Feeding.{Ran}

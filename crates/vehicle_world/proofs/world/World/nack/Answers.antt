@@ -1,7 +1,5 @@
-use Rattle.std.proofs.Common.{◌∙◌, ap, arith, length, map, sym}
-use Rattle.unit_sim.specs.Sims.{Sim}
+use Rattle.std.proofs.Common.{ap, arith, length, sym}
 use Rattle.vehicle_world.specs.Feeding.{nacked}
-use Rattle.vehicle_world.specs.States.{node_sim}
 use Rattle.vehicle_world.specs.Worlds.{state_of}
 use Rattle.vehicle_world.proofs.Places.{in_nodes, not_in_nodes, put_back, within_nodes}
 use Rattle.vehicle_world.proofs.world.World.nack.Goals as goal
