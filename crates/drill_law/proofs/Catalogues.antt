@@ -7,17 +7,18 @@ use Rattle.bench_gen.specs.Sizes.{numbered}
 use Rattle.ecu_mem.specs.Catalogue.{catalogue, entries_of, linked, linked_or_refused, over_places, target_of, unique, with_ecu_mem, with_element}
 use Rattle.ecu_mem.specs.Elements.{entry_in}
 use Rattle.ecu_mem.specs.Parts.{attribute, has_tag, kid, kids_of}
-use Rattle.ecu_mem.specs.Places.{Place, carriers, counting_from, ecu_mems, element_at, groups, under}
+use Rattle.ecu_mem.specs.Places.{Place, carriers, counting_from, ecu_mem_step, ecu_mems, element_at, groups, under}
 use Rattle.ecu_mem.specs.Refusals.{Reading, ◌>>=◌, both, in_kid}
 use Rattle.ecu_mem.specs.Values.{segment_in}
 use Rattle.ecu_mem.specs.declared.types.EcuMem.{EcuMem}
 use Rattle.ecu_mem.proofs.Walk.{over-here, over-kid, over-under}
 use Rattle.flash_base.specs.Lists.{all_of}
-use Rattle.odx_tree.specs.declared.element.Element.{Element}
+use Rattle.odx_tree.specs.declared.element.Element.{Element, fold_out-Element}
 use Rattle.odx_tree.specs.declared.element.Element.TheBlock.{shown-the_row-Element-0}
-use Rattle.odx_tree.specs.declared.element.Element.TheViews.{fold-Element, out-Element, roll-Element}
-use denote.Hole.Carrier.{fold, out, roll, shown, hidden}
-use Rattle.drill_law.proofs.Elements.{datablock, flashdata, group, mem, root, segment, session}
+use Rattle.odx_tree.specs.declared.element.Element.TheOpen.{Element-F}
+use Rattle.odx_tree.specs.declared.element.Element.TheViews.{out-Element, out-roll-Element, roll-Element}
+use denote.Hole.Carrier.{out, roll, shown, hidden}
+use Rattle.drill_law.proofs.Elements.{datablock, flashdata, group, mem, node, root, segment, session}
 use Rattle.drill_law.proofs.Entries.{Entry, block_entry, block_is, block_with, flash_at, flash_entry, flash_is, session_entry, session_is, session_with}
 use Rattle.drill_law.proofs.Tables.{Rows, holds_of, row}
 
@@ -52,10 +53,13 @@ run e f E counts a (suc m) at counted step =
     let low : a < a + suc m = omega arith in
     ap (λ ps. over_places with_element e ps (E a)) (counted_first (counts (f a)) (a ∷ []) (counting_from (suc a) counts (map f (range_with_len (a + 1) m))) (counted a))
     ∙ went_on (with_element (get_or (kids_of e) a e) (E a)) (E (suc a)) (λ es. over_places with_element e (counting_from (suc a) counts (map f (range_with_len (a + 1) m))) es) a
-      (ap (λ x. with_element x (E a)) (at a low) ∙ step a low)
+    (ap (λ x. with_element x (E a)) (at a low) ∙ step a low)
     ∙ ap (λ (b : ℕ). over_places with_element e (counting_from (suc a) counts (map f (range_with_len b m))) (E (suc a))) s
     ∙ run e f E counts (suc a) m (λ k h. at k (omega (arith, h, t))) counted (λ k h. step k (omega (arith, h, t)))
     ∙ ap (λ (k : ℕ). Ok (E k)) t
+
+kids_are : (tag : List ℕ) (ks : List Element) → kids_of (node tag ks) ≡ ks
+kids_are tag ks = ap (λ (f : Element-F Element). f.kids) (out-roll-Element (record { tag = tag; attrs = []; kids = ks; text = [] }))
 
 -- ------ no ID stands twice
 abbrev is_fresh : Reading ⊤ → Bool
@@ -88,17 +92,49 @@ abbrev BlocksFresh : ℕ → Type 0
 BlocksFresh units = (size : ℕ) → all_of (range_with_len 0 units) (λ k. is_fresh (unique (with_blocks units size k) (Some (numbered (codes "D") k)))) ≡ true
 
 blocks_fresh : Rows BlocksFresh 2 11
-blocks_fresh =
-    (λ s. refl, (λ s. refl, (λ s. refl, (λ s. refl, (λ s. refl, (λ s. refl,
-    (λ s. refl, (λ s. refl, (λ s. refl, (λ s. refl, (λ s. refl, tt)))))))))))
+blocks_fresh = (
+  λ s. refl,
+  (
+    λ s. refl,
+    (
+      λ s. refl,
+      (
+        λ s. refl,
+        (
+          λ s. refl,
+          (
+            λ s. refl,
+            (λ s. refl, (λ s. refl, (λ s. refl, (λ s. refl, (λ s. refl, tt))))),
+          ),
+        ),
+      ),
+    ),
+  ),
+)
 
 abbrev FlashesFresh : ℕ → Type 0
 FlashesFresh units = (size : ℕ) → all_of (range_with_len 0 units) (λ k. is_fresh (unique (with_flashes units size k) (Some (numbered (codes "F") k)))) ≡ true
 
 flashes_fresh : Rows FlashesFresh 2 11
-flashes_fresh =
-    (λ s. refl, (λ s. refl, (λ s. refl, (λ s. refl, (λ s. refl, (λ s. refl,
-    (λ s. refl, (λ s. refl, (λ s. refl, (λ s. refl, (λ s. refl, tt)))))))))))
+flashes_fresh = (
+  λ s. refl,
+  (
+    λ s. refl,
+    (
+      λ s. refl,
+      (
+        λ s. refl,
+        (
+          λ s. refl,
+          (
+            λ s. refl,
+            (λ s. refl, (λ s. refl, (λ s. refl, (λ s. refl, (λ s. refl, tt))))),
+          ),
+        ),
+      ),
+    ),
+  ),
+)
 
 -- ------ one element
 session_next : (k : ℕ) → k < 12 → with_element (session k) (sessions_to k) ≡ Ok (sessions_to (suc k))
@@ -148,19 +184,20 @@ module _ (j size : ℕ) (low : j < 11) (read : segment_in (segment size) ≡ Ok 
   flashes = group (codes "FLASHDATAS") flashdata units
 
   abbrev session_places : List Place
-  session_places = counting_from 0 is_session (map session (range_with_len 0 units))
+  session_places = counting_from 0 is_session (kids_of sessions)
 
   abbrev block_places : List Place
-  block_places = counting_from 0 is_block (map (datablock size) (range_with_len 0 units))
+  block_places = counting_from 0 is_block (kids_of blocks)
 
   abbrev flash_places : List Place
-  flash_places = counting_from 0 is_flash (map flashdata (range_with_len 0 units))
+  flash_places = counting_from 0 is_flash (kids_of flashes)
 
   sessions_run : over_places with_element sessions session_places [] ≡ Ok (sessions_to units)
   unfolding out-Element roll-Element out roll shown hidden shown-the_row-Element-0
   sessions_run =
       let e : 0 + units ≡ units = omega arith in
-      run sessions session sessions_to is_session 0 units (λ k h. get_or-map-range_with_len session 0 units k k sessions (omega (arith, h, e)) (omega arith)) (λ k. refl) (λ k h. session_next k (omega (arith, h, e, low)))
+      ap (λ (ks : List Element). over_places with_element sessions (counting_from 0 is_session ks) []) (kids_are (codes "SESSIONS") (map session (range_with_len 0 units)))
+      ∙ run sessions session sessions_to is_session 0 units (λ k h. ap (λ (ks : List Element). get_or ks k sessions) (kids_are (codes "SESSIONS") (map session (range_with_len 0 units))) ∙ get_or-map-range_with_len session 0 units k k sessions (omega (arith, h, e)) (omega arith)) (λ k. refl) (λ k h. session_next k (omega (arith, h, e, low)))
       ∙ ap (λ (m : ℕ). Ok (sessions_to m)) e
 
   blocks_run : over_places with_element blocks block_places (sessions_to units) ≡ Ok (with_blocks units size units)
@@ -168,7 +205,8 @@ module _ (j size : ℕ) (low : j < 11) (read : segment_in (segment size) ≡ Ok 
   blocks_run =
       let e : 0 + units ≡ units = omega arith in
       ap (λ (es : List Entry). over_places with_element blocks block_places es) (sym (append-nil (sessions_to units)))
-      ∙ run blocks (datablock size) (with_blocks units size) is_block 0 units (λ k h. get_or-map-range_with_len (datablock size) 0 units k k blocks (omega (arith, h, e)) (omega arith)) (λ k. refl) (λ k h. block_next k (omega (arith, h, e)))
+      ∙ ap (λ (ks : List Element). over_places with_element blocks (counting_from 0 is_block ks) (sessions_to units ++ [])) (kids_are (codes "DATABLOCKS") (map (datablock size) (range_with_len 0 units)))
+      ∙ run blocks (datablock size) (with_blocks units size) is_block 0 units (λ k h. ap (λ (ks : List Element). get_or ks k blocks) (kids_are (codes "DATABLOCKS") (map (datablock size) (range_with_len 0 units))) ∙ get_or-map-range_with_len (datablock size) 0 units k k blocks (omega (arith, h, e)) (omega arith)) (λ k. refl) (λ k h. block_next k (omega (arith, h, e)))
       ∙ ap (λ (m : ℕ). Ok (with_blocks units size m)) e
 
   flashes_run : over_places with_element flashes flash_places (with_blocks units size units) ≡ Ok (with_flashes units size units)
@@ -176,7 +214,8 @@ module _ (j size : ℕ) (low : j < 11) (read : segment_in (segment size) ≡ Ok 
   flashes_run =
       let e : 0 + units ≡ units = omega arith in
       ap (λ (es : List Entry). over_places with_element flashes flash_places es) (sym (append-nil (with_blocks units size units)))
-      ∙ run flashes flashdata (with_flashes units size) is_flash 0 units (λ k h. get_or-map-range_with_len flashdata 0 units k k flashes (omega (arith, h, e)) (omega arith)) (λ k. refl) (λ k h. flash_next k (omega (arith, h, e)))
+      ∙ ap (λ (ks : List Element). over_places with_element flashes (counting_from 0 is_flash ks) (with_blocks units size units ++ [])) (kids_are (codes "FLASHDATAS") (map flashdata (range_with_len 0 units)))
+      ∙ run flashes flashdata (with_flashes units size) is_flash 0 units (λ k h. ap (λ (ks : List Element). get_or ks k flashes) (kids_are (codes "FLASHDATAS") (map flashdata (range_with_len 0 units))) ∙ get_or-map-range_with_len flashdata 0 units k k flashes (omega (arith, h, e)) (omega arith)) (λ k. refl) (λ k h. flash_next k (omega (arith, h, e)))
       ∙ ap (λ (m : ℕ). Ok (with_flashes units size m)) e
 
   -- ------ the whole
@@ -204,8 +243,8 @@ module _ (j size : ℕ) (low : j < 11) (read : segment_in (segment size) ≡ Ok 
   root_carriers = refl
 
   root_mems : ecu_mems (root units size) ≡ [] ∷ []
-  unfolding fold-Element fold out-Element roll-Element out roll shown hidden shown-the_row-Element-0
-  root_mems = refl
+  unfolding out-Element roll-Element out roll shown hidden shown-the_row-Element-0
+  root_mems = fold_out-Element (List Place) ecu_mem_step (root units size)
 
   root_run : with_ecu_mem (root units size) [] ≡ Ok (with_flashes units size units)
   unfolding with_ecu_mem out-Element roll-Element out roll shown hidden shown-the_row-Element-0
@@ -236,9 +275,25 @@ abbrev IsLinked : ℕ → Type 0
 IsLinked units = (size : ℕ) → linked (target_of (with_flashes units size units)) (with_flashes units size units) ≡ Ok (mem_of units size)
 
 all_linked : Rows IsLinked 2 11
-all_linked =
-    (λ s. refl, (λ s. refl, (λ s. refl, (λ s. refl, (λ s. refl, (λ s. refl,
-    (λ s. refl, (λ s. refl, (λ s. refl, (λ s. refl, (λ s. refl, tt)))))))))))
+all_linked = (
+  λ s. refl,
+  (
+    λ s. refl,
+    (
+      λ s. refl,
+      (
+        λ s. refl,
+        (
+          λ s. refl,
+          (
+            λ s. refl,
+            (λ s. refl, (λ s. refl, (λ s. refl, (λ s. refl, (λ s. refl, tt))))),
+          ),
+        ),
+      ),
+    ),
+  ),
+)
 
 pub catalogue_is : (j size : ℕ) → j < 11 → segment_in (segment size) ≡ Ok (65536, size) → catalogue (root (2 + j) size) ≡ Ok (mem_of (2 + j) size)
 catalogue_is j size low read = ap linked_or_refused (entries_are j size low read) ∙ row IsLinked 2 11 all_linked j low size

@@ -92,9 +92,25 @@ BlockBy k = (size : ℕ) → entry_in (datablock size k) ≡ block_by k (segment
 
 blocks_are : Rows BlockBy 0 12
 unfolding out-Element roll-Element out roll shown hidden shown-the_row-Element-0
-blocks_are =
-    (λ s. refl, (λ s. refl, (λ s. refl, (λ s. refl, (λ s. refl, (λ s. refl,
-    (λ s. refl, (λ s. refl, (λ s. refl, (λ s. refl, (λ s. refl, (λ s. refl, tt))))))))))))
+blocks_are = (
+  λ s. refl,
+  (
+    λ s. refl,
+    (
+      λ s. refl,
+      (
+        λ s. refl,
+        (
+          λ s. refl,
+          (
+            λ s. refl,
+            (λ s. refl, (λ s. refl, (λ s. refl, (λ s. refl, (λ s. refl, (λ s. refl, tt)))))),
+          ),
+        ),
+      ),
+    ),
+  ),
+)
 
 pub block_is : (size k : ℕ) → k < 12 → segment_in (segment size) ≡ Ok (65536, size) → entry_in (datablock size k) ≡ Ok (block_entry size k)
 block_is size k h s = row_of BlockBy 12 blocks_are k h size ∙ ap (block_by k) s

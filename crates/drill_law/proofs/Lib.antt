@@ -1,7 +1,12 @@
+pub mod Accepts
+pub mod Builds
 pub mod Catalogues
 pub mod Elements
 pub mod Entries
+pub mod Images
+pub mod Lengths
 pub mod Matched
 pub mod Orders
+pub mod Parts
 pub mod Tables
 pub mod VehicleTexts

@@ -46,3 +46,6 @@ First {A} f = A
 
 abbrev pub Third : {A B C D : Type 0} → (A → B → C → D) → Type 0
 Third {A} {B} {C} f = C
+
+abbrev pub Second : {A B C : Type 0} → (A → B → C) → Type 0
+Second {A} {B} {C} f = B

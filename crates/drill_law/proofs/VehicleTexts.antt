@@ -102,10 +102,10 @@ layout_with address rs bytes is = record { address = address; regions = rs; byte
 abbrev unit_with : List UnitSpec → Data → Members → Reading (List RegionSpec) → Reading UnitSpec
 unit_with before o ms r =
     ((needed (codes "address") (said.new_address before) o >>= λ address.
-      r >>= λ rs.
-      chosen (codes "bytes") [] (list_of (said.patch rs)) o >>= λ bytes.
-      chosen (codes "idents") [] said.idents o >>= λ is.
-      Ok (layout_with address rs bytes is))
+    r >>= λ rs.
+    chosen (codes "bytes") [] (list_of (said.patch rs)) o >>= λ bytes.
+    chosen (codes "idents") [] said.idents o >>= λ is.
+    Ok (layout_with address rs bytes is))
     >>= λ l. said.rules_at o >>= λ a. said.past o >>= λ p. said.state l.regions o >>= λ s. Ok (said.unit_of l a p s))
     >>= unless_strange (stranger said.is_unit_member ms)
 
@@ -117,9 +117,25 @@ UnitRow k = (size : ℕ) → unit_with (specs_for size k) (file.unit size k) (me
 
 unit_rows : Rows UnitRow 0 12
 unfolding encode_with decode_pairs
-unit_rows =
-    (λ s. refl, (λ s. refl, (λ s. refl, (λ s. refl, (λ s. refl, (λ s. refl,
-    (λ s. refl, (λ s. refl, (λ s. refl, (λ s. refl, (λ s. refl, (λ s. refl, tt))))))))))))
+unit_rows = (
+  λ s. refl,
+  (
+    λ s. refl,
+    (
+      λ s. refl,
+      (
+        λ s. refl,
+        (
+          λ s. refl,
+          (
+            λ s. refl,
+            (λ s. refl, (λ s. refl, (λ s. refl, (λ s. refl, (λ s. refl, (λ s. refl, tt)))))),
+          ),
+        ),
+      ),
+    ),
+  ),
+)
 
 unit_read : (size k : ℕ) → k < 12 → 1 ≤ size → size ≤ 1048576 → said.unit (specs_for size k) (file.unit size k) ≡ Ok (spec_for size k)
 unit_read size k low some few =
