@@ -1,17 +1,15 @@
 -- The drafts of a drill make its plan, which is accepted.
-use Rattle.std.proofs.Common.{◌≡◌, ◌∙◌, ◌⊎◌, inl, inr, ℕ, zero, suc, ◌+◌, ◌-◌, ◌*◌, ◌/◌, ◌%◌, ◌<◌, ◌≤◌, List, [], ◌∷◌, codes, length, map, Bool, true, false, ◌||◌, cond, nat_lt, nat_le, get_or, Contains, Option, Some, None, Ok, IsTrue, refl, sym, ap, subst, arith}
+use Rattle.std.proofs.Common.{◌≡◌, ◌∙◌, inl, inr, ℕ, zero, suc, ◌+◌, ◌-◌, ◌*◌, ◌/◌, ◌%◌, ◌<◌, ◌≤◌, List, [], ◌∷◌, codes, length, map, Bool, true, false, cond, nat_lt, nat_le, get_or, Contains, None, Ok, IsTrue, refl, sym, ap, subst, arith}
 use Rattle.std.specs.List.{list_any, range_with_len}
 use Rattle.std.proofs.lemmas.Bool.Decides.{nat_tests}
 use Rattle.std.proofs.lemmas.Bool.{cases_lt}
-use Rattle.std.proofs.lemmas.List.FromFn.{get_or-range_with_len, length-map-range_with_len, length-range_with_len}
+use Rattle.std.proofs.lemmas.List.FromFn.{get_or-range_with_len, length-map-range_with_len}
 use Rattle.bench_gen.specs.Sizes.{all_bytes_of, bytes_of, image_byte, image_of, numbered, units_of}
 use Rattle.flash_base.specs.Lists.{Each}
-use Rattle.flash_base.specs.Numbers.{pow256}
 use Rattle.flash_plan.specs.Accepting.{IsAsked, IsDraft, IsOrdered, IsPlanAnswer, draft_of, first_from, first_task, has_long_value, has_many_idents, has_same_address, has_same_name, has_unknown, has_wide, is_large, is_split, is_wide, no_draft, too_many, total_of_drafts}
 use Rattle.flash_plan.specs.Accepting as accepting
-use Rattle.flash_plan.specs.Plan.{IsAccepted, IsTaskName, StandsBefore, before, is_name_byte, next_to, no_plan, nth_plan, plan_of, total_of}
+use Rattle.flash_plan.specs.Plan.{IsAccepted, StandsBefore, before, is_name_byte, next_to, no_plan, nth_plan, plan_of, total_of}
 use Rattle.flash_plan.specs.declared.unit.Draft.{Draft}
-use Rattle.flash_plan.specs.declared.unit.Segment.{Segment}
 use Rattle.flash_plan.specs.declared.unit.UnitPlan.{UnitPlan}
 use Rattle.flash_plan.proofs.Accepted.{accepted_plan}
 use Rattle.drill_law.specs.Plans.{key_rule, plan_of_drill, unit_plan, wanted, width}

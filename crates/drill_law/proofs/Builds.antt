@@ -1,5 +1,5 @@
 -- The files of a drill build to its plan.
-use Rattle.std.proofs.Common.{◌≡◌, ◌∙◌, ◌⊎◌, inl, inr, ℕ, ◌+◌, ◌%◌, ◌<◌, ◌≤◌, List, [], ◌∷◌, codes, length, map, Bool, true, false, cond, bytes_eq, nat_lt, Option, Some, None, Result, Ok, Err, refl, sym, ap, subst, arith}
+use Rattle.std.proofs.Common.{◌≡◌, ◌∙◌, ◌⊎◌, inl, inr, ℕ, ◌%◌, ◌≤◌, List, codes, length, map, Bool, false, cond, nat_lt, Option, Some, None, Result, Ok, Err, refl, sym, ap, subst, arith}
 use Rattle.std.specs.List.{range_with_len}
 use Rattle.std.specs.Str.{is_utf8}
 use Rattle.std.proofs.lemmas.Bool.Decides.{nat_tests}
@@ -10,28 +10,24 @@ use Rattle.bench_gen.specs.Catalogue as cat
 use Rattle.bench_gen.specs.Files.{AreFiles, IsTextOf}
 use Rattle.bench_gen.specs.Order as file
 use Rattle.bench_gen.specs.Sizes.{bytes_of, units_of}
-use Rattle.ecu_mem.specs.Catalogue.{catalogue}
 use Rattle.flash_base.specs.Files.{first_of}
 use Rattle.flash_order.specs.Orders as orders
 use Rattle.flash_plan.specs.Accepting.{IsPlanAnswer}
 use Rattle.flash_plan.specs.declared.unit.Draft.{Draft}
-use Rattle.flash_plan.specs.declared.unit.UnitPlan.{UnitPlan}
-use Rattle.flash_shelf.specs.Memory.{checked, file_in}
+use Rattle.flash_shelf.specs.Memory.{checked}
 use Rattle.flash_shelf.specs.declared.shelf.ShelfFault.TheVariants as shelf
 use Rattle.odx_tree.specs.Tree.{tree_of, tree_of_value, value_of}
-use Rattle.odx_tree.specs.declared.element.Element.{Element}
-use Rattle.odx_tree.specs.declared.fault.TreeFault.{TreeFault}
 use Rattle.odx_tree.specs.declared.fault.TreeFault.TheVariants as tree
 use Rattle.plan_build.specs.Answers.{goes_on}
 use Rattle.plan_build.specs.Building.{built, few_tasks, plan_from, planned, tasks_built}
 use Rattle.plan_build.specs.Catalogues.{catalogue_in, catalogued, mem_from, order_from, order_in, ordered, tree_from}
-use Rattle.plan_build.specs.Fetched.{fetched, is_told}
+use Rattle.plan_build.specs.Fetched.{is_told}
 use Rattle.plan_build.specs.declared.built.Built.{Built}
 use Rattle.plan_build.specs.declared.fault.BuildFault.{BuildFault}
 use Rattle.plan_build.specs.declared.fault.BuildFault.TheVariants.{NoMemory}
 use Rattle.plan_build.proofs.Only.{one_built}
-use Rattle.drill_law.specs.Plans.{built_of_drill, no_checks, no_own, order_of_drill, plan_of_drill, task_of}
-use Rattle.drill_law.proofs.Accepts.{drafts, plan_answer}
+use Rattle.drill_law.specs.Plans.{built_of_drill, no_own, order_of_drill, plan_of_drill, task_of}
+use Rattle.drill_law.proofs.Accepts.{plan_answer}
 use Rattle.drill_law.proofs.Catalogues.{catalogue_is}
 use Rattle.drill_law.proofs.Elements.{root, root_read}
 use Rattle.drill_law.proofs.Entries.{segment_is}

@@ -1,5 +1,5 @@
 -- The catalogue of a drill is read as its sessions, datablocks and flash data.
-use Rattle.std.proofs.Common.{◌≡◌, ◌∙◌, ℕ, zero, suc, ◌+◌, ◌<◌, ◌≤◌, List, [], ◌∷◌, ◌++◌, codes, map, get_or, append_assoc, append-nil, Bool, true, false, ◌&&◌, cond, is_some, Option, Some, None, Ok, Err, refl, sym, ap, subst, arith}
+use Rattle.std.proofs.Common.{◌≡◌, ◌∙◌, ℕ, zero, suc, ◌+◌, ◌<◌, List, [], ◌∷◌, ◌++◌, codes, map, get_or, append_assoc, append-nil, Bool, true, false, ◌&&◌, cond, is_some, Some, Ok, Err, refl, sym, ap, arith}
 use Rattle.std.specs.Prelude.{⊤}
 use Rattle.std.specs.List.{range_with_len}
 use Rattle.std.proofs.lemmas.List.FromFn.{get_or-map-range_with_len, map-range_with_len_more}
@@ -7,7 +7,7 @@ use Rattle.bench_gen.specs.Sizes.{numbered}
 use Rattle.ecu_mem.specs.Catalogue.{catalogue, entries_of, linked, linked_or_refused, over_places, target_of, unique, with_ecu_mem, with_element}
 use Rattle.ecu_mem.specs.Elements.{entry_in}
 use Rattle.ecu_mem.specs.Parts.{attribute, has_tag, kid, kids_of}
-use Rattle.ecu_mem.specs.Places.{Place, carriers, counting_from, ecu_mem_step, ecu_mems, element_at, groups, under}
+use Rattle.ecu_mem.specs.Places.{Place, carriers, counting_from, ecu_mem_step, ecu_mems, groups, under}
 use Rattle.ecu_mem.specs.Refusals.{Reading, ◌>>=◌, both, in_kid}
 use Rattle.ecu_mem.specs.Values.{segment_in}
 use Rattle.ecu_mem.specs.declared.types.EcuMem.{EcuMem}

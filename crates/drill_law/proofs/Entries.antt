@@ -1,5 +1,5 @@
 -- What the elements of a drill's catalogue are read as.
-use Rattle.std.proofs.Common.{◌≡◌, ◌∙◌, ℕ, ◌+◌, ◌*◌, ◌/◌, ◌%◌, ◌<◌, ◌≤◌, List, [], ◌∷◌, codes, decimal, true, false, nat_lt, nat_le, ◌&&◌, ◌==◌, Option, Some, None, Ok, refl, ap, arith}
+use Rattle.std.proofs.Common.{◌≡◌, ◌∙◌, ℕ, ◌+◌, ◌*◌, ◌/◌, ◌%◌, ◌<◌, ◌≤◌, List, [], ◌∷◌, codes, decimal, true, false, nat_lt, nat_le, Option, Some, None, Ok, refl, ap, arith}
 use Rattle.std.specs.Fmt.{digits}
 use Rattle.std.specs.List.{range_with_len}
 use Rattle.std.proofs.lemmas.Bool.Decides.{nat_tests}

@@ -1,23 +1,21 @@
 -- The image of each session of a drill.
-use Rattle.std.proofs.Common.{◌≡◌, ◌∙◌, ℕ, zero, suc, ◌+◌, ◌<◌, ◌≤◌, List, [], ◌∷◌, ◌++◌, codes, length, map, true, false, nat_lt, Bool, cond, bytes_eq, Option, Some, None, Result, Ok, Err, refl, sym, ap, subst, arith}
+use Rattle.std.proofs.Common.{◌≡◌, ◌∙◌, ℕ, zero, suc, ◌+◌, ◌<◌, ◌≤◌, List, [], ◌∷◌, ◌++◌, codes, length, true, false, nat_lt, Bool, cond, bytes_eq, Option, Some, None, Result, Ok, refl, sym, ap, arith}
 use Rattle.std.specs.FinMap as fin
-use Rattle.std.specs.List.{range_with_len, slice_get}
+use Rattle.std.specs.List.{slice_get}
 use Rattle.std.proofs.lemmas.Bool.Decides.{nat_tests}
 use Rattle.std.proofs.lemmas.Slice.Eq.{bytes_eq-Decides}
-use Rattle.std.proofs.lemmas.List.FromFn.{get_or-map-range_with_len, length-map-range_with_len}
+use Rattle.std.proofs.lemmas.List.FromFn.{get_or-map-range_with_len}
 use Rattle.bench_gen.specs.Catalogue.{hex_name}
-use Rattle.bench_gen.specs.Sizes.{bytes_of, image_byte, image_of, numbered}
+use Rattle.bench_gen.specs.Sizes.{numbered}
 use Rattle.ecu_mem.specs.declared.types.Block.{Block}
 use Rattle.ecu_mem.specs.declared.types.Flash.{Flash}
 use Rattle.ecu_mem.specs.declared.types.Session.{Session}
-use Rattle.ecu_mem.specs.declared.types.EcuMem.{EcuMem}
 use Rattle.flash_base.specs.Files.{first_of}
 use Rattle.hex_rec.specs.Reading.{reading_of}
-use Rattle.rec_text.specs.declared.fault.RecFault.{RecFault}
 use Rattle.session_image.specs.Content.{content, mapped, or_none}
 use Rattle.session_image.specs.Files.{block_of, blocks_at, blocks_of, files_of, flash_of, names_with, no_block, no_flash, no_session, session_of, with_source}
 use Rattle.session_image.specs.Checks.{all_checked}
-use Rattle.session_image.specs.Images.{IsImageAnswer, IsWholeImage, own_of}
+use Rattle.session_image.specs.Images.{IsImageAnswer, own_of}
 use Rattle.session_image.specs.Pieces.{◌>>=◌, IsShared, all_pieces, block_pieces, byte_of, filled, own_pieces, session_pieces, size_limit, size_of}
 use Rattle.session_image.specs.declared.content.Content.{Content}
 use Rattle.session_image.specs.declared.content.Content.TheVariants.{Mapped}

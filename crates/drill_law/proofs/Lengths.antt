@@ -1,5 +1,5 @@
 -- The files of a drill are not too large.
-use Rattle.std.proofs.Common.{◌≡◌, ◌∙◌, ◌⊎◌, inl, inr, ℕ, zero, suc, ◌+◌, ◌*◌, ◌-◌, ◌/◌, ◌%◌, ◌<◌, ◌≤◌, List, [], ◌∷◌, ◌++◌, codes, decimal, length, length-append, map, Bool, true, false, cond, nat_lt, nat_eq, Option, Some, None, refl, sym, ap, subst, arith}
+use Rattle.std.proofs.Common.{◌≡◌, ◌∙◌, ◌⊎◌, inl, inr, ℕ, zero, suc, ◌+◌, ◌*◌, ◌-◌, ◌/◌, ◌%◌, ◌<◌, ◌≤◌, List, [], ◌∷◌, ◌++◌, codes, decimal, length, length-append, map, Bool, true, false, cond, nat_lt, nat_eq, Some, None, refl, sym, ap, arith}
 use Rattle.std.specs.Fmt.{digits}
 use Rattle.std.specs.List.{flat_map, range_with_len, slice_get}
 use Rattle.std.specs.FinMap as fin
@@ -17,12 +17,12 @@ use Rattle.hex.specs.Hex.{encode_with}
 use Rattle.hex_rec.specs.Writing.{IsWritten, base_line, checksum, line_of, lines_at, lines_of}
 use Rattle.json.specs.Print.{escape, escape_byte, escape_letter, quoted}
 use Rattle.rec_text.specs.Spelling.{digits_of}
-use Rattle.serde_json.specs.Data.{Data, Items, Members, Num, null, boolean, number, string, array, object, no_items, item, no_members, member}
+use Rattle.serde_json.specs.Data.{Data, Items, Members, null, boolean, number, string, array, object, no_items, item, no_members, member}
 use Rattle.serde_json.specs.View.{items_of}
 use Rattle.serde_json.specs.Written.{compact_text, items_text, members_text, number_text}
 use Rattle.span_store.specs.ByteMap.{ByteMap, over}
 use Rattle.span_store.specs.Extents.{EndBy, Extent, StartFrom, end_of, map_of}
-use Rattle.span_store.proofs.Lookups.{get-over, reads, reads_after, reads_before, reads_hit}
+use Rattle.span_store.proofs.Lookups.{get-over, reads_after, reads_before, reads_hit}
 use Rattle.drill_law.proofs.Orders.{data_for}
 use Rattle.drill_law.proofs.Tables.{Rows, row}
 

@@ -1,5 +1,5 @@
 -- The units of a drill match its plan.
-use Rattle.std.proofs.Common.{◌≡◌, ◌∙◌, ◌⊎◌, inl, inr, ℕ, zero, suc, ◌+◌, ◌<◌, ◌≤◌, List, [], ◌∷◌, ◌++◌, codes, length, map, replicate, true, false, Bool, ◌==◌, Some, None, Option, is_some, Contains, refl, sym, ap, subst, arith}
+use Rattle.std.proofs.Common.{◌≡◌, ◌∙◌, ℕ, zero, suc, ◌+◌, ◌<◌, List, [], ◌∷◌, ◌++◌, length, map, replicate, true, false, Bool, ◌==◌, Some, Option, is_some, refl, sym, ap, subst, arith}
 use Rattle.std.specs.Prelude.{MatchOption}
 use Rattle.std.specs.List.{range_with_len}
 use Rattle.std.proofs.lemmas.Bool.Decides.{nat_tests}
@@ -7,21 +7,18 @@ use Rattle.std.proofs.lemmas.List.{length-replicate}
 use Rattle.std.proofs.lemmas.List.FromFn.{length-map-range_with_len}
 use Rattle.bench_gen.specs.Sizes.{bytes_of, image_byte, image_of, units_of}
 use Rattle.flash_base.specs.ByteMaps.{byte_at}
-use Rattle.flash_base.specs.Lists.{Each}
 use Rattle.flash_plan.specs.Plan.{count_of, nth_plan, plan_of}
 use Rattle.flash_plan.specs.declared.outcome.Entry.{Entry}
 use Rattle.flash_plan.specs.declared.unit.UnitPlan.{UnitPlan}
 use Rattle.outcome_law.specs.Causes.{HasNoneChecked}
 use Rattle.outcome_law.specs.Law.{IsMatchingRun}
 use Rattle.outcome_law.specs.Outcomes.{AllMatch, MatchesAt}
-use Rattle.run_model.specs.Entries.{marks_of}
-use Rattle.run_model.specs.Matching.{HasIdent, HasValue, IsFitting, IsMatching, Matches}
+use Rattle.run_model.specs.Matching.{IsFitting, IsMatching, Matches}
 use Rattle.run_model.specs.States.{HasRoom}
 use Rattle.unit_model.specs.Regions.{laid}
 use Rattle.unit_model.specs.Running.{unit_of}
 use Rattle.unit_model.specs.Unit.{ControlUnit}
 use Rattle.unit_model.specs.Vehicle.{Vehicle, unit_at}
-use Rattle.unit_model.specs.declared.spec.UnitSpec.{UnitSpec}
 use Rattle.drill_law.specs.Plans.{plan_of_drill, unit_plan}
 use Rattle.drill_law.specs.Vehicles.{unit_spec, unit_specs}
 

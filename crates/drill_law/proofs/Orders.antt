@@ -1,5 +1,5 @@
 -- The order of a drill is read as its order.
-use Rattle.std.proofs.Common.{◌≡◌, ℕ, ◌+◌, ◌%◌, ◌<◌, ◌∷◌, codes, map, Some, Ok, refl, arith}
+use Rattle.std.proofs.Common.{◌≡◌, ℕ, ◌%◌, codes, map, Some, Ok, refl, arith}
 use Rattle.std.specs.List.{range_with_len}
 use Rattle.hex.specs.Hex.{encode_with, decode_pairs}
 use Rattle.serde_json.specs.Data.{Data, number, unsigned, string, array, object, member, no_members}

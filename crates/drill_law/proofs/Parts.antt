@@ -1,5 +1,5 @@
 -- What the tasks of a drill's order give, one after another.
-use Rattle.std.proofs.Common.{◌≡◌, ◌∙◌, ℕ, zero, suc, ◌+◌, ◌-◌, ◌*◌, ◌%◌, ◌/◌, ◌<◌, ◌≤◌, List, [], ◌∷◌, ◌++◌, codes, length, map, Bool, true, false, cond, bytes_eq, eqb, get_or, nat_lt, ◌==◌, Option, Some, None, Result, Ok, Err, refl, sym, ap, subst, arith}
+use Rattle.std.proofs.Common.{◌≡◌, ◌∙◌, ℕ, zero, suc, ◌+◌, ◌-◌, ◌*◌, ◌%◌, ◌/◌, ◌<◌, ◌≤◌, List, [], ◌∷◌, codes, length, map, Bool, true, false, cond, bytes_eq, eqb, get_or, nat_lt, ◌==◌, Option, Some, None, Result, Ok, Err, refl, sym, ap, subst, arith}
 use Rattle.std.specs.FinMap as fin
 use Rattle.std.specs.List.{range_with_len}
 use Rattle.std.proofs.lemmas.Bool.{false_from_ne_true}
@@ -11,22 +11,18 @@ use Rattle.bench_gen.specs.Files.{AreFiles, AreHexFiles, IsHexFile}
 use Rattle.bench_gen.specs.Sizes.{bytes_of, image_byte, image_of, numbered, units_of}
 use Rattle.flash_base.specs.Files.{first_of}
 use Rattle.flash_base.specs.Lists.{all_of}
-use Rattle.flash_order.specs.declared.order.Task.{Task}
 use Rattle.flash_plan.specs.declared.unit.Draft.{Draft}
-use Rattle.flash_plan.specs.declared.unit.Wanted.{Wanted}
 use Rattle.flash_plan.specs.Plan.{size_of}
-use Rattle.flash_shelf.specs.Memory.{checked, file_in}
-use Rattle.flash_shelf.specs.Outside.{limit}
+use Rattle.flash_shelf.specs.Memory.{checked}
 use Rattle.flash_shelf.specs.declared.shelf.ShelfFault.{ShelfFault}
 use Rattle.hex_rec.specs.Reading.{reading_of}
 use Rattle.hex_rec.specs.Writing.{IsWritten}
 use Rattle.hex_rec.proofs.Round.{round}
-use Rattle.ecu_mem.specs.declared.types.Session.{Session}
 use Rattle.session_image.specs.Files.{session_of}
 use Rattle.span_store.specs.ByteMap.{over}
 use Rattle.span_store.proofs.Lookups.{get-over, reads}
 use Rattle.plan_build.specs.Answers.{goes_on}
-use Rattle.plan_build.specs.Fetched.{all_fetched, fetched, is_told, of_answer}
+use Rattle.plan_build.specs.Fetched.{all_fetched, is_told}
 use Rattle.plan_build.specs.Tasks.{all_wanted, image_from, no_parts, part, part_with, parts, room_after, session_in, with_part}
 use Rattle.plan_build.specs.Building.{plan_from}
 use Rattle.plan_build.specs.declared.fault.BuildFault.{BuildFault}
@@ -35,9 +31,9 @@ use Rattle.plan_build.specs.declared.built.TaskOwn.{TaskOwn}
 use Rattle.drill_law.specs.Plans.{no_checks, no_own, task_of, wanted}
 use Rattle.drill_law.proofs.Accepts.{draft}
 use Rattle.drill_law.proofs.Catalogues.{mem_of}
-use Rattle.drill_law.proofs.Images.{files_are, idents_are, image, image_is, same_name}
+use Rattle.drill_law.proofs.Images.{files_are, idents_are, image_is, same_name}
 use Rattle.drill_law.proofs.Lengths.{hex_few}
-use Rattle.drill_law.proofs.Tables.{First, Rows, Second, Third, holds_of, is_number, row}
+use Rattle.drill_law.proofs.Tables.{First, Rows, Second, Third, holds_of, row}
 
 abbrev pub Catalogue : Type 0
 Catalogue = First image_from

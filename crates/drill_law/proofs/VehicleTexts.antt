@@ -1,5 +1,5 @@
 -- The text of a drill's vehicle is read as its vehicle.
-use Rattle.std.proofs.Common.{◌≡◌, ◌∙◌, ℕ, zero, suc, ◌+◌, ◌*◌, ◌%◌, ◌/◌, ◌<◌, ◌≤◌, List, [], ◌∷◌, ◌++◌, codes, decimal, length, map, true, false, nat_lt, nat_le, ◌&&◌, Bool, Some, None, Option, Ok, Err, refl, sym, ap, subst, arith}
+use Rattle.std.proofs.Common.{◌≡◌, ◌∙◌, ℕ, zero, suc, ◌+◌, ◌*◌, ◌<◌, ◌≤◌, List, [], ◌∷◌, ◌++◌, codes, decimal, length, map, true, false, nat_le, Some, None, Ok, refl, sym, ap, arith}
 use Rattle.std.specs.List.{range_with_len}
 use Rattle.std.specs.Str.{is_utf8}
 use Rattle.std.proofs.lemmas.Bool.Decides.{nat_tests}
@@ -14,9 +14,8 @@ use Rattle.bench_gen.specs.Vehicle as file
 use Rattle.unit_model.specs.RegionTests.{LIMIT}
 use Rattle.unit_model.specs.declared.spec.RegionSpec.{RegionSpec}
 use Rattle.unit_model.specs.declared.spec.UnitSpec.{UnitSpec}
-use Rattle.vehicle_file.specs.Fields.{Reading, ◌>>=◌, LAST_COUNT, chosen, four, hold_to, list_of, needed, stranger, under, unless_strange}
-use Rattle.vehicle_file.specs.Files.{address_in, few_of, is_few, memory_sizes, value_in, vehicle, vehicle_from, vehicle_of, is_vehicle_member}
-use Rattle.vehicle_file.specs.Troubles.{gate_troubles}
+use Rattle.vehicle_file.specs.Fields.{Reading, ◌>>=◌, LAST_COUNT, chosen, hold_to, list_of, needed, stranger, under, unless_strange}
+use Rattle.vehicle_file.specs.Files.{address_in, few_of, is_few, memory_sizes, value_in, vehicle, vehicle_from, vehicle_of}
 use Rattle.vehicle_file.specs.Units as said
 use Rattle.vehicle_file.specs.declared.vehicle.VehicleSpec.{VehicleSpec}
 use Rattle.drill_law.specs.Vehicles.{unit_spec, unit_specs, vehicle_of_drill}

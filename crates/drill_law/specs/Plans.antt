@@ -8,7 +8,6 @@ use Rattle.flash_base.specs.declared.unit.Width.{Width}
 use Rattle.flash_order.specs.declared.order.Order.{Order}
 use Rattle.flash_order.specs.declared.order.Source.TheVariants.{Session}
 use Rattle.flash_order.specs.declared.order.Task.{Task}
-use Rattle.flash_plan.specs.declared.unit.Segment.{Segment}
 use Rattle.flash_plan.specs.declared.unit.UnitPlan.{UnitPlan}
 use Rattle.flash_plan.specs.declared.unit.Wanted.{Wanted}
 use Rattle.plan_build.specs.declared.built.Built.{Built}
