@@ -8,5 +8,6 @@ pub mod Lengths
 pub mod Matched
 pub mod Orders
 pub mod Parts
+pub mod Starts
 pub mod Tables
 pub mod VehicleTexts

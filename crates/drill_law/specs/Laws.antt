@@ -1,11 +1,16 @@
 -- What the files and the vehicle of a drill are good for.
-use Rattle.std.specs.Prelude.{◌≡◌, ◌⊎◌, ℕ, ◌≤◌, false, List, codes, map, Result, Ok, Err}
+use Rattle.std.specs.Prelude.{◌≡◌, ◌⊎◌, ℕ, ◌≤◌, false, List, [], codes, map, Result, Ok, Err}
+use Rattle.bay_law.specs.Sentence.{IsSoundAt}
 use Rattle.bench_gen.specs.Files.{AreFiles, IsTextOf}
 use Rattle.bench_gen.specs.Sizes.{all_bytes_of}
 use Rattle.bench_gen.specs.Vehicle.{vehicle_data}
+use Rattle.disk_model.specs.Disk.{DiskState}
 use Rattle.drill_law.specs.Plans.{built_of_drill, plan_of_drill}
 use Rattle.drill_law.specs.Vehicles.{unit_specs, vehicle_of_drill}
+use Rattle.flash_journal.specs.Look.{Opens}
 use Rattle.flash_plan.specs.Plan.{IsAccepted, total_of}
+use Rattle.flash_plan.specs.declared.unit.UnitPlan.{UnitPlan}
+use Rattle.journal_model.specs.Records.{label_of, records}
 use Rattle.outcome_law.specs.Outcomes.{AllMatch}
 use Rattle.plan_build.specs.Building.{built}
 use Rattle.plan_build.specs.declared.built.Built.{Built}
@@ -43,3 +48,20 @@ VehicleIsRead = (n : ℕ) (text : List ℕ) → n ≤ 999999 → IsTextOf (vehic
 abbrev pub UnitsMatch : Type 0
 UnitsMatch = (n : ℕ) (v : Vehicle) → n ≤ 999999 → v.units ≡ map unit_of (unit_specs n)
     → Matches (plan_of_drill n) (λ e. false) v × AllMatch (plan_of_drill n) (λ e. false) v
+
+-- ------ the start of a drill
+-- a file that is not there
+abbrev pub no_file : DiskState
+no_file = record { bytes = []; ranges = []; synced = 0 }
+
+-- an empty journal can be opened for every plan, and fits every vehicle as it is, whatever a crash leaves
+abbrev pub EmptyOpens : Type 0
+EmptyOpens = (P : List UnitPlan) → Opens (label_of P) []
+
+abbrev pub EmptyIsSound : Type 0
+EmptyIsSound = (P : List UnitPlan) (v : Vehicle) → IsSoundAt P v no_file v
+
+-- and by what it records each unit of a drill matches its task
+abbrev pub EmptyMatches : Type 0
+EmptyMatches = (n : ℕ) (v : Vehicle) → n ≤ 999999 → v.units ≡ map unit_of (unit_specs n)
+    → AllMatch (plan_of_drill n) (records (label_of (plan_of_drill n)) []) v

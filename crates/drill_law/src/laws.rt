@@ -1,6 +1,9 @@
 //! What the files and the vehicle of a drill are good for: functions with nothing to run.
 
 ghost use Rattle.drill_law.specs.Laws.{
+  EmptyIsSound,
+  EmptyMatches,
+  EmptyOpens,
   FilesBuild,
   FilesBuildOnly,
   PlanHasBytes,
@@ -25,4 +28,12 @@ pub fn files_build()
 pub fn units_match()
     ensures read { VehicleIsRead }
     ensures matching { UnitsMatch }
+{}
+
+/// An empty journal is a start for every plan and every vehicle: it can be opened, and whatever a crash leaves of it
+/// records nothing, which fits the vehicle as it is. By such a journal each unit of a drill matches its task.
+pub fn drills_start_well()
+    ensures opens { EmptyOpens }
+    ensures sound { EmptyIsSound }
+    ensures matching { EmptyMatches }
 {}

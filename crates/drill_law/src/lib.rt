@@ -5,4 +5,4 @@
 
 mod laws;
 
-pub use laws::{files_build, units_match};
+pub use laws::{drills_start_well, files_build, units_match};
