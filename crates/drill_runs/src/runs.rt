@@ -67,7 +67,7 @@ fn cut_off(rt: HostRuntime) -> Result<(), Fail> {
     let mut out = MemorySink::new(alloc, &[0])?;
     let (shop, status) = drill(&rt, alloc, 0, &mut out);
     assert!(rt; status == Status::Sink);
-    assert!(rt; out.written() == b"");
+    assert!(rt; out.written().is_empty());
     match shop {
         None => assert!(rt; false),
         Some(mut shop) => {

@@ -2,32 +2,20 @@
 ghost use Rattle.std.specs.Prelude.{◌≡◌, ◌≤◌, ◌∷◌, [], None, IfOk, IfSome, codes, map, string_bytes};
 ghost use Rattle.bench_gen.specs.Files.{AreFiles};
 ghost use Rattle.bench_shop.specs.Shops.{history_of};
-ghost use Rattle.flash_commands.specs.Running.{RunsOrder};
-ghost use Rattle.flash_drill.specs.Drilling.{Begins, Drills, EndsWell, Runs};
+ghost use Rattle.flash_drill.specs.Drilling.{start_of_drill, Drills, EndsWell};
+ghost use Rattle.flash_drill.specs.Ending.{BeginsOver};
 
 use crate::making::{shelf_of, shop_of};
-use crate::printing::print_all;
+use crate::printing::print_run;
+use crate::words::run_words;
 use bench_shop::MemoryShop;
-use drill_law::{files_build, units_match};
 use flash_base::NoMemory;
 use flash_commands::flash;
 use flash_shelf::{MemoryShelf, MemorySink, Sink};
 use plan_commands::Status;
-use shop_model::Shop;
 use std::alloc::Global;
 use std::sync::Wait;
 use std::thread::Threads;
-
-/// The words of the run: 4 workers.
-fn run_words(alloc: Global) -> Result<Vec<String>, NoMemory>
-    ensures { IfOk result (λ words. map string_bytes words.items
-        ≡ codes "run" ∷ codes "drill.json" ∷ codes "4" ∷ []) }
-{
-    let run = String::from_str(alloc, "run")?;
-    let order = String::from_str(alloc, "drill.json")?;
-    let workers = String::from_str(alloc, "4")?;
-    Ok(vec![in alloc; run, order, workers]?)
-}
 
 /// What a drill runs over, and where its run prints.
 #[derive(Drop)]
@@ -44,7 +32,7 @@ fn prepared(alloc: Global, n: u32) -> Result<Ready, NoMemory>
     ensures words { IfOk result (λ r. map string_bytes r.words.items
         ≡ codes "run" ∷ codes "drill.json" ∷ codes "4" ∷ []) }
     ensures files { IfOk result (λ r. AreFiles n r.shelf.files) }
-    ensures shop { IfOk result (λ r. Begins n (history_of r.shop)) }
+    ensures shop { IfOk result (λ r. BeginsOver (start_of_drill n) (history_of r.shop)) }
     ensures page { IfOk result (λ r. r.page.written ≡ []) }
 {
     let words = run_words(alloc)?;
@@ -59,14 +47,12 @@ fn prepared(alloc: Global, n: u32) -> Result<Ready, NoMemory>
     })
 }
 
-/// The status of a drill by that of its run: a shop or a page that found no memory at some call is want of memory.
-fn settled(status: Status, shop: &MemoryShop, page: &MemorySink) -> Status
-    ensures starved { (result ≡ status) ⊎ (result ≡ Status.NoMemory) }
-{
-    if shop.starved() > 0 || page.starved() > 0 {
-        return Status::NoMemory;
+/// Whether some call of the shop or of the page found no memory.
+fn is_starved(shop: &MemoryShop, page: &MemorySink) -> bool {
+    if shop.starved() > 0 {
+        return true;
     }
-    status
+    page.starved() > 0
 }
 
 /// Makes an order, its files and a vehicle of the number `n`, and programs it with 4 workers, all in memory: on a
@@ -91,8 +77,6 @@ pub fn drill<R: Threads + Wait + Sync, K: Sink>(
     ensures done { IfSome result.0 (λ shop. result.1 ≡ Status.Done → EndsWell n (history_of shop)
         K.tells (K.history out.old) (K.history out.new)) }
 {
-    files_build();
-    units_match();
     let Ok(ready) = prepared(alloc, n) else {
         return (None, Status::NoMemory);
     };
@@ -103,11 +87,7 @@ pub fn drill<R: Threads + Wait + Sync, K: Sink>(
         mut page,
     } = ready;
     let (shop, status) = flash(rt, alloc, words.as_slice(), &mut shelf, shop, &mut page);
-    let status = settled(status, &shop, &page);
-    let lines = match status {
-        Status::NoMemory => &[],
-        _ => page.written(),
-    };
-    let status = print_all(alloc, out, n, lines, status);
+    let starved = is_starved(&shop, &page);
+    let status = print_run(alloc, out, n, &page, status, starved);
     (Some(shop), status)
 }

@@ -9,6 +9,7 @@ mod drilling;
 mod making;
 mod printing;
 mod serving;
+mod words;
 
 pub use drilling::drill;
 pub use serving::flash;

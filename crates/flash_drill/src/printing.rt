@@ -1,10 +1,10 @@
 //! What a drill prints: its summary line, and the lines of its run behind it.
 ghost use Rattle.std.specs.Prelude.{◌≡◌, ◌≤◌, ◌++◌, IfOk};
-ghost use Rattle.flash_drill.specs.Drilling.{IsPrinted, cut_off, summary};
+ghost use Rattle.flash_drill.specs.Ending.{IsPrinted, IsPrintedRun, cut_off, summary};
 
 use bench_gen::{blocks, bytes, units};
 use flash_base::{Bytes, NoMemory};
-use flash_shelf::Sink;
+use flash_shelf::{MemorySink, Sink};
 use plan_commands::Status;
 use run_report::drill_line;
 use std::alloc::Global;
@@ -32,13 +32,7 @@ fn cut_off(status: Status) -> Status
 
 /// Prints the summary line and the lines of a run, and tells the status; where there is no memory for
 /// the text nothing is printed.
-pub(crate) fn print_all<K: Sink>(
-    alloc: Global,
-    out: &mut K,
-    n: u32,
-    lines: &[u8],
-    status: Status,
-) -> Status
+fn print_all<K: Sink>(alloc: Global, out: &mut K, n: u32, lines: &[u8], status: Status) -> Status
     requires { n ≤ 999999 }
     ensures { IsPrinted K.tells (K.history out.old) (K.history out.new) (summary n ++ lines.now) status result }
 {
@@ -49,4 +43,23 @@ pub(crate) fn print_all<K: Sink>(
         Ok(()) => status,
         Err(_) => cut_off(status),
     }
+}
+
+/// Prints the summary line and what a run printed on its page, and tells the status. Where a call found no memory the
+/// status is `NoMemory`, and the lines of the run are left out.
+pub(crate) fn print_run<K: Sink>(
+    alloc: Global,
+    out: &mut K,
+    n: u32,
+    page: &MemorySink,
+    status: Status,
+    starved: bool,
+) -> Status
+    requires { n ≤ 999999 }
+    ensures { IsPrintedRun K.tells (K.history out.old) (K.history out.new) n page.now.written status result }
+{
+    if starved {
+        return print_all(alloc, out, n, &[], Status::NoMemory);
+    }
+    print_all(alloc, out, n, page.written(), status)
 }

@@ -2,30 +2,21 @@
 ghost use Rattle.std.specs.Prelude.{◌≡◌, ℕ, List, Some, None, map, string_bytes};
 ghost use Rattle.flash_commands.specs.Running.{RunsOrder};
 ghost use Rattle.flash_commands.specs.Words.{run_order};
-ghost use Rattle.flash_drill.specs.Drilling.{ServesDrill, drill_number};
+ghost use Rattle.flash_drill.specs.Drilling.{ServesDrill};
+ghost use Rattle.flash_drill.specs.Words.{drill_number};
 ghost use Rattle.plan_commands.specs.Looking.{ServesStatus};
 ghost use Rattle.plan_commands.specs.Serving.{ServesWords};
 ghost use Rattle.plan_commands.specs.Words.{status_order};
 
 use crate::drilling::drill;
+use crate::words::drill_in;
 use flash_commands::flash as serve;
 use flash_shelf::{Shelf, Sink};
-use flash_words::{CommandRef, read_ref};
 use plan_commands::Status;
 use shop_model::Shop;
 use std::alloc::Global;
 use std::sync::Wait;
 use std::thread::Threads;
-
-/// The number of a drill, where the words are one.
-fn drill_in(words: &[String]) -> Option<u32>
-    ensures { result ≡ drill_number (map string_bytes words.now) }
-{
-    match read_ref(words) {
-        Some(CommandRef::Drill { n }) => Some(n),
-        _ => None,
-    }
-}
 
 /// Serves the command that the words are: `check ORDER`, `image ORDER TASK`, `status ORDER`, `run ORDER WORKERS` and
 /// `drill N`; any other words are `Usage`. All but the last are served over the shelf and the shop that are handed in, as
