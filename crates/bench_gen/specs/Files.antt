@@ -1,5 +1,6 @@
 -- The files of a drill: the order, the catalogue, and an Intel HEX file for each unit.
-use Rattle.std.specs.Prelude.{◌≡◌, ℕ, suc, List, [], ◌∷◌, ◌++◌, codes, length, Some}
+use Rattle.std.specs.Prelude.{◌≡◌, ℕ, suc, true, List, [], ◌∷◌, ◌++◌, codes, length, Some}
+use Rattle.std.specs.Str.{is_utf8}
 use Rattle.std.specs.FinMap as map
 use Rattle.serde_json.specs.Data.{Data}
 use Rattle.serde_json.specs.Read.{read}
@@ -10,8 +11,9 @@ use Rattle.bench_gen.specs.Catalogue.{catalogue_data, hex_name}
 use Rattle.bench_gen.specs.Order.{order_data}
 use Rattle.bench_gen.specs.Sizes.{units_of, image_of, base}
 
--- the text is the shortest that JSON is written as, and is read as just this
+-- the text is the shortest that JSON is written as, in UTF-8, and is read as just this
 pub record IsTextOf (d : Data) (text : List ℕ) : Type 0 where
+  pub utf8 : is_utf8 text ≡ true
   pub written : text ≡ compact_text d
   pub reads : read text ≡ Some d
 

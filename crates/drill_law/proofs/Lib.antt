@@ -1,0 +1,13 @@
+pub mod Accepts
+pub mod Builds
+pub mod Catalogues
+pub mod Elements
+pub mod Entries
+pub mod Images
+pub mod Lengths
+pub mod Matched
+pub mod Orders
+pub mod Parts
+pub mod Starts
+pub mod Tables
+pub mod VehicleTexts
