@@ -1,5 +1,0 @@
-//! Tests of drills that are run.
-#![tactic(auto)]
-
-#[cfg(test)]
-mod runs;

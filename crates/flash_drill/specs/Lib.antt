@@ -1,3 +1,0 @@
-pub mod Drilling
-pub mod Ending
-pub mod Words
