@@ -23,7 +23,11 @@ fn waits_for(held: &Held, hearing: Hearing) -> bool
 }
 
 fn let_go(alloc: Global, held: &Held, tick: u64) -> Result<Outgoing, NoMemory>
-    ensures { IfOk result (λ o. reply_of o ≡ record { unit = held.now.unit; due = tick; body = held.now.body }) }
+    ensures { IfOk result (λ o. reply_of o ≡ record {
+      unit = held.now.unit;
+      due = tick;
+      body = held.now.body;
+    }) }
 {
     Ok(Outgoing {
         unit: held.unit,
