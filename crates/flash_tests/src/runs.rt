@@ -1,5 +1,5 @@
-use flash_commands::{Status, flash, flash_plain};
 use flash_base::{Bytes, Files, NoMemory, Text};
+use flash_commands::{Status, flash, flash_plain};
 use flash_shelf::{MemoryShelf, MemorySink};
 use std::alloc::Global;
 use std::sync::Wait;

@@ -3,11 +3,11 @@
 
 use flash_commands::{Status, flash_watched};
 use flash_shelf::{FolderShelf, StreamSink};
+use run_progress::Progress;
 use std::env;
 use std::env::Env;
 use std::io::IsTerminal;
 use std::process::ExitCode;
-use run_progress::Progress;
 use thin_shop::ThinShop;
 
 /// The words after the program's name; None where there is no memory for them or one is no text.
