@@ -1,0 +1,5 @@
+pub mod Acts
+pub mod Digits
+pub mod Finding
+pub mod Idents
+pub mod Rows
