@@ -1,6 +1,6 @@
 -- Key rules and troubles are read as they are written.
-use Rattle.std.proofs.Common.{◌≡◌, ◌⊎◌, ℕ, ◌+◌, ◌^◌, ◌<◌, ◌≤◌, Bool, true, false, List, [], ◌∷◌, Option, Some, None, refl, sym, ◌∙◌, ap, arith, length}
-use Rattle.std.specs.Prelude.{nat_le, nat_lt, ◌&&◌, ◌-◌, ◌%◌, ◌==◌, Ok, codes, IsTrue}
+use Rattle.std.proofs.Common.{◌≡◌, ◌⊎◌, ℕ, ◌+◌, ◌^◌, ◌<◌, ◌≤◌, Bool, true, false, true≢false, List, [], ◌∷◌, Option, Some, None, refl, sym, ◌∙◌, ap, arith, length}
+use Rattle.std.specs.Prelude.{nat_le, nat_lt, ◌&&◌, ◌-◌, ◌%◌, ◌==◌, Ok, Err, codes, IsTrue}
 use Rattle.std.proofs.lemmas.Bool.{and_from, and_parts, le-leb, leb-true, ltb-true}
 use Rattle.serde_json.specs.Data.{Data, string}
 use Rattle.hex.specs.Hex.{IsBytes}
@@ -36,6 +36,14 @@ use Rattle.vehicle_text.proofs.Digits.{bytes_to_are, four_is, two_is, whole_is}
 use Rattle.vehicle_text.proofs.Finding.{bind, needed_is, object_is}
 
 -- ------ key rules
+is_ok : Reading ℕ → Bool
+is_ok (Ok n) = true
+is_ok (Err e) = false
+
+ok_or : Reading ℕ → ℕ → ℕ
+ok_or (Ok n) d = n
+ok_or (Err e) d = d
+
 level_is : (n : ℕ) → is_level n ≡ true → level (two_data n) ≡ Ok n
 level_is n is =
     let low : n ≤ 125 = leb-true n 125 (and_parts (n % 2 == 1) (nat_le n 125) is).1 in
@@ -43,8 +51,10 @@ level_is n is =
     narrowed (as_str (two_data n) >=> byte_text) n read is
   where
     narrowed : (o : Option ℕ) (n : ℕ) → of_form o ≡ Ok n → (n % 2 == 1 && nat_le n 125) ≡ true → of_form (o >=> λ m. only_if (m % 2 == 1 && nat_le m 125) m) ≡ Ok n
-    narrowed None n () is
-    narrowed (Some m) n refl is = ap (λ (b : Bool). of_form (only_if b m)) is
+    narrowed None n e is = absurd (true≢false (ap is_ok (sym e)))
+    narrowed (Some m) n e is =
+        let same : m ≡ n = ap (λ (r : Reading ℕ). ok_or r 0) e in
+        ap (λ (k : ℕ). of_form (only_if (k % 2 == 1 && nat_le k 125) k)) same ∙ ap (λ (b : Bool). of_form (only_if b n)) is
 
 pub key_is : (k : KeyRule) → is_rule k ≡ true → FitsKey k → key_rule (key_data k) ≡ Ok k
 key_is Free rule fits =

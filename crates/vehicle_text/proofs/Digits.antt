@@ -107,7 +107,7 @@ high_text n ge lt =
     ∙ text_is (big_endian 8 n) n (big_bytes 8 n) (omega (arith, len)) (omega (arith, len)) (big_number 8 n lt) lt
   where
     not_low : (n : ℕ) → LIMIT ≤ n → nat_lt n LIMIT ≡ false
-    not_low n ge = elim (cases_Bool (nat_lt n LIMIT)) [ inl y ↦ absurd (omega (arith, ge, ltb-true n LIMIT y)) | inr no ↦ no ]
+    not_low n ge = elim (cases_Bool (nat_lt n LIMIT)) [ inl y ↦ absurd (omega (arith, ge, ltb-true n LIMIT y)) | inr n ↦ n ]
 
 pub place_is : (n : ℕ) → n < LIMIT → place (place_data n) ≡ Ok n
 place_is n lt = ap of_form (ap (λ o. o >=> λ m. only_if (nat_lt m LIMIT) m) (low_text n lt) ∙ ap (λ (b : Bool). only_if b n) (lt-ltb n LIMIT lt))

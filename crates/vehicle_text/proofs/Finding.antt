@@ -1,6 +1,6 @@
 -- What is found in an object, and how a member of it is read.
 use Rattle.std.proofs.Common.{◌≡◌, ◌⊎◌, inl, inr, ℕ, Bool, true, false, true≢false, List, [], ◌∷◌, Option, Some, None, refl, sym, ◌∙◌, ap, subst, Ordering, Less, Equal, Greater, nat_cmp, bytes_eq}
-use Rattle.std.specs.Prelude.{Result, Ok, Err, if◌then◌else◌, ◌&&◌}
+use Rattle.std.specs.Prelude.{Result, Ok, Err, is_some, if◌then◌else◌, ◌&&◌}
 use Rattle.std.specs.Ordering.{match_ordering}
 use Rattle.std.specs.Cmp.Lexicographic.{slice_cmp}
 use Rattle.std.proofs.lemmas.Bool.{and_parts, cases_Bool}
@@ -52,9 +52,12 @@ any_order P Less a b c p q r = p
 any_order P Equal a b c p q r = q
 any_order P Greater a b c p q r = r
 
+some_is_not_none : (l : List ℕ) → Some l ≡ None → ⊥
+some_is_not_none l e = true≢false (ap is_some e)
+
 first_known : (b : Bool) (l : List ℕ) (r : Option (List ℕ)) → (if b then r else Some l) ≡ None → (b ≡ true) × (r ≡ None)
 first_known true l r e = (refl, e)
-first_known false l r ()
+first_known false l r e = absurd (some_is_not_none l e)
 
 known_put : (p : List ℕ → Bool) (k : List ℕ) (d : Data) (ms : Members) → p k ≡ true → stranger p ms ≡ None → stranger p (put k d ms) ≡ None
 known_put p k d no_members is all = ap (λ (b : Bool). if b then None {A = List ℕ} else Some k) is
