@@ -1,7 +1,7 @@
 -- Digits that are written are read as what they say.
 use Rattle.std.proofs.Common.{◌≡◌, ◌⊎◌, inl, inr, ℕ, zero, suc, ◌+◌, ◌*◌, ◌/◌, ◌%◌, ◌^◌, ◌<◌, ◌≤◌, Bool, true, false, List, [], ◌∷◌, ◌++◌, Option, Some, None, refl, sym, ◌∙◌, ap, arith, length}
 use Rattle.std.specs.Prelude.{nat_lt, nat_le, slice_index, option_and_then, unwrap_or, ◌==◌, ◌&&◌, Ok, if◌then◌else◌}
-use Rattle.std.proofs.lemmas.Bool.{and_parts, cases_Bool, cases_lt, eqb-true, lt-ltb, le-leb, ltb-true}
+use Rattle.std.proofs.lemmas.Bool.{and_from, and_parts, cases_Bool, cases_lt, eqb-true, lt-ltb, le-leb, ltb-true}
 use Rattle.hex.specs.Hex.{IsBytes, encode_upper, encode_with, upper_digits}
 use Rattle.hex.proofs.HexLemmas.{decode_of-encode_upper, length-encode_with}
 use Rattle.flash_base.specs.Numbers.{big_endian, each_below, number_after, number_of, pow256}
@@ -134,3 +134,6 @@ bytes_up_to_are most bs are few =
 
 pub whole_is : (least most n : ℕ) → (nat_le least n && nat_le n most) ≡ true → whole least most (whole_data n) ≡ Ok n
 whole_is least most n within = ap (λ (b : Bool). of_form (only_if b n)) within
+
+pub from_zero : (n most : ℕ) → nat_le n most ≡ true → (nat_le 0 n && nat_le n most) ≡ true
+from_zero n most low = and_from (nat_le 0 n) (nat_le n most) (le-leb 0 n (omega arith)) low

@@ -59,8 +59,11 @@ first_known : (b : Bool) (l : List ℕ) (r : Option (List ℕ)) → (if b then r
 first_known true l r e = (refl, e)
 first_known false l r e = absurd (some_is_not_none l e)
 
+abbrev none_found : Option (List ℕ)
+none_found = None
+
 known_put : (p : List ℕ → Bool) (k : List ℕ) (d : Data) (ms : Members) → p k ≡ true → stranger p ms ≡ None → stranger p (put k d ms) ≡ None
-known_put p k d no_members is all = ap (λ (b : Bool). if b then None {A = List ℕ} else Some k) is
+known_put p k d no_members is all = ap (λ (b : Bool). if b then none_found else Some k) is
 known_put p k d (member l e ms) is all =
     let parts = first_known (p l) l (stranger p ms) all in
     any_order (λ ns. stranger p ns ≡ None) (slice_cmp nat_cmp k l) (member k d (member l e ms)) (member l d ms) (member l e (put k d ms))
@@ -82,3 +85,13 @@ pub object_is : {A : Type 0} (p : List ℕ → Bool) (read : Data → Reading A)
     → object_of p read (object_in fs) ≡ Ok x
 object_is p read fs x all e =
     bind (read (object_in fs)) (unless_strange (stranger p (members_over fs no_members))) x (Ok x) e (ap (λ o. unless_strange o x) (no_stranger p fs all))
+
+-- the same, where the names and what is read are known by a word of the object
+pub tabled : {D A : Type 0} (p : D → List ℕ → Bool) (read : D → Data → Reading A) (word : D) (fs : Fields) (x : A) → all_known (p word) fs ≡ true → read word (object_in fs) ≡ Ok x
+    → object_of (p word) (read word) (object_in fs) ≡ Ok x
+tabled p read word fs x all e = object_is (p word) (read word) fs x all e
+
+-- what a word stands for
+abbrev pub from_some : {A : Type 0} (o : Option A) → is_some o ≡ true → A
+from_some None e = absurd (true≢false (sym e))
+from_some (Some x) e = x

@@ -52,7 +52,7 @@ first_same d e xs ys same later =
 two_digits : (a b c d : ℕ) (xs ys : List ℕ) → a < 16 → b < 16 → c < 16 → d < 16
     → (a * 16 + b < c * 16 + d) ⊎ ((a ≡ c) × (b ≡ d) × (slice_cmp nat_cmp xs ys ≡ Less))
     → slice_cmp nat_cmp (digit a ∷ digit b ∷ xs) (digit c ∷ digit d ∷ ys) ≡ Less
-two_digits a b c d xs ys la lb lc ld (inr same) = first_same a c (digit b ∷ xs) (digit d ∷ ys) same.0 (first_same b d xs ys same.1.0 same.1.1)
+two_digits a b c d xs ys la lb lc ld (inr same) = first_same a c (digit b ∷ xs) (digit d ∷ ys) same.0 (first_same b d xs ys same.1 same.2)
 two_digits a b c d xs ys la lb lc ld (inl lt) = elim (cases_lt a c) [
     | inl below ↦ first_lower a c (digit b ∷ xs) (digit d ∷ ys) below lc
     | inr above ↦
@@ -75,7 +75,7 @@ texts_ascend m n lt few =
     ])
 
 -- ------ the members stand in the order of the identifiers
-members_of : List (ℕ × List ℕ) → Members
+abbrev members_of : List (ℕ × List ℕ) → Members
 members_of [] = no_members
 members_of (i ∷ is) = member (four_text i.0) (bytes_data i.1) (members_of is)
 
@@ -113,7 +113,7 @@ ident_is : (i : ℕ × List ℕ) (before : List (ℕ × List ℕ)) → FitsIdent
     → ident (four_text i.0) before (bytes_data i.1) ≡ Ok (before ++ i ∷ [])
 ident_is i before fits short below = ap (under (four_text i.0))
     (ap (λ (o : Option ℕ). ident_of o before (bytes_data i.1)) (four_digits_are i.0 fits.0)
-    ∙ ap (λ (o : Option ℕ). ident_at i.0 o before (bytes_data i.1)) (last_place 0 i.0 before below)
+    ∙ ap (λ (o : Option ℕ). ident_at i.0 o before (bytes_data i.1)) (last_place 0 i.0 before below ∙ ap Some (omega arith))
     ∙ bind (bytes_up_to 4096 (bytes_data i.1)) (λ bs. Ok (insert before (length before) (i.0, bs))) i.1 _ (bytes_up_to_are 4096 i.1 fits.1 short) (ap Ok (put_last before i)))
 
 more_below : (did next : ℕ) (before : List (ℕ × List ℕ)) (x : ℕ × List ℕ) → did < next → x.0 ≡ did → AreBelow did before → AreBelow next (before ++ x ∷ [])

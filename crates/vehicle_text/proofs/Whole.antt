@@ -29,10 +29,6 @@ use Rattle.vehicle_file.specs.Files.{address_in, few_of, is_few, is_vehicle_memb
 use Rattle.vehicle_file.specs.Keys.{key_rule}
 use Rattle.vehicle_file.specs.Troubles.{few_troubles, gate_trouble, gate_troubles, item_count, trouble, troubles}
 use Rattle.vehicle_file.specs.Units.{checked_range, has_address, idents, is_patch_member, is_range_member, is_transfer_member, is_unit_member, last_block, layout, lies_in, new_address, past, patch, patch_members, range_members, regions, rules_at, seed_given, session, size, some_length, state, transfer, transfer_members, unit, unit_members, unit_of, units, units_from}
-use Rattle.vehicle_file.specs.declared.unit.Layout.{Layout}
-use Rattle.vehicle_file.specs.declared.unit.Past.{Past}
-use Rattle.vehicle_file.specs.declared.unit.Rules.{Rules}
-use Rattle.vehicle_file.specs.declared.unit.State.{State}
 use Rattle.vehicle_file.specs.declared.fault.BenchFault.TheVariants as bench
 use Rattle.vehicle_file.specs.declared.vehicle.VehicleSpec.{VehicleSpec}
 use Rattle.vehicle_text.specs.Forms.{bytes_data, flag_data, four_data, off_data, place_data, two_data, whole_data}
@@ -43,7 +39,7 @@ use Rattle.vehicle_text.specs.Texts.{IsSaid, IsSaidUnit, lie_low, new_from, vehi
 use Rattle.vehicle_text.specs.Troubles.{gate_data, trouble_data}
 use Rattle.vehicle_text.specs.Units.{bytes_given, flag_given, idents_given, last_given, list_data, list_given, off_given, patch_data, patch_fields, range_data, range_fields, region_data, taken_given, transfer_fields, transfer_given, unit_data, unit_fields}
 use Rattle.vehicle_text.proofs.Acts.{gate_is, key_is, trouble_is}
-use Rattle.vehicle_text.proofs.Digits.{any_bytes_are, bytes_to_are, end_place_is, four_is, place_is, two_is, whole_is}
+use Rattle.vehicle_text.proofs.Digits.{any_bytes_are, bytes_to_are, end_place_is, four_is, from_zero, place_is, two_is, whole_is}
 use Rattle.vehicle_text.proofs.Finding.{bind, chosen_is, given_is, needed_is, object_is}
 use Rattle.vehicle_text.proofs.Idents.{given_idents}
 use Rattle.vehicle_text.proofs.Rows.{each_with, given_list, list_is, regions_are, size_is}
@@ -122,9 +118,9 @@ lasts : (memory : List (ℕ × ℕ)) (at : ℕ) (o : Option ℕ) → last_in mem
 lasts memory at None in_it = refl
 lasts memory at (Some n) in_it =
     let low = (and_parts (nat_le n 65533) (nat_le n at && has_each (at - n) n memory) in_it).0 in
-    given_is (codes "last") None some_length (whole_data n) (Some n) (bind (whole 0 65533 (whole_data n)) (λ k. Ok (Some k)) n _ (whole_is 0 65533 n (and_from (nat_le 0 n) (nat_le n 65533) refl low)) refl)
+    given_is (codes "last") None some_length (whole_data n) (Some n) (bind (whole 0 65533 (whole_data n)) (λ k. Ok (Some k)) n _ (whole_is 0 65533 n (from_zero n 65533 low)) refl)
 
-was_taken : Option ℕ → Bool
+abbrev was_taken : Option ℕ → Bool
 was_taken None = false
 was_taken (Some n) = true
 
@@ -145,7 +141,7 @@ transfer_is rs t there counter =
     bind (object_of is_transfer_member transfer_members (object_in fs)) (λ q. hold_to (transfer_in (filled rs) (Some q)) (Some q)) t _
     (object_is is_transfer_member transfer_members fs t refl
       (bind _ _ t.at _ (needed_is (codes "at") end_place fs (place_data t.at) t.at refl (end_place_is t.at (omega (arith, low))))
-      (bind _ _ t.rest _ (needed_is (codes "rest") (whole 0 LAST_COUNT) fs (whole_data t.rest) t.rest refl (whole_is 0 LAST_COUNT t.rest (and_from (nat_le 0 t.rest) (nat_le t.rest LAST_COUNT) refl (le-leb t.rest LAST_COUNT (omega (arith, low))))))
+      (bind _ _ t.rest _ (needed_is (codes "rest") (whole 0 LAST_COUNT) fs (whole_data t.rest) t.rest refl (whole_is 0 LAST_COUNT t.rest (from_zero t.rest LAST_COUNT (le-leb t.rest LAST_COUNT (omega (arith, low))))))
       (bind _ _ t.counter _ (needed_is (codes "counter") two fs (two_data t.counter) t.counter refl (two_is t.counter counter))
       (bind _ _ (was_taken t.last) _ (chosen_is (codes "taken") false flag fs (taken_given t.last) (was_taken t.last) (either (taken_given t.last)) (takes t.last))
       (bind _ _ t.up _ (chosen_is (codes "up") false flag fs (flag_given t.up) t.up (either (flag_given t.up)) (flag_is (codes "up") t.up))
@@ -159,8 +155,7 @@ given_transfer rs (Some t) there fits = given_is (codes "transfer") None (transf
 
 -- ------ the parts of a unit
 truth : (b : Bool) → IsTrue b → b ≡ true
-truth true is = refl
-truth false is = absurd is
+truth b is = is
 
 module _ (u : UnitSpec) (is : IsUnitSpec u) (said : IsSaidUnit u) (fits : FitsUnit u) where
   layout_is : (before : List UnitSpec) → has_address u.address before ≡ false → layout before (unit_data u) ≡ Ok (record { address = u.address; regions = u.regions; bytes = u.bytes; idents = u.idents })
@@ -185,7 +180,7 @@ module _ (u : UnitSpec) (is : IsUnitSpec u) (said : IsSaidUnit u) (fits : FitsUn
       (bind _ _ u.check _ (needed_is (codes "check") four (unit_fields u) (four_data u.check) u.check refl (four_is u.check fits.rules.check)) refl)))
     where
       low : (n : ℕ) → n < 2 ^ 32 → (nat_le 0 n && nat_le n (2 ^ 32 - 1)) ≡ true
-      low n lt = and_from (nat_le 0 n) (nat_le n (2 ^ 32 - 1)) refl (le-leb n (2 ^ 32 - 1) (omega (arith, lt)))
+      low n lt = from_zero n (2 ^ 32 - 1) (le-leb n (2 ^ 32 - 1) (omega (arith, lt)))
 
   past_is : past (unit_data u) ≡ Ok (record { checked = u.checked; passed = u.passed; heard = u.heard; troubles = u.troubles })
   past_is =
@@ -198,7 +193,7 @@ module _ (u : UnitSpec) (is : IsUnitSpec u) (said : IsSaidUnit u) (fits : FitsUn
         (given_list (codes "troubles") trouble trouble_data u.troubles (troubles_are u.troubles (truth _ is.troubles) fits.past.troubles))) refl)))
     where
       low : (n : ℕ) → n < 2 ^ 64 → (nat_le 0 n && nat_le n LAST_COUNT) ≡ true
-      low n lt = and_from (nat_le 0 n) (nat_le n LAST_COUNT) refl (le-leb n LAST_COUNT (omega (arith, lt)))
+      low n lt = from_zero n LAST_COUNT (le-leb n LAST_COUNT (omega (arith, lt)))
 
   session_is : session (two_data u.kind) ≡ Ok u.kind
   session_is =

@@ -49,5 +49,6 @@ pub fn write(alloc: Global, vehicle: &VehicleSpec) -> Result<Bytes, NoMemory>
     ensures back { IfOk result (λ b. IsSaid vehicle.now → vehicle_of b ≡ Ok vehicle.now) }
 {
     let value = value_of(alloc, vehicle)?;
-    text(alloc, &value)
+    let bytes = text(alloc, &value)?;
+    Ok(bytes)
 }

@@ -17,4 +17,4 @@ text-requires-clause-flat c =
 
 pub returns-clause-back : goal.returns-clause-back
 returns-clause-back c said =
-    ap vehicle_from (c.in_ok-text.ensures.reads ∙ ap Some c.in_ok-value.ensures.is) ∙ back c.args.vehicle.now said c.in_ok-value.ensures.fits
+    ap vehicle_from (c.in_ok-bytes.ensures.reads ∙ ap Some c.in_ok-value.ensures.is) ∙ back c.args.vehicle.now said c.in_ok-value.ensures.fits
