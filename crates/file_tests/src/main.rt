@@ -45,7 +45,14 @@ fn stays(alloc: Global, text: &Bytes) -> Result<bool, NoMemory> {
 
 fn put_vehicle(alloc: Global, out: &mut Bytes, vehicle: &VehicleSpec) -> Result<(), NoMemory> {
     let text = vehicle_text::write(alloc, vehicle)?;
-    put(out, if stays(alloc, &text)? { "saved " } else { "changes " })?;
+    put(
+        out,
+        if stays(alloc, &text)? {
+            "saved "
+        } else {
+            "changes "
+        },
+    )?;
     out.extend(text.as_slice())
 }
 

@@ -24,12 +24,12 @@ found_at : (name l : List ℕ) (o : Option Data) (ms : Members) (r : Option Data
     → get_member name (put_some l o ms) ≡ (if bytes_eq name l then or_else o r else r)
 found_at name l None ms r e = e ∙ sym (either_way (bytes_eq name l) r)
 found_at name l (Some d) ms r e = elim (cases_Bool (bytes_eq name l)) [
-    | inl y ↦
+  | inl y ↦
       let same : name ≡ l = (bytes_eq-Decides name l).0 y in
       subst (λ (q : List ℕ). get_member q (put l d ms) ≡ Some d) (sym same) (get_member-put l d ms) ∙ sym (ap (λ (b : Bool). if b then Some d else r) y)
-    | inr n ↦
+  | inr n ↦
       get_member-put_other name l d ms (λ h. true≢false (sym ((bytes_eq-Decides name l).1 h) ∙ n)) ∙ e ∙ sym (ap (λ (b : Bool). if b then Some d else r) n)
-  ]
+]
 
 pub found : (name : List ℕ) (fs : Fields) → get name (object_in fs) ≡ find name fs
 found name [] = refl

@@ -54,11 +54,11 @@ two_digits : (a b c d : ℕ) (xs ys : List ℕ) → a < 16 → b < 16 → c < 16
     → slice_cmp nat_cmp (digit a ∷ digit b ∷ xs) (digit c ∷ digit d ∷ ys) ≡ Less
 two_digits a b c d xs ys la lb lc ld (inr same) = first_same a c (digit b ∷ xs) (digit d ∷ ys) same.0 (first_same b d xs ys same.1 same.2)
 two_digits a b c d xs ys la lb lc ld (inl lt) = elim (cases_lt a c) [
-    | inl below ↦ first_lower a c (digit b ∷ xs) (digit d ∷ ys) below lc
-    | inr above ↦
+  | inl below ↦ first_lower a c (digit b ∷ xs) (digit d ∷ ys) below lc
+  | inr above ↦
       let e : a ≡ c = omega (arith, lt, above, lb, ld) in
       first_same a c (digit b ∷ xs) (digit d ∷ ys) e (first_lower b d xs ys (omega (arith, lt, e)) ld)
-  ]
+]
 
 texts_ascend : (m n : ℕ) → m < n → n < 65536 → slice_cmp nat_cmp (four_text m) (four_text n) ≡ Less
 unfolding encode_with
@@ -69,9 +69,12 @@ texts_ascend m n lt few =
     (elim (cases_lt (m / 256) (n / 256)) [
       | inl below ↦ inl (omega (arith, below))
       | inr above ↦
-        let e : m / 256 ≡ n / 256 = omega (arith, above, lt) in
-        inr (ap (λ (k : ℕ). k / 16) e, ap (λ (k : ℕ). k % 16) e,
-          two_digits (m % 256 / 16) (m % 256 % 16) (n % 256 / 16) (n % 256 % 16) [] [] (omega arith) (omega arith) (omega arith) (omega arith) (inl (omega (arith, lt, e))))
+          let e : m / 256 ≡ n / 256 = omega (arith, above, lt) in
+          inr (
+            ap (λ (k : ℕ). k / 16) e,
+            ap (λ (k : ℕ). k % 16) e,
+            two_digits (m % 256 / 16) (m % 256 % 16) (n % 256 / 16) (n % 256 % 16) [] [] (omega arith) (omega arith) (omega arith) (omega arith) (inl (omega (arith, lt, e))),
+          )
     ])
 
 -- ------ the members stand in the order of the identifiers
@@ -86,7 +89,7 @@ in_order (i ∷ (j ∷ js)) up fits =
     let parts = and_parts (nat_lt i.0 j.0) (ascend (j ∷ js)) up in
     ap (put (four_text i.0) (bytes_data i.1)) (in_order (j ∷ js) parts.1 fits.1)
     ∙ ap (λ o. match_ordering o (member (four_text i.0) (bytes_data i.1) (members_of (j ∷ js))) (member (four_text j.0) (bytes_data i.1) (members_of js)) (member (four_text j.0) (bytes_data j.1) (put (four_text i.0) (bytes_data i.1) (members_of js))))
-      (texts_ascend i.0 j.0 (ltb-true i.0 j.0 parts.0) fits.1.0.0)
+    (texts_ascend i.0 j.0 (ltb-true i.0 j.0 parts.0) fits.1.0.0)
 
 -- ------ and are read so
 abbrev AreBelow : ℕ → List (ℕ × List ℕ) → Type 0

@@ -197,16 +197,55 @@ transfer_plain (Some t) =
 
 unit_plain : (u : UnitSpec) → IsPlain 4 (unit_data u)
 unit_plain u =
-    object_plain 3 (unit_fields u)
-    (text_plain 3 _, (wider 2 3 (Some (list_data region_data u.regions)) (omega arith) (list_plain 1 region_data region_plain u.regions),
-    (wider 2 3 (list_given patch_data u.bytes) (omega arith) (given_plain 1 patch_data patch_plain u.bytes), (wider 1 3 (idents_given u.idents) (omega arith) (given_idents_plain u.idents),
-    (wider 1 3 (key_given u.key) (omega arith) (key_plain u.key), (unless_plain 3 (bytes_eq u.seed (1 ∷ [])) (bytes_data u.seed) (text_plain 3 _),
-    (unless_plain 3 (u.block == 4095) (whole_data u.block) (whole_plain 3 _), (text_plain 3 _,
-    (wider 2 3 (list_given range_data u.checked) (omega arith) (given_plain 1 range_data range_plain u.checked), (unless_plain 3 (not u.passed) (flag_data true) (flag_plain 3 true),
-    (unless_plain 3 (u.heard == 0) (whole_data u.heard) (whole_plain 3 _), (wider 3 3 (list_given trouble_data u.troubles) (omega arith) (given_plain 2 trouble_data trouble_plain u.troubles),
-    (unless_plain 3 (u.kind == 1) (two_data u.kind) (text_plain 3 _), (unless_plain 3 (not u.unlocked) (flag_data true) (flag_plain 3 true),
-    (seed_plain 3 u.last_seed, (transfer_plain u.transfer,
-    (unless_plain 3 (not u.dtc_off) off_data (text_plain 3 _), (unless_plain 3 (not u.messages_off) off_data (text_plain 3 _), tt))))))))))))))))))
+    object_plain 3 (unit_fields u) (
+      text_plain 3 _,
+      (
+        wider 2 3 (Some (list_data region_data u.regions)) (omega arith) (list_plain 1 region_data region_plain u.regions),
+        (
+          wider 2 3 (list_given patch_data u.bytes) (omega arith) (given_plain 1 patch_data patch_plain u.bytes),
+          (
+            wider 1 3 (idents_given u.idents) (omega arith) (given_idents_plain u.idents),
+            (
+              wider 1 3 (key_given u.key) (omega arith) (key_plain u.key),
+              (
+                unless_plain 3 (bytes_eq u.seed (1 ∷ [])) (bytes_data u.seed) (text_plain 3 _),
+                (
+                  unless_plain 3 (u.block == 4095) (whole_data u.block) (whole_plain 3 _),
+                  (
+                    text_plain 3 _,
+                    (
+                      wider 2 3 (list_given range_data u.checked) (omega arith) (given_plain 1 range_data range_plain u.checked),
+                      (
+                        unless_plain 3 (not u.passed) (flag_data true) (flag_plain 3 true),
+                        (
+                          unless_plain 3 (u.heard == 0) (whole_data u.heard) (whole_plain 3 _),
+                          (
+                            wider 3 3 (list_given trouble_data u.troubles) (omega arith) (given_plain 2 trouble_data trouble_plain u.troubles),
+                            (
+                              unless_plain 3 (u.kind == 1) (two_data u.kind) (text_plain 3 _),
+                              (
+                                unless_plain 3 (not u.unlocked) (flag_data true) (flag_plain 3 true),
+                                (
+                                  seed_plain 3 u.last_seed,
+                                  (
+                                    transfer_plain u.transfer,
+                                    (unless_plain 3 (not u.dtc_off) off_data (text_plain 3 _), (unless_plain 3 (not u.messages_off) off_data (text_plain 3 _), tt)),
+                                  ),
+                                ),
+                              ),
+                            ),
+                          ),
+                        ),
+                      ),
+                    ),
+                  ),
+                ),
+              ),
+            ),
+          ),
+        ),
+      ),
+    )
 
 pub vehicle_plain : (v : VehicleSpec) → IsPlain 6 (vehicle_data v)
 vehicle_plain v =

@@ -56,9 +56,11 @@ well [] r rs all = ((and_parts (is_range (r.at, r.size)) (apart_from (r.at, r.si
 well (b ∷ before) r rs all =
     let first = and_parts (is_range (b.at, b.size)) (apart_from (b.at, b.size) (spec_extents (before ++ r ∷ rs)) && all_apart (spec_extents (before ++ r ∷ rs))) all in
     let rest = and_parts (apart_from (b.at, b.size) (spec_extents (before ++ r ∷ rs))) (all_apart (spec_extents (before ++ r ∷ rs))) first.1 in
-    let later = well before r rs rest.1 in
-    (later.0, and_from (is_apart (r.at, r.size) (b.at, b.size)) (apart_from (r.at, r.size) (spec_extents before))
-      (swapped (nat_le (b.at + b.size) r.at) (nat_le (r.at + r.size) b.at) (amid (b.at, b.size) before r rs rest.0)) later.1)
+    let later = well before r rs rest.1 in (
+      later.0,
+      and_from (is_apart (r.at, r.size) (b.at, b.size)) (apart_from (r.at, r.size) (spec_extents before))
+          (swapped (nat_le (b.at + b.size) r.at) (nat_le (r.at + r.size) b.at) (amid (b.at, b.size) before r rs rest.0)) later.1,
+    )
 
 pub size_is : (n : ℕ) → nat_le 1 n ≡ true → n ≤ LIMIT → size (whole_data n) ≡ Ok n
 size_is n some low = whole_is 1 LAST_COUNT n (and_from (nat_le 1 n) (nat_le n LAST_COUNT) some (le-leb n LAST_COUNT (omega (arith, low))))
@@ -72,9 +74,9 @@ region_is before r range apart fits =
     let low : r.at + r.size ≤ LIMIT = leb-true (r.at + r.size) LIMIT parts.1 in
     bind (object_of is_region_member region_members (region_data r)) (λ q. hold_to (lies_well before q) q) r _
     (object_is is_region_member region_members fs r refl
-      (bind _ _ r.at _ (needed_is (codes "at") place fs (place_data r.at) r.at refl (place_is r.at (omega (arith, some, low))))
-      (bind _ _ r.size _ (needed_is (codes "size") size fs (whole_data r.size) r.size refl (size_is r.size parts.0 (omega (arith, low))))
-      (bind _ _ r.fill _ (needed_is (codes "fill") two fs (two_data r.fill) r.fill refl (two_is r.fill fits)) refl))))
+    (bind _ _ r.at _ (needed_is (codes "at") place fs (place_data r.at) r.at refl (place_is r.at (omega (arith, some, low))))
+    (bind _ _ r.size _ (needed_is (codes "size") size fs (whole_data r.size) r.size refl (size_is r.size parts.0 (omega (arith, low))))
+    (bind _ _ r.fill _ (needed_is (codes "fill") two fs (two_data r.fill) r.fill refl (two_is r.fill fits)) refl))))
     (ap (λ (b : Bool). hold_to b r) (and_from (nat_le (r.at + r.size) LIMIT) (apart_from (r.at, r.size) (spec_extents before)) parts.1 apart))
 
 regions_from_are : (before rs : List RegionSpec) (i : ℕ) → all_apart (spec_extents (before ++ rs)) ≡ true → Each FitsRegion rs

@@ -52,8 +52,8 @@ patch_is rs p low inside fits =
     let parts = and_parts (nat_lt p.at LIMIT) (nat_le (p.at + length p.bytes) LIMIT) low in
     bind (object_of is_patch_member patch_members (patch_data p)) (λ q. hold_to (lies_in rs q.at (length q.bytes)) q) p _
     (object_is is_patch_member patch_members fs p refl
-      (bind _ _ p.at _ (needed_is (codes "at") place fs (place_data p.at) p.at refl (place_is p.at (ltb-true p.at LIMIT parts.0)))
-      (bind _ _ p.bytes _ (needed_is (codes "hex") any_bytes fs (bytes_data p.bytes) p.bytes refl (any_bytes_are p.bytes fits)) refl)))
+    (bind _ _ p.at _ (needed_is (codes "at") place fs (place_data p.at) p.at refl (place_is p.at (ltb-true p.at LIMIT parts.0)))
+    (bind _ _ p.bytes _ (needed_is (codes "hex") any_bytes fs (bytes_data p.bytes) p.bytes refl (any_bytes_are p.bytes fits)) refl)))
     (ap (λ (b : Bool). hold_to b p) (and_from (nat_le (p.at + length p.bytes) LIMIT) (has_each p.at (length p.bytes) (filled rs)) parts.1 inside))
 
 patches_are : (rs : List RegionSpec) (ps : List PatchSpec) → lie_low ps ≡ true → all_inside (filled rs) ps ≡ true → Each FitsPatch ps → Each (λ p. patch rs (patch_data p) ≡ Ok p) ps
@@ -71,8 +71,8 @@ range_is r range =
     let low : r.0 + r.1 ≤ LIMIT = leb-true (r.0 + r.1) LIMIT parts.1 in
     bind (object_of is_range_member range_members (range_data r)) (λ q. hold_to (nat_le (q.0 + q.1) LIMIT) q) r _
     (object_is is_range_member range_members fs r refl
-      (bind _ _ r.0 _ (needed_is (codes "at") place fs (place_data r.0) r.0 refl (place_is r.0 (omega (arith, some, low))))
-      (bind _ _ r.1 _ (needed_is (codes "size") size fs (whole_data r.1) r.1 refl (size_is r.1 parts.0 (omega (arith, low)))) refl)))
+    (bind _ _ r.0 _ (needed_is (codes "at") place fs (place_data r.0) r.0 refl (place_is r.0 (omega (arith, some, low))))
+    (bind _ _ r.1 _ (needed_is (codes "size") size fs (whole_data r.1) r.1 refl (size_is r.1 parts.0 (omega (arith, low)))) refl)))
     (ap (λ (b : Bool). hold_to b r) parts.1)
 
 ranges_are : (rs : List (ℕ × ℕ)) → all_ranges rs ≡ true → Each (λ r. checked_range (range_data r) ≡ Ok r) rs
@@ -140,13 +140,13 @@ transfer_is rs t there counter =
     let low : t.at + t.rest ≤ LIMIT = leb-true (t.at + t.rest) LIMIT first.0 in
     bind (object_of is_transfer_member transfer_members (object_in fs)) (λ q. hold_to (transfer_in (filled rs) (Some q)) (Some q)) t _
     (object_is is_transfer_member transfer_members fs t refl
-      (bind _ _ t.at _ (needed_is (codes "at") end_place fs (place_data t.at) t.at refl (end_place_is t.at (omega (arith, low))))
-      (bind _ _ t.rest _ (needed_is (codes "rest") (whole 0 LAST_COUNT) fs (whole_data t.rest) t.rest refl (whole_is 0 LAST_COUNT t.rest (from_zero t.rest LAST_COUNT (le-leb t.rest LAST_COUNT (omega (arith, low))))))
-      (bind _ _ t.counter _ (needed_is (codes "counter") two fs (two_data t.counter) t.counter refl (two_is t.counter counter))
-      (bind _ _ (was_taken t.last) _ (chosen_is (codes "taken") false flag fs (taken_given t.last) (was_taken t.last) (either (taken_given t.last)) (takes t.last))
-      (bind _ _ t.up _ (chosen_is (codes "up") false flag fs (flag_given t.up) t.up (either (flag_given t.up)) (flag_is (codes "up") t.up))
-      (bind _ _ t.last _ (chosen_is (codes "last") None some_length fs (last_given t.last) t.last (either (last_given t.last)) (lasts (filled rs) t.at t.last last))
-      (ap (λ (o : Option ℕ). Ok (record { up = t.up; at = t.at; rest = t.rest; counter = t.counter; last = o })) (last_is t.last)))))))))
+    (bind _ _ t.at _ (needed_is (codes "at") end_place fs (place_data t.at) t.at refl (end_place_is t.at (omega (arith, low))))
+    (bind _ _ t.rest _ (needed_is (codes "rest") (whole 0 LAST_COUNT) fs (whole_data t.rest) t.rest refl (whole_is 0 LAST_COUNT t.rest (from_zero t.rest LAST_COUNT (le-leb t.rest LAST_COUNT (omega (arith, low))))))
+    (bind _ _ t.counter _ (needed_is (codes "counter") two fs (two_data t.counter) t.counter refl (two_is t.counter counter))
+    (bind _ _ (was_taken t.last) _ (chosen_is (codes "taken") false flag fs (taken_given t.last) (was_taken t.last) (either (taken_given t.last)) (takes t.last))
+    (bind _ _ t.up _ (chosen_is (codes "up") false flag fs (flag_given t.up) t.up (either (flag_given t.up)) (flag_is (codes "up") t.up))
+    (bind _ _ t.last _ (chosen_is (codes "last") None some_length fs (last_given t.last) t.last (either (last_given t.last)) (lasts (filled rs) t.at t.last last))
+    (ap (λ (o : Option ℕ). Ok (record { up = t.up; at = t.at; rest = t.rest; counter = t.counter; last = o })) (last_is t.last)))))))))
     (ap (λ (b : Bool). hold_to b (Some t)) there)
 
 given_transfer : (rs : List RegionSpec) (o : Option Transfer) → transfer_in (filled rs) o ≡ true → FitsTransfer o → chosen_of (codes "transfer") None (transfer rs) (transfer_given o) ≡ Ok o
@@ -161,10 +161,10 @@ module _ (u : UnitSpec) (is : IsUnitSpec u) (said : IsSaidUnit u) (fits : FitsUn
   layout_is : (before : List UnitSpec) → has_address u.address before ≡ false → layout before (unit_data u) ≡ Ok (record { address = u.address; regions = u.regions; bytes = u.bytes; idents = u.idents })
   layout_is before new =
       bind _ _ u.address _ (needed_is (codes "address") (new_address before) (unit_fields u) (four_data u.address) u.address refl
-        (bind (four (four_data u.address)) (λ a. hold_to (not (has_address a before)) a) u.address _ (four_is u.address fits.layout.address) (ap (λ (b : Bool). hold_to (not b) u.address) new)))
+      (bind (four (four_data u.address)) (λ a. hold_to (not (has_address a before)) a) u.address _ (four_is u.address fits.layout.address) (ap (λ (b : Bool). hold_to (not b) u.address) new)))
       (bind _ _ u.regions _ (needed_is (codes "regions") regions (unit_fields u) (list_data region_data u.regions) u.regions refl (regions_are u.regions (truth _ is.regions) fits.layout.regions))
       (bind _ _ u.bytes _ (chosen_is (codes "bytes") [] (list_of (patch u.regions)) (unit_fields u) (list_given patch_data u.bytes) u.bytes (either _)
-        (given_list (codes "bytes") (patch u.regions) patch_data u.bytes (patches_are u.regions u.bytes (truth _ said.bytes) (truth _ is.bytes) fits.layout.bytes)))
+      (given_list (codes "bytes") (patch u.regions) patch_data u.bytes (patches_are u.regions u.bytes (truth _ said.bytes) (truth _ is.bytes) fits.layout.bytes)))
       (bind _ _ u.idents _ (chosen_is (codes "idents") [] idents (unit_fields u) (idents_given u.idents) u.idents (either _) (given_idents u.idents (truth _ said.idents) (truth _ is.idents) fits.layout.idents)) refl)))
 
   usual_seed : bytes_eq u.seed (1 ∷ []) ≡ true → (1 ∷ []) ≡ u.seed
@@ -174,9 +174,9 @@ module _ (u : UnitSpec) (is : IsUnitSpec u) (said : IsSaidUnit u) (fits : FitsUn
   rules_are =
       bind _ _ u.key _ (chosen_is (codes "key") Free key_rule (unit_fields u) (key_given u.key) u.key (either _) (given_key u.key (truth _ is.key) fits.rules.key))
       (bind _ _ u.seed _ (chosen_is (codes "seed") (1 ∷ []) (bytes_to 64) (unit_fields u) (unless (bytes_eq u.seed (1 ∷ [])) (bytes_data u.seed)) u.seed (either _)
-        (left_out (codes "seed") (1 ∷ []) u.seed (bytes_eq u.seed (1 ∷ [])) (bytes_to 64) (bytes_data u.seed) usual_seed (bytes_to_are 64 u.seed fits.rules.seed (truth _ is.seed))))
+      (left_out (codes "seed") (1 ∷ []) u.seed (bytes_eq u.seed (1 ∷ [])) (bytes_to 64) (bytes_data u.seed) usual_seed (bytes_to_are 64 u.seed fits.rules.seed (truth _ is.seed))))
       (bind _ _ u.block _ (chosen_is (codes "block") 4095 (whole 0 (2 ^ 32 - 1)) (unit_fields u) (unless (u.block == 4095) (whole_data u.block)) u.block (either _)
-        (left_out (codes "block") 4095 u.block (u.block == 4095) (whole 0 (2 ^ 32 - 1)) (whole_data u.block) (λ e. sym (eqb-true u.block 4095 e)) (whole_is 0 (2 ^ 32 - 1) u.block (low u.block fits.rules.block))))
+      (left_out (codes "block") 4095 u.block (u.block == 4095) (whole 0 (2 ^ 32 - 1)) (whole_data u.block) (λ e. sym (eqb-true u.block 4095 e)) (whole_is 0 (2 ^ 32 - 1) u.block (low u.block fits.rules.block))))
       (bind _ _ u.check _ (needed_is (codes "check") four (unit_fields u) (four_data u.check) u.check refl (four_is u.check fits.rules.check)) refl)))
     where
       low : (n : ℕ) → n < 2 ^ 32 → (nat_le 0 n && nat_le n (2 ^ 32 - 1)) ≡ true
@@ -185,12 +185,12 @@ module _ (u : UnitSpec) (is : IsUnitSpec u) (said : IsSaidUnit u) (fits : FitsUn
   past_is : past (unit_data u) ≡ Ok (record { checked = u.checked; passed = u.passed; heard = u.heard; troubles = u.troubles })
   past_is =
       bind _ _ u.checked _ (chosen_is (codes "checked") [] (list_of checked_range) (unit_fields u) (list_given range_data u.checked) u.checked (either _)
-        (given_list (codes "checked") checked_range range_data u.checked (ranges_are u.checked (truth _ is.checked))))
+      (given_list (codes "checked") checked_range range_data u.checked (ranges_are u.checked (truth _ is.checked))))
       (bind _ _ u.passed _ (chosen_is (codes "passed") false flag (unit_fields u) (flag_given u.passed) u.passed (either _) (flag_is (codes "passed") u.passed))
       (bind _ _ u.heard _ (chosen_is (codes "heard") 0 (whole 0 LAST_COUNT) (unit_fields u) (unless (u.heard == 0) (whole_data u.heard)) u.heard (either _)
-        (left_out (codes "heard") 0 u.heard (u.heard == 0) (whole 0 LAST_COUNT) (whole_data u.heard) (λ e. sym (eqb-true u.heard 0 e)) (whole_is 0 LAST_COUNT u.heard (low u.heard fits.past.heard))))
+      (left_out (codes "heard") 0 u.heard (u.heard == 0) (whole 0 LAST_COUNT) (whole_data u.heard) (λ e. sym (eqb-true u.heard 0 e)) (whole_is 0 LAST_COUNT u.heard (low u.heard fits.past.heard))))
       (bind _ _ u.troubles _ (chosen_is (codes "troubles") [] troubles (unit_fields u) (list_given trouble_data u.troubles) u.troubles (either _)
-        (given_list (codes "troubles") trouble trouble_data u.troubles (troubles_are u.troubles (truth _ is.troubles) fits.past.troubles))) refl)))
+      (given_list (codes "troubles") trouble trouble_data u.troubles (troubles_are u.troubles (truth _ is.troubles) fits.past.troubles))) refl)))
     where
       low : (n : ℕ) → n < 2 ^ 64 → (nat_le 0 n && nat_le n LAST_COUNT) ≡ true
       low n lt = from_zero n LAST_COUNT (le-leb n LAST_COUNT (omega (arith, lt)))
@@ -204,7 +204,7 @@ module _ (u : UnitSpec) (is : IsUnitSpec u) (said : IsSaidUnit u) (fits : FitsUn
   state_is : state u.regions (unit_data u) ≡ Ok (record { kind = u.kind; unlocked = u.unlocked; last_seed = u.last_seed; transfer = u.transfer; dtc_off = u.dtc_off; messages_off = u.messages_off })
   state_is =
       bind _ _ u.kind _ (chosen_is (codes "kind") 1 session (unit_fields u) (unless (u.kind == 1) (two_data u.kind)) u.kind (either _)
-        (left_out (codes "kind") 1 u.kind (u.kind == 1) session (two_data u.kind) (λ e. sym (eqb-true u.kind 1 e)) session_is))
+      (left_out (codes "kind") 1 u.kind (u.kind == 1) session (two_data u.kind) (λ e. sym (eqb-true u.kind 1 e)) session_is))
       (bind _ _ u.unlocked _ (chosen_is (codes "unlocked") false flag (unit_fields u) (flag_given u.unlocked) u.unlocked (either _) (flag_is (codes "unlocked") u.unlocked))
       (bind _ _ u.last_seed _ (chosen_is (codes "last_seed") None seed_given (unit_fields u) (bytes_given u.last_seed) u.last_seed (either _) (some_seed u.last_seed fits.state.last_seed))
       (bind _ _ u.transfer _ (chosen_is (codes "transfer") None (transfer u.regions) (unit_fields u) (transfer_given u.transfer) u.transfer (either _) (given_transfer u.regions u.transfer (truth _ is.transfer) fits.state.transfer))
@@ -251,7 +251,7 @@ vehicle_is v said fits =
     (bind _ _ v.gateway.entity _ (needed_is (codes "entity") four (vehicle_fields v) (four_data v.gateway.entity) v.gateway.entity refl (four_is v.gateway.entity fits.entity))
     (bind _ _ v.units _ (needed_is (codes "units") units (vehicle_fields v) (list_data unit_data v.units) v.units refl (units_are [] v.units 0 said.is.units said.units fits.units (truth _ said.addresses)))
     (bind _ _ v.gateway.gateway _ (chosen_is (codes "gateway") [] gate_troubles (vehicle_fields v) (list_given gate_data v.gateway.gateway) v.gateway.gateway (either _)
-      (given_gates v.gateway.gateway (truth _ said.is.gateway.troubles) said.is.gateway.few fits.gateway))
+    (given_gates v.gateway.gateway (truth _ said.is.gateway.troubles) said.is.gateway.few fits.gateway))
     (ap (λ (all : List ℕ). Ok (record { gateway = record { entity = v.gateway.entity; gateway = v.gateway.gateway; units = all }; units = v.units })) (sym said.is.addresses)))))
 
 -- what was written is read as it was

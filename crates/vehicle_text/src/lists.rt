@@ -29,11 +29,7 @@ pub(crate) trait Writer {
 }
 
 /// The items of a list.
-fn written<W: Writer>(
-    alloc: Global,
-    items: &[W::Item],
-    writer: &W,
-) -> Result<Vec<Value>, NoMemory>
+fn written<W: Writer>(alloc: Global, items: &[W::Item], writer: &W) -> Result<Vec<Value>, NoMemory>
     ensures is { IfOk result (λ vs. map view vs.items ≡ map W.tree items.now) }
     ensures fits { IfOk result (λ _. Each W.fits items.now) }
 {

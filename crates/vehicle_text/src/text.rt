@@ -25,7 +25,13 @@ fn value_of(alloc: Global, vehicle: &VehicleSpec) -> Result<Value, NoMemory>
     let mut members = Map::new(alloc);
     let troubles = vehicle.gateway.gateway.as_slice();
     put_some_list(alloc, &mut members, "gateway", troubles, &GateOut)?;
-    put_list(alloc, &mut members, "units", vehicle.units.as_slice(), &UnitOut)?;
+    put_list(
+        alloc,
+        &mut members,
+        "units",
+        vehicle.units.as_slice(),
+        &UnitOut,
+    )?;
     put_four(alloc, &mut members, "entity", vehicle.gateway.entity)?;
     Ok(Value::Object(members))
 }

@@ -132,7 +132,13 @@ fn put_layout(
 {
     put_idents(alloc, members, unit.idents.as_slice())?;
     put_some_list(alloc, members, "bytes", unit.bytes.as_slice(), &PatchOut)?;
-    put_list(alloc, members, "regions", unit.regions.as_slice(), &RegionOut)?;
+    put_list(
+        alloc,
+        members,
+        "regions",
+        unit.regions.as_slice(),
+        &RegionOut,
+    )?;
     put_four(alloc, members, "address", unit.address)
 }
 
@@ -208,10 +214,22 @@ fn put_past(
         ≡ members_over (past_fields unit.now) (members_view members.old.entries)) }
     ensures fits { OnOk result (FitsPast unit.now) }
 {
-    put_some_list(alloc, members, "troubles", unit.troubles.as_slice(), &TroubleOut)?;
+    put_some_list(
+        alloc,
+        members,
+        "troubles",
+        unit.troubles.as_slice(),
+        &TroubleOut,
+    )?;
     put_heard(alloc, members, unit.heard)?;
     put_flag(alloc, members, "passed", unit.passed)?;
-    put_some_list(alloc, members, "checked", unit.checked.as_slice(), &RangeOut)
+    put_some_list(
+        alloc,
+        members,
+        "checked",
+        unit.checked.as_slice(),
+        &RangeOut,
+    )
 }
 
 /// Puts the last block of a transfer: its length, and that it was taken.

@@ -9,9 +9,8 @@ ghost use Rattle.world_file.specs.Saves.{IsRead, IsSave, ReadsBack, said_by, spe
 
 use flash_base::{Bytes, NoMemory};
 use std::alloc::Global;
-use vehicle_world::World;
-
 pub use vehicle_file::BenchFault;
+use vehicle_world::World;
 
 /// What a world is made of, as what a file says.
 fn said_by(spec: vehicle_world::VehicleSpec) -> vehicle_file::VehicleSpec
