@@ -52,6 +52,8 @@ UNITS = [
     (False, '"dtc":true'),
     (False, '"messages":"Off"'),
     (True, '"transfer":{"at":"1000","rest":3,"counter":"01"}'),
+    (True, '"transfer":{"at":"10000000000","rest":0,"counter":"01"}'),
+    (False, '"transfer":{"at":"10000000001","rest":0,"counter":"01"}'),
     (True, '"transfer":{"at":"1003","rest":0,"counter":"02","taken":true,"up":true,"last":65533}'),
     (False, '"transfer":{"at":"1003","rest":0,"counter":"02","taken":true,"last":65534}'),
     (False, '"transfer":{"at":"1000","rest":3}'),
@@ -145,8 +147,30 @@ def examples():
             yield str(path.relative_to(TOP)), True, text
 
 
+# rows that a rule refuses which no schema can say
+BEYOND = {
+    "same address", "region past limit", "region meet", "bytes outside", "idents case", "checked past limit",
+    "transfer outside", "transfer before", "transfer before two", "a byte over",
+}
+
+
+def rows():
+    """The rows of file_tests: what is read, and what is written for it."""
+    folder = TOP / "crates/file_tests"
+    if not (folder / "stdout").exists():
+        return
+    texts = dict(line.split(" | ", 1) for line in (folder / "data/rows.txt").read_text().splitlines() if " | " in line)
+    for line in (folder / "stdout").read_text().splitlines():
+        name, said = line.split(" | ", 1)
+        if said.startswith("saved "):
+            yield f"file_tests {name}, written", True, said[6:]
+        if said != "not json":
+            yield f"file_tests {name}", said.startswith("saved ") or name in BEYOND, texts[name]
+
+
 def cases():
     yield from examples()
+    yield from rows()
     yield "vehicle", True, '{"entity":"4000","units":[{%s}]}' % UNIT
     for ok, members in UNITS:
         yield "unit", ok, '{"entity":"4000","units":[{%s,%s}]}' % (UNIT, members)

@@ -123,6 +123,10 @@ two d = of_form (as_str d >=> byte_text)
 abbrev pub place : Data → Reading ℕ
 place d = of_form (as_str d >=> λ t. hex_text t >=> λ n. only_if (nat_lt n LIMIT) n)
 
+-- 1 to 16 hexadecimal digits that say an address, or the limit itself, where a range may end
+abbrev pub end_place : Data → Reading ℕ
+end_place d = of_form (as_str d >=> λ t. hex_text t >=> λ n. only_if (nat_le n LIMIT) n)
+
 -- bytes, one at least and at most so many
 abbrev pub bytes_to : ℕ → Data → Reading (List ℕ)
 bytes_to most d = of_form (as_str d >=> bytes_text

@@ -16,7 +16,7 @@ use Rattle.vehicle_file.specs.declared.unit.Layout.{Layout}
 use Rattle.vehicle_file.specs.declared.unit.Rules.{Rules}
 use Rattle.vehicle_file.specs.declared.unit.Past.{Past}
 use Rattle.vehicle_file.specs.declared.unit.State.{State}
-use Rattle.vehicle_file.specs.Fields.{Reading, LAST_COUNT, ◌>>=◌, bytes_to, bytes_up_to, chosen, flag, four, four_digits, hold_to, is_off, list_of, list_with, needed, object_of, place, refused, any_bytes, two, under, whole}
+use Rattle.vehicle_file.specs.Fields.{Reading, LAST_COUNT, ◌>>=◌, bytes_to, bytes_up_to, chosen, end_place, flag, four, four_digits, hold_to, is_off, list_of, list_with, needed, object_of, place, refused, any_bytes, two, under, whole}
 use Rattle.vehicle_file.specs.Keys.{key_rule}
 use Rattle.vehicle_file.specs.Troubles.{troubles}
 
@@ -126,7 +126,7 @@ is_transfer_member name =
 
 abbrev pub transfer_members : Data → Reading Transfer
 transfer_members o =
-    needed (codes "at") place o >>= λ at.
+    needed (codes "at") end_place o >>= λ at.
     needed (codes "rest") (whole 0 LAST_COUNT) o >>= λ rest.
     needed (codes "counter") two o >>= λ counter.
     chosen (codes "taken") false flag o >>= λ taken.

@@ -6,7 +6,7 @@ ghost use Rattle.serde_json.specs.View.{view};
 ghost use Rattle.text_forms.specs.Bytes.{byte_text, bytes_text};
 ghost use Rattle.text_forms.specs.Numbers.{hex_text};
 ghost use Rattle.unit_model.specs.RegionTests.{LIMIT};
-ghost use Rattle.vehicle_file.specs.Fields.{◌>=>◌, only_if, four_digits, four, two, place, any_bytes, bytes_to, bytes_up_to, whole, flag, off_in, is_off};
+ghost use Rattle.vehicle_file.specs.Fields.{◌>=>◌, only_if, four_digits, four, two, place, end_place, any_bytes, bytes_to, bytes_up_to, whole, flag, off_in, is_off};
 
 use crate::fault::Refused;
 use crate::reading::{Reader, of_form};
@@ -88,6 +88,26 @@ impl Reader for Place {
 
     fn read(&self, alloc: Global, value: &Value) -> Result<u64, Refused> {
         of_form(alloc, place_of(value))
+    }
+}
+
+fn end_of(value: &Value) -> Option<u64>
+    ensures { result ≡ (as_str (view value.now) >=> λ t. hex_text t >=> λ n. only_if (nat_le n LIMIT) n) }
+{
+    let at = hex_number(value.as_str()?)?;
+    if at <= LIMIT { Some(at) } else { None }
+}
+
+/// An address, or the limit itself: 1 to 16 hexadecimal digits.
+pub(crate) struct EndPlace;
+
+impl Reader for EndPlace {
+    type Value = u64;
+
+    ghost reading = { λ _ d. end_place d };
+
+    fn read(&self, alloc: Global, value: &Value) -> Result<u64, Refused> {
+        of_form(alloc, end_of(value))
     }
 }
 

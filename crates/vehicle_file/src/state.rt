@@ -9,7 +9,7 @@ ghost use Rattle.vehicle_file.specs.Units.{is_transfer_member, last_block, seed_
 ghost use Rattle.vehicle_file.specs.declared.fault.Refused.{Refused};
 
 use crate::fault::Refused;
-use crate::forms::{AnyBytes, Flag, Off, Place, Two, Whole};
+use crate::forms::{AnyBytes, EndPlace, Flag, Off, Two, Whole};
 use crate::memory::{has_each, lies_in};
 use crate::reading::{Members, Reader, chosen, hold_to, needed, object_of};
 use crate::unit::State;
@@ -102,7 +102,7 @@ impl Members for TransferMembers {
     }
 
     fn read(&self, alloc: Global, value: &Value) -> Result<Transfer, Refused> {
-        let at = needed(alloc, value, "at", &Place)?;
+        let at = needed(alloc, value, "at", &EndPlace)?;
         let rest = needed(alloc, value, "rest", &COUNT)?;
         let counter = needed(alloc, value, "counter", &Two)?;
         let taken = chosen(alloc, value, "taken", false, &Flag)?;
