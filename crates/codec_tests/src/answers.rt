@@ -8,10 +8,10 @@ use uds_codec::{Awaited, Reply, UdsFault, Verdict, decode_reply, is_listed_code,
 fn put_reply(alloc: Global, bytes: &[u8], out: &mut String) -> Result<(), NoMemory> {
     match decode_reply(alloc, bytes) {
         Ok(Reply::Positive { sid, rest }) => {
-            write!(out, "positive {sid:02x} ")?;
+            write!(out, "positive sid={sid} rest=")?;
             put_digits(out, rest.as_slice())
         }
-        Ok(Reply::Negative { sid, nrc }) => Ok(write!(out, "negative {sid:02x} {nrc:02x}")?),
+        Ok(Reply::Negative { sid, nrc }) => Ok(write!(out, "negative sid={sid} nrc={nrc}")?),
         Err(fault) => put_fault(out, &fault),
     }
 }

@@ -45,5 +45,5 @@ impl Calls for Codecs {
 }
 
 fn main(rt: HostRuntime) -> io::Result<()> {
-    show_tables(&rt, &Codecs, &["requests", "answers", "frames"])
+    show_tables(&rt, &Codecs, &["requests", "answers", "frames", "asked"])
 }

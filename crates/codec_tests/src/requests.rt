@@ -126,7 +126,7 @@ fn put_long(
             let count = body.len();
             Ok(write!(
                 out,
-                "transfer {counter:02x} of {count} bytes 5a {all}, written so {same}"
+                "transfer counter={counter} of {count} bytes 5a {all}, written so {same}"
             )?)
         }
         _ => Ok(out.push_str("another request")?),

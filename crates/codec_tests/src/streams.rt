@@ -186,10 +186,10 @@ fn answer_long(alloc: Global, inputs: &str, out: &mut String) -> Result<(), NoMe
 
 /// A text with the length of its rows of `5a` in their place.
 fn put_short(out: &mut String, text: &str) -> Result<(), NoMemory> {
-    let (front, digits) = text.rsplit_once(' ').unwrap_or(("", text));
+    let (front, digits) = text.rsplit_once('=').unwrap_or(("", text));
     let rest = digits.trim_end_matches("5a");
     let count = digits.len().wrapping_sub(rest.len()) / 2;
-    Ok(write!(out, "{front} {rest}{count} times 5a")?)
+    Ok(write!(out, "{front}={rest}{count} times 5a")?)
 }
 
 /// The frames of two pieces.
