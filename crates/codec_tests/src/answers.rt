@@ -3,9 +3,9 @@ use crate::requests::put_fault;
 use flash_base::NoMemory;
 use std::alloc::Global;
 use test_rows::{bytes_of_digits, first, put_digits};
-use uds_codec::{Awaited, Reply, UdsFault, Verdict, decode_reply, is_listed_code, judge};
+use uds_codec::{Awaited, Reply, Verdict, decode_reply, is_listed_code, judge};
 
-fn put_reply(alloc: Global, bytes: &[u8], out: &mut String) -> Result<(), NoMemory> {
+pub fn put_reply(alloc: Global, bytes: &[u8], out: &mut String) -> Result<(), NoMemory> {
     match decode_reply(alloc, bytes) {
         Ok(Reply::Positive { sid, rest }) => {
             write!(out, "positive sid={sid} rest=")?;
@@ -19,31 +19,6 @@ fn put_reply(alloc: Global, bytes: &[u8], out: &mut String) -> Result<(), NoMemo
 pub fn answer(alloc: Global, digits: &str, out: &mut String) -> Result<(), NoMemory> {
     let bytes = bytes_of_digits(alloc, digits)?;
     put_reply(alloc, bytes.as_slice(), out)
-}
-
-fn is_unknown(alloc: Global, bytes: &[u8], first: u8) -> bool {
-    match decode_reply(alloc, bytes) {
-        Err(UdsFault::UnknownSid { sid }) => sid == first,
-        _ => false,
-    }
-}
-
-fn put_first(alloc: Global, first: u8, out: &mut String) -> Result<(), NoMemory> {
-    let garbage = [first, 0xee, 0xee, 0xee];
-    if is_unknown(alloc, &garbage, first) {
-        return Ok(());
-    }
-    write!(out, "{first:02x} ")?;
-    put_reply(alloc, &garbage, out)?;
-    Ok(out.push_str("; ")?)
-}
-
-/// What three bytes EE are as an answer after each first byte that is not refused as none of a service.
-pub fn answer_first_bytes(alloc: Global, out: &mut String) -> Result<(), NoMemory> {
-    for first in 0..256u32 {
-        put_first(alloc, first as u8, out)?;
-    }
-    Ok(())
 }
 
 fn is_negative(alloc: Global, code: u8) -> bool {

@@ -5,6 +5,7 @@
 #![tactic(auto)]
 
 mod answers;
+mod first_bytes;
 mod frames;
 mod numbers;
 mod requests;
@@ -30,13 +31,12 @@ impl Calls for Codecs {
         match call {
             "request" => requests::answer(alloc, inputs, out),
             "beginnings" => requests::answer_beginnings(alloc, inputs, out),
-            "first bytes" => requests::answer_first_bytes(alloc, out),
+            "first bytes" => first_bytes::answer(alloc, inputs, out),
             "long block" => requests::answer_long_block(alloc, inputs, out),
             "numbers" => numbers::answer(out),
             "ranges" => numbers::answer_ranges(alloc, out),
             "answer" => answers::answer(alloc, inputs, out),
             "verdict" => answers::answer_verdict(alloc, inputs, out),
-            "answers' first bytes" => answers::answer_first_bytes(alloc, out),
             "codes" => answers::answer_codes(alloc, out),
             "frame" => frames::answer(alloc, inputs, out),
             _ => streams::answer(alloc, call, inputs, out),

@@ -6,7 +6,7 @@ use crate::told::put_request;
 use flash_base::NoMemory;
 use std::alloc::Global;
 use test_rows::{bytes_of_digits, number};
-use uds_codec::{Request, UdsFault, decode, encode, grammar};
+use uds_codec::{Request, UdsFault, decode, encode, written_again};
 
 /// A refusal in words.
 pub fn put_fault(out: &mut String, fault: &UdsFault) -> Result<(), NoMemory> {
@@ -23,13 +23,13 @@ pub fn put_fault(out: &mut String, fault: &UdsFault) -> Result<(), NoMemory> {
 fn is_written(alloc: Global, request: &Request, bytes: &[u8]) -> Result<bool, NoMemory>
     requires { request_of bytes.now ≡ Some request.now }
 {
-    grammar();
+    written_again();
     let written = encode(alloc, request)?;
     Ok(written.as_slice() == bytes)
 }
 
 /// The request, and whether it is written otherwise; or the refusal.
-fn put_read(alloc: Global, bytes: &[u8], out: &mut String) -> Result<(), NoMemory> {
+pub fn put_read(alloc: Global, bytes: &[u8], out: &mut String) -> Result<(), NoMemory> {
     match decode(alloc, bytes) {
         Ok(request) => {
             put_request(out, &request)?;
@@ -65,31 +65,6 @@ fn put_beginnings(alloc: Global, bytes: &[u8], out: &mut String) -> Result<(), N
 pub fn answer_beginnings(alloc: Global, digits: &str, out: &mut String) -> Result<(), NoMemory> {
     let bytes = bytes_of_digits(alloc, digits)?;
     put_beginnings(alloc, bytes.as_slice(), out)
-}
-
-fn is_unknown(alloc: Global, bytes: &[u8], first: u8) -> bool {
-    match decode(alloc, bytes) {
-        Err(UdsFault::UnknownSid { sid }) => sid == first,
-        _ => false,
-    }
-}
-
-fn put_first(alloc: Global, first: u8, out: &mut String) -> Result<(), NoMemory> {
-    let garbage = [first, 0xee, 0xee, 0xee];
-    if is_unknown(alloc, &garbage, first) {
-        return Ok(());
-    }
-    write!(out, "{first:02x} ")?;
-    put_read(alloc, &garbage, out)?;
-    Ok(out.push_str("; ")?)
-}
-
-/// What three bytes EE are read as after each first byte that is not refused as none of a service.
-pub fn answer_first_bytes(alloc: Global, out: &mut String) -> Result<(), NoMemory> {
-    for first in 0..256u32 {
-        put_first(alloc, first as u8, out)?;
-    }
-    Ok(())
 }
 
 /// The bytes of a block with the counter FF and as many bytes in all.

@@ -1,10 +1,10 @@
 //! What the order `o.json` of a shelf is built to. The inputs are the numbers of the reads that fail, and the files.
 use crate::causes::put_cause;
-use crate::files::{files_of, numbers};
+use crate::files::shelf_of;
 use ecu_mem::Ident;
 use flash_base::NoMemory;
 use flash_plan::UnitPlan;
-use flash_shelf::{MemoryShelf, ShelfFault};
+use flash_shelf::ShelfFault;
 use plan_build::{BuildFault, Built, build};
 use std::alloc::Global;
 use std::thread::Threads;
@@ -91,12 +91,6 @@ fn put_built(out: &mut String, built: &Built) -> Result<(), NoMemory> {
     Ok(())
 }
 
-fn shelf_of(alloc: Global, failing: &str, parts: &str) -> Result<MemoryShelf, NoMemory> {
-    let files = files_of(alloc, parts)?;
-    let failing = numbers(alloc, failing)?;
-    MemoryShelf::new(alloc, &files, failing.as_slice())
-}
-
 pub fn answer<R: Threads + Sync>(
     rt: &R,
     alloc: Global,
@@ -104,7 +98,7 @@ pub fn answer<R: Threads + Sync>(
     out: &mut String,
 ) -> Result<(), NoMemory> {
     let (failing, parts) = first(inputs);
-    let mut shelf = shelf_of(alloc, failing, parts)?;
+    let mut shelf = shelf_of(alloc, parts, failing)?;
     match build(rt, alloc, &mut shelf, "o.json") {
         Ok(built) => put_built(out, &built),
         Err(fault) => put_fault(out, &fault),

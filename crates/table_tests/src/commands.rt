@@ -1,7 +1,7 @@
 //! What a command prints, after its status as a word. The inputs of a command are its words with single blanks between
 //! them, the numbers of the reads and of the writes that fail, and the files. Those of `status one.json` are the numbers
 //! of the disk's calls that fail, the journal file in hexadecimal digits, and the files.
-use crate::files::{files_of, numbers};
+use crate::files::{numbers, shelf_of};
 use flash_base::NoMemory;
 use flash_shelf::{MemoryShelf, MemorySink};
 use mem_disk::MemDisk;
@@ -30,12 +30,6 @@ fn words_of(alloc: Global, text: &str) -> Result<Vec<String>, NoMemory> {
         words.push(String::from_str(alloc, word)?)?;
     }
     Ok(words)
-}
-
-fn shelf_of(alloc: Global, parts: &str, failing: &str) -> Result<MemoryShelf, NoMemory> {
-    let files = files_of(alloc, parts)?;
-    let failing = numbers(alloc, failing)?;
-    MemoryShelf::new(alloc, &files, failing.as_slice())
 }
 
 fn sink_of(alloc: Global, failing: &str) -> Result<MemorySink, NoMemory> {

@@ -1,5 +1,6 @@
 //! Files of a row: parts `NAME=TEXT`, of which the first with a name stands. `zeros COUNT` is a text of so many zero bytes.
 use flash_base::{Bytes, Files, NoMemory, Text};
+use flash_shelf::MemoryShelf;
 use std::alloc::Global;
 use test_rows::number;
 
@@ -20,7 +21,7 @@ pub fn put(alloc: Global, files: &mut Files, name: &str, text: &str) -> Result<(
 }
 
 /// The files of the parts.
-pub fn files_of(alloc: Global, parts: &str) -> Result<Files, NoMemory> {
+fn files_of(alloc: Global, parts: &str) -> Result<Files, NoMemory> {
     let mut files = Files::new(alloc);
     for part in parts.split('\t') {
         if let Some((name, text)) = part.split_once('=') {
@@ -42,4 +43,11 @@ pub fn numbers(alloc: Global, text: &str) -> Result<Vec<u64>, NoMemory> {
         list.push(number(part))?;
     }
     Ok(list)
+}
+
+/// A shelf with the files of the parts, of which the reads with these numbers fail.
+pub fn shelf_of(alloc: Global, parts: &str, failing: &str) -> Result<MemoryShelf, NoMemory> {
+    let files = files_of(alloc, parts)?;
+    let failing = numbers(alloc, failing)?;
+    MemoryShelf::new(alloc, &files, failing.as_slice())
 }

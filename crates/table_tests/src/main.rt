@@ -39,7 +39,7 @@ impl<'a, R: Threads + Sync> Calls for Tables<'a, R> {
             "members" => orders::answer_members(alloc, inputs, out),
             "image" => images::answer(alloc, inputs, out),
             "build" => builds::answer(self.rt, alloc, inputs, out),
-            "report" => reports::answer(alloc, inputs, out),
+            "report" => reports::answer(self.rt, alloc, inputs, out),
             "command" => commands::answer(self.rt, alloc, inputs, out),
             "status" => commands::answer_status(self.rt, alloc, inputs, out),
             _ => Ok(out.push_str("no such call")?),

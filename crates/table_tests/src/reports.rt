@@ -1,39 +1,13 @@
-//! What a report says of an outcome. The input is the outcome: its name and its numbers in hexadecimal digits.
-use flash_base::{Bytes, Items, KeyRule, Names, NoMemory, Text, Width};
-use flash_plan::{Draft, Outcome, Plan, Segment, accept};
+//! What a report says of an outcome of the plan of one unit. The inputs are the outcome, its name and its numbers in
+//! hexadecimal digits, and the files of `o.json`.
+use crate::files::shelf_of;
+use flash_base::{Items, NoMemory};
+use flash_plan::{Outcome, Plan};
+use plan_build::build;
 use run_report::report;
 use std::alloc::Global;
-use test_rows::put_bytes;
-
-fn segments(alloc: Global) -> Result<Items<Segment>, NoMemory> {
-    let body = Bytes::from_slice(alloc, b"abc")?;
-    let mut segments = Items::new(alloc);
-    segments.push(Segment { at: 0x1000, body })?;
-    Ok(segments)
-}
-
-fn drafts(alloc: Global) -> Result<Items<Draft>, NoMemory> {
-    let segments = segments(alloc)?;
-    let name = Text::from_str(alloc, "A")?;
-    let mut drafts = Items::new(alloc);
-    drafts.push(Draft {
-        name,
-        address: 0x1001,
-        width: Width { size: 4, at: 4 },
-        check: 0x0202,
-        key: KeyRule::Free,
-        idents: Items::new(alloc),
-        after: Names::new(alloc),
-        segments,
-    })?;
-    Ok(drafts)
-}
-
-/// The plan of unit 1001 with the three bytes `abc` at 1000.
-fn smallest(alloc: Global) -> Result<Option<Plan>, NoMemory> {
-    let drafts = drafts(alloc)?;
-    Ok(accept(alloc, drafts).ok())
-}
+use std::thread::Threads;
+use test_rows::{first, put_bytes};
 
 /// A number in hexadecimal digits; 0 for each other text.
 fn hex(text: &str) -> u16 {
@@ -102,11 +76,27 @@ fn put_report(
     put_bytes(out, text.as_slice())
 }
 
-pub fn answer(alloc: Global, input: &str, out: &mut String) -> Result<(), NoMemory> {
-    let Some(plan) = smallest(alloc)? else {
-        return Ok(out.push_str("no plan")?);
-    };
+fn put_outcome(
+    alloc: Global,
+    plan: &Plan,
+    outcome: Outcome,
+    out: &mut String,
+) -> Result<(), NoMemory> {
     let mut outcomes = Items::new(alloc);
-    outcomes.push(outcome(input))?;
-    put_report(alloc, &plan, &outcomes, out)
+    outcomes.push(outcome)?;
+    put_report(alloc, plan, &outcomes, out)
+}
+
+pub fn answer<R: Threads + Sync>(
+    rt: &R,
+    alloc: Global,
+    inputs: &str,
+    out: &mut String,
+) -> Result<(), NoMemory> {
+    let (words, parts) = first(inputs);
+    let mut shelf = shelf_of(alloc, parts, "-")?;
+    match build(rt, alloc, &mut shelf, "o.json") {
+        Ok(built) => put_outcome(alloc, &built.plan, outcome(words), out),
+        Err(_) => Ok(out.push_str("no plan")?),
+    }
 }
