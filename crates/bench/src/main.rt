@@ -15,6 +15,13 @@ mod turn;
 
 use std::{env, io};
 
+/// Prints the microseconds of something, those of its peer, and the ratio of the two.
+fn print_beside<R: Print>(rt: &R, took: u128, peer: &str, peer_took: u128) -> io::Result<()> {
+    let hundredths = took.saturating_mul(100) / peer_took.max(1);
+    let (whole, part) = (hundredths / 100, hundredths % 100);
+    println!(rt; "  {took} us, {peer} {peer_took} us, ratio {whole}.{part:02}")
+}
+
 /// Each part without threads in its short form.
 fn all(rt: &HostRuntime) -> io::Result<()> {
     deframe::run(rt, false)?;

@@ -1,6 +1,6 @@
 //! One frame. The input is its bytes.
-ghost use Rattle.std.specs.Prelude.{IsTrue};
-ghost use Rattle.doip_frame.specs.Form.{IsFrame};
+ghost use Rattle.std.specs.Prelude.{◌≡◌, IsTrue};
+ghost use Rattle.doip_frame.specs.Form.{IsFrame, is_known};
 
 use crate::streams::put_refusal;
 use crate::told::put_frame;
@@ -9,8 +9,18 @@ use flash_base::NoMemory;
 use std::alloc::Global;
 use test_rows::bytes_of_digits;
 
-fn is_known(kind: u16) -> bool {
-    matches!(kind, 0 | 5 | 6 | 7 | 8 | 0x8001 | 0x8002 | 0x8003)
+/// Whether a kind is one of the table.
+fn is_listed(kind: u16) -> bool
+    ensures { result ≡ is_known kind }
+{
+    kind == 0
+        || kind == 5
+        || kind == 6
+        || kind == 7
+        || kind == 8
+        || kind == 0x8001
+        || kind == 0x8002
+        || kind == 0x8003
 }
 
 /// Whether a frame has bytes.
@@ -21,7 +31,7 @@ fn is_frame(frame: &Frame) -> bool
         Frame::Message { body, .. } => 1 <= body.len() && body.len() <= 65_596,
         Frame::Ack { old, .. } => old.len() <= 65_595,
         Frame::Nack { old, .. } => old.len() <= 65_595,
-        Frame::Other { kind, payload } => !is_known(*kind) && payload.len() <= 65_600,
+        Frame::Other { kind, payload } => !is_listed(*kind) && payload.len() <= 65_600,
         _ => true,
     }
 }

@@ -1,6 +1,6 @@
 //! What bytes are read as. The input is the bytes.
 ghost use Rattle.std.specs.Prelude.{◌≡◌, ◌≤◌, Some};
-ghost use Rattle.uds_codec.specs.Grammar.{request_of};
+ghost use Rattle.uds_codec.specs.Request.{request_of};
 
 use crate::told::put_request;
 use flash_base::NoMemory;
