@@ -1,5 +1,5 @@
 //! One frame. The input is its bytes.
-ghost use Rattle.std.specs.Prelude.{◌≡◌, IsTrue};
+ghost use Rattle.std.specs.Prelude.{◌≡◌, ◌≤◌, IsTrue, false};
 ghost use Rattle.doip_frame.specs.Form.{IsFrame, is_known};
 
 use crate::streams::put_refusal;
@@ -23,6 +23,17 @@ fn is_listed(kind: u16) -> bool
         || kind == 0x8003
 }
 
+/// Whether a frame of a kind outside the table has so many bytes.
+fn is_other(kind: u16, size: usize) -> bool
+    ensures form { IsTrue result → is_known kind ≡ false }
+    ensures few { IsTrue result → size ≤ 65600 }
+{
+    if is_listed(kind) {
+        return false;
+    }
+    size <= 65_600
+}
+
 /// Whether a frame has bytes.
 fn is_frame(frame: &Frame) -> bool
     ensures { IsTrue result → IsFrame frame.now }
@@ -31,7 +42,7 @@ fn is_frame(frame: &Frame) -> bool
         Frame::Message { body, .. } => 1 <= body.len() && body.len() <= 65_596,
         Frame::Ack { old, .. } => old.len() <= 65_595,
         Frame::Nack { old, .. } => old.len() <= 65_595,
-        Frame::Other { kind, payload } => !is_listed(*kind) && payload.len() <= 65_600,
+        Frame::Other { kind, payload } => is_other(*kind, payload.len()),
         _ => true,
     }
 }

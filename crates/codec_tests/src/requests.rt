@@ -23,6 +23,10 @@ pub fn put_fault(out: &mut String, fault: &UdsFault) -> Result<(), NoMemory> {
 fn is_written(alloc: Global, request: &Request, bytes: &[u8]) -> Result<bool, NoMemory>
     requires { request_of bytes.now ≡ Some request.now }
 {
+    if bytes.is_empty() {
+        return Ok(false);
+    }
+    let _first = bytes[0];
     written_again();
     let written = encode(alloc, request)?;
     Ok(written.as_slice() == bytes)

@@ -1,7 +1,8 @@
-//! What a command prints, after its status as a word. The inputs of a command are its words with single blanks between
-//! them, the numbers of the reads and of the writes that fail, and the files. Those of `status one.json` are the numbers
+//! What a command prints, after its status as a word. The inputs of a command are its words with a bar before each, the
+//! numbers of the reads and of the writes that fail, and the files. Those of `status one.json` are the numbers
 //! of the disk's calls that fail, the journal file in hexadecimal digits, and the files.
 use crate::files::{numbers, shelf_of};
+use crate::words::words_of;
 use flash_base::NoMemory;
 use flash_shelf::{MemoryShelf, MemorySink};
 use mem_disk::MemDisk;
@@ -22,14 +23,6 @@ fn status_word(status: Status) -> &'static str {
         Status::Sink => "sink ",
         Status::NoMemory => "no memory ",
     }
-}
-
-fn words_of(alloc: Global, text: &str) -> Result<Vec<String>, NoMemory> {
-    let mut words = Vec::new(alloc);
-    for word in text.split(' ') {
-        words.push(String::from_str(alloc, word)?)?;
-    }
-    Ok(words)
 }
 
 fn sink_of(alloc: Global, failing: &str) -> Result<MemorySink, NoMemory> {

@@ -1,4 +1,4 @@
-//! Tables of catalogues, orders, images, plans and commands: a line for each row, and what differs.
+//! Tables of words, catalogues, orders, images, plans and commands: a line for each row, and what differs.
 //!
 //! The form of a table is that of `test_rows`; the module of each call says what its inputs are.
 #![tactic(auto)]
@@ -11,6 +11,7 @@ mod files;
 mod images;
 mod orders;
 mod reports;
+mod words;
 
 use flash_base::NoMemory;
 use std::alloc::Global;
@@ -35,6 +36,7 @@ impl<'a, R: Threads + Sync> Calls for Tables<'a, R> {
         match call {
             "catalogue" => catalogues::answer(alloc, inputs, out),
             "parts" => catalogues::answer_parts(alloc, inputs, out),
+            "words" => words::answer(alloc, inputs, out),
             "order" => orders::answer(alloc, inputs, out),
             "members" => orders::answer_members(alloc, inputs, out),
             "image" => images::answer(alloc, inputs, out),
@@ -47,7 +49,14 @@ impl<'a, R: Threads + Sync> Calls for Tables<'a, R> {
     }
 }
 
-const NAMES: &[&str] = &["catalogues", "orders", "images", "plans", "commands"];
+const NAMES: &[&str] = &[
+    "words",
+    "catalogues",
+    "orders",
+    "images",
+    "plans",
+    "commands",
+];
 
 fn main(rt: HostRuntime) -> io::Result<()> {
     show_tables(&rt, &Tables { rt: &rt }, NAMES)
