@@ -13,6 +13,8 @@ mod orders;
 mod reports;
 mod words;
 
+ghost use Rattle.std.specs.Thread.{IsSync};
+
 use flash_base::NoMemory;
 use std::alloc::Global;
 use std::io;
@@ -23,6 +25,7 @@ use test_rows::{Calls, show_tables};
 #[derive(Drop)]
 struct Tables<'a, R> {
     rt: &'a R,
+    ghost sync: { IsSync R.row },
 }
 
 impl<'a, R: Threads + Sync> Calls for Tables<'a, R> {
