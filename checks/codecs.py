@@ -1,6 +1,6 @@
-"""Other programs on the bytes that `bench codecs` prints (crates/bench/stdout, which the gate compares with the program).
+"""Other programs on the requests, answers and frames of a table that the gate compares with our codecs, row by row.
 
-tshark dissects the bytes, as TCP segments of a pcap file, and has to find the parts that the line says. scapy's automotive
+tshark dissects the bytes, as TCP segments of a pcap file, and has to find the parts that the row says. scapy's automotive
 layers build the message from the parts and have to come to the bytes, and take the bytes apart again. Each of the two is
 skipped where it is missing. The status is 1 where one of them says anything else.
 """
@@ -12,14 +12,16 @@ import subprocess
 import sys
 import tempfile
 
-DUMP = os.path.join(os.path.dirname(os.path.abspath(__file__)), "..", "crates", "bench", "stdout")
+TABLE = os.path.join(os.path.dirname(os.path.abspath(__file__)), "..", "crates", "codec_tests", "data", "asked")
 TESTER, UNIT = 0x0E80, 0x1001
 
 
 class Line:
-    """A line of the dump: what it is of, which kind, its parts, and its bytes."""
+    """A row of the table: what it is of, which kind, its parts, and its bytes."""
 
-    def __init__(self, text):
+    def __init__(self, row):
+        _, _, call, wanted, digits = row.split("\t")
+        text = f"{call} {wanted} bytes={digits}"
         self.text = text if len(text) < 100 else text[:97] + ".."
         self.sort, self.kind, *parts = text.split(" ")
         self.parts = dict(part.split("=", 1) for part in parts)
@@ -40,10 +42,9 @@ class Line:
         return None if oem == "none" else int(oem)
 
 
-def dump():
-    with open(DUMP, encoding="ascii") as file:
-        lines = file.read().splitlines()
-    return [Line(text) for text in lines if text.split(" ")[0] in ("request", "answer", "frame")]
+def table():
+    with open(TABLE, encoding="ascii") as file:
+        return [Line(row) for row in file.read().splitlines() if row.startswith("row\t")]
 
 
 # ------ pcap files, by the libpcap file format
@@ -338,7 +339,7 @@ def layers_of_frame(line):
     if kind == "alive_say":
         return DoIP(payload_type=8, source_address=line.number("source"), **head)
     if kind == "other":
-        # The dump's one other frame is an entity status response.
+        # The table's one other frame is an entity status response.
         node, most, now, size = struct.unpack("!BBBI", line.octets("payload"))
         status = {"node_type": node, "max_open_sockets": most, "cur_open_sockets": now, "max_data_size": size}
         return DoIP(payload_type=line.number("kind"), **status, **head)
@@ -373,7 +374,7 @@ def ask_scapy(lines):
 
 
 def main():
-    lines = dump()
+    lines = table()
     counts = ", ".join(f"{sum(line.sort == sort for line in lines)} {sort}s" for sort in ("request", "answer", "frame"))
     faults = []
     if shutil.which("tshark"):

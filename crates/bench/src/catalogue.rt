@@ -98,24 +98,33 @@ fn push_flash(text: &mut Bytes, n: u32, pairs: u32) -> Result<(), NoMemory> {
 
 /// A catalogue with so many sessions, datablocks and flash data, each of these with so many pairs
 /// of digits inside.
-fn catalogue(alloc: Global, sessions: u32, flashes: u32, pairs: u32) -> Result<Bytes, NoMemory> {
-    let mut text = Bytes::new(alloc);
+fn push_catalogue(
+    text: &mut Bytes,
+    sessions: u32,
+    flashes: u32,
+    pairs: u32,
+) -> Result<(), NoMemory> {
     push_text(
-        &mut text,
+        text,
         "{\"tag\":\"ECU-MEM\",\"kids\":[{\"tag\":\"MEM\",\"kids\":[{\"tag\":\"SESSIONS\",\"kids\":[",
     )?;
     for n in 0..sessions {
-        push_session(&mut text, n)?;
+        push_session(text, n)?;
     }
-    push_text(&mut text, "]},{\"tag\":\"DATABLOCKS\",\"kids\":[")?;
+    push_text(text, "]},{\"tag\":\"DATABLOCKS\",\"kids\":[")?;
     for n in 0..sessions {
-        push_block(&mut text, n)?;
+        push_block(text, n)?;
     }
-    push_text(&mut text, "]},{\"tag\":\"FLASHDATAS\",\"kids\":[")?;
+    push_text(text, "]},{\"tag\":\"FLASHDATAS\",\"kids\":[")?;
     for n in 0..flashes {
-        push_flash(&mut text, n, pairs)?;
+        push_flash(text, n, pairs)?;
     }
-    push_text(&mut text, "]}]}]}")?;
+    push_text(text, "]}]}]}")
+}
+
+fn catalogue(alloc: Global, sessions: u32, flashes: u32, pairs: u32) -> Result<Bytes, NoMemory> {
+    let mut text = Bytes::new(alloc);
+    push_catalogue(&mut text, sessions, flashes, pairs)?;
     Ok(text)
 }
 

@@ -3,6 +3,7 @@
 
 ghost use Rattle.std.specs.Prelude.{◌<◌};
 
+use crate::print_beside;
 use doip_frame::Deframer;
 use std::alloc::{AllocError, Global};
 use std::io;
@@ -62,44 +63,52 @@ fn copy_into(copy: &mut Vec<u8>, stream: &[u8], piece: usize) -> Result<(), Allo
     Ok(())
 }
 
-/// Prints how many frames come of the stream, and where `is_timed` how long that took beside a copy into memory that is there.
+/// Prints how many frames come of the stream, and where `is_timed` how long that took beside a copy into memory that is
+/// there, of which a list has had as much.
 fn measure<R: Print + Clock + Alloc<A = Global>>(
     rt: &R,
     stream: &[u8],
     piece: usize,
+    copy: &mut Vec<u8>,
     is_timed: bool,
 ) -> io::Result<()>
     requires { 0 < piece }
 {
-    let alloc = rt.alloc();
-    let mut copy = Vec::with_capacity(alloc, stream.len())?;
-    copy_into(&mut copy, stream, piece)?;
     let start = Instant::now(rt)?;
-    let got = deframed(alloc, stream, piece);
+    let got = deframed(rt.alloc(), stream, piece);
     let frames_time = start.elapsed(rt)?.as_micros();
     let start = Instant::now(rt)?;
-    copy_into(&mut copy, stream, piece)?;
+    copy_into(copy, stream, piece)?;
     let copy_time = start.elapsed(rt)?.as_micros();
     let length = copy.len();
     println!(rt; "in pieces of {piece}: {got} frames of {length} bytes")?;
     if is_timed {
-        let hundredths = frames_time.saturating_mul(100) / copy_time.max(1);
-        let (whole, part) = (hundredths / 100, hundredths % 100);
-        println!(rt; "  {frames_time} us, a copy {copy_time} us, ratio {whole}.{part:02}")?;
+        print_beside(rt, frames_time, "a copy", copy_time)?;
+    }
+    Ok(())
+}
+
+/// The stream in pieces of three sizes.
+fn measure_all<R: Print + Clock + Alloc<A = Global>>(
+    rt: &R,
+    stream: &[u8],
+    is_timed: bool,
+) -> io::Result<()> {
+    let mut copy = Vec::with_capacity(rt.alloc(), stream.len())?;
+    copy_into(&mut copy, stream, 65_536)?;
+    for piece in [1448usize, 4096, 65_536] {
+        measure(rt, stream, piece, &mut copy, is_timed)?;
     }
     Ok(())
 }
 
 /// Deframes streams of three payload sizes.
 pub fn run<R: Print + Clock + Alloc<A = Global>>(rt: &R, is_timed: bool) -> io::Result<()> {
-    let alloc = rt.alloc();
     let frames = if is_timed { 1000usize } else { 20 };
     for size in [65_600u32, 4097, 5] {
-        let bytes = stream(alloc, frames, size)?;
         println!(rt; "payload {size}")?;
-        for piece in [1448usize, 4096, 65_536] {
-            measure(rt, bytes.as_slice(), piece, is_timed)?;
-        }
+        let bytes = stream(rt.alloc(), frames, size)?;
+        measure_all(rt, bytes.as_slice(), is_timed)?;
     }
     Ok(())
 }

@@ -1,15 +1,13 @@
-//! Measures beside other programs, and what other programs are asked about.
+//! Measures beside other programs.
 //!
 //! `bench` runs each part in a short form and prints what came of it, which is the same in every run. `bench PART WORD ..`
 //! runs one part:
 //!
-//! - `codecs` prints requests, answers and frames with their bytes;
 //! - `turn`, `deframe` and `replay` print their counts, and with the word `time` the times beside those of a peer;
 //! - `catalogue` and `records` have the words `time` and `make`, and read files (see there).
 #![tactic(auto)]
 
 mod catalogue;
-mod codecs;
 mod deframe;
 mod records;
 mod replay;
@@ -17,9 +15,15 @@ mod turn;
 
 use std::{env, io};
 
+/// Prints the microseconds of something, those of its peer, and the ratio of the two.
+fn print_beside<R: Print>(rt: &R, took: u128, peer: &str, peer_took: u128) -> io::Result<()> {
+    let hundredths = took.saturating_mul(100) / peer_took.max(1);
+    let (whole, part) = (hundredths / 100, hundredths % 100);
+    println!(rt; "  {took} us, {peer} {peer_took} us, ratio {whole}.{part:02}")
+}
+
 /// Each part without threads in its short form.
 fn all(rt: &HostRuntime) -> io::Result<()> {
-    codecs::run(rt)?;
     deframe::run(rt, false)?;
     replay::run(rt, false)?;
     catalogue::read_small(rt)?;
@@ -29,7 +33,6 @@ fn all(rt: &HostRuntime) -> io::Result<()> {
 /// One part without threads, with what follows it.
 fn part(rt: &HostRuntime, name: &str, word: &str, path: &str) -> io::Result<()> {
     match name {
-        "codecs" => codecs::run(rt),
         "deframe" => deframe::run(rt, word == "time"),
         "replay" => replay::run(rt, word == "time"),
         "catalogue" => catalogue::run(rt, word, path),

@@ -110,18 +110,20 @@ fn make(rt: &HostRuntime) -> io::Result<()> {
     Ok(())
 }
 
+fn print_size(rt: &HostRuntime, format: &str, order: Order, text: &[u8]) -> io::Result<()> {
+    let name = order.name();
+    let size = size_read(rt.alloc(), text);
+    println!(rt; "{format} {name}: {size} bytes")
+}
+
 /// Reads small texts in each order, and prints what was read.
 pub fn read_small(rt: &HostRuntime) -> io::Result<()> {
-    let alloc = rt.alloc();
     for order in Order::ALL {
-        let name = order.name();
-        if let Ok(text) = hex_text(alloc, 4096, order) {
-            let size = size_read(alloc, text.as_slice());
-            println!(rt; "Intel HEX {name}: {size} bytes")?;
+        if let Ok(text) = hex_text(rt.alloc(), 4096, order) {
+            print_size(rt, "Intel HEX", order, text.as_slice())?;
         }
-        if let Ok(text) = srec_text(alloc, 4096, 16, order) {
-            let size = size_read(alloc, text.as_slice());
-            println!(rt; "S-records {name}: {size} bytes")?;
+        if let Ok(text) = srec_text(rt.alloc(), 4096, 16, order) {
+            print_size(rt, "S-records", order, text.as_slice())?;
         }
     }
     Ok(())

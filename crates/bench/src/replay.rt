@@ -1,6 +1,7 @@
 //! Replays the log of a long run of one unit, and prints what came of it. With times it also prints the time,
 //! beside that of cutting the same received pieces into frames alone, and the ratio of the two.
 
+use crate::print_beside;
 use bay_core::{Event, Events, Heard, Tend};
 use bay_replay::{ReplayFault, replay};
 use doip_frame::Deframer;
@@ -89,26 +90,31 @@ fn opening(alloc: Global, log: &mut Events) -> Result<(), NoMemory> {
     exchange(alloc, log, 2, b"\x74\x10\x03")
 }
 
-/// The log of a run with so many blocks: 21 events, and two for each block.
-fn log_of(alloc: Global, blocks: u32) -> Result<Events, NoMemory> {
-    let mut log = Items::new(alloc);
-    opening(alloc, &mut log)?;
+/// The events from the first block on.
+fn blocks_and_end(alloc: Global, log: &mut Events, blocks: u32) -> Result<(), NoMemory> {
     let mut place = 3u32;
     let mut counter = 1u8;
     for _ in 0..blocks {
-        exchange(alloc, &mut log, place, &[0x76, counter])?;
+        exchange(alloc, log, place, &[0x76, counter])?;
         place = place.wrapping_add(1);
         counter = counter.wrapping_add(1);
     }
     let checked = [b"\x77".as_slice(), b"\x71\x01\x02\x02\x00"];
-    exchanges(alloc, &mut log, place, &checked)?;
+    exchanges(alloc, log, place, &checked)?;
     log.push(Event::Marked {
         unit: 0,
         segment: 0,
     })?;
     let finished = [b"\x71\x01\xFF\x01\x00".as_slice(), b"\x51\x01"];
-    exchanges(alloc, &mut log, place.wrapping_add(2), &finished)?;
-    log.push(Event::Completed { unit: 0 })?;
+    exchanges(alloc, log, place.wrapping_add(2), &finished)?;
+    log.push(Event::Completed { unit: 0 })
+}
+
+/// The log of a run with so many blocks: 21 events, and two for each block.
+fn log_of(alloc: Global, blocks: u32) -> Result<Events, NoMemory> {
+    let mut log = Items::new(alloc);
+    opening(alloc, &mut log)?;
+    blocks_and_end(alloc, &mut log, blocks)?;
     Ok(log)
 }
 
@@ -150,6 +156,28 @@ fn answered(alloc: Global, plan: &Plan, log: &Events) -> &'static str {
     }
 }
 
+/// Replays a log, and prints what came of it.
+fn measure_log<R: Print + Clock + Alloc<A = Global>>(
+    rt: &R,
+    plan: &Plan,
+    log: &Events,
+    is_timed: bool,
+) -> io::Result<()> {
+    let alloc = rt.alloc();
+    let start = Instant::now(rt)?;
+    let said = answered(alloc, plan, log);
+    let replay_time = start.elapsed(rt)?.as_micros();
+    let start = Instant::now(rt)?;
+    let frames = cut(alloc, log);
+    let cut_time = start.elapsed(rt)?.as_micros();
+    let events = log.len();
+    println!(rt; "{events} events, {frames} frames: {said}")?;
+    if is_timed {
+        print_beside(rt, replay_time, "frames alone", cut_time)?;
+    }
+    Ok(())
+}
+
 /// Replays a run of so many blocks.
 fn measure<R: Print + Clock + Alloc<A = Global>>(
     rt: &R,
@@ -157,24 +185,10 @@ fn measure<R: Print + Clock + Alloc<A = Global>>(
     is_timed: bool,
 ) -> io::Result<()> {
     let alloc = rt.alloc();
-    let (Ok(plan), Ok(log)) = (plan_of(alloc, blocks), log_of(alloc, blocks)) else {
-        println!(rt; "no memory")?;
-        return Ok(());
-    };
-    let start = Instant::now(rt)?;
-    let said = answered(alloc, &plan, &log);
-    let replay_time = start.elapsed(rt)?.as_micros();
-    let start = Instant::now(rt)?;
-    let frames = cut(alloc, &log);
-    let cut_time = start.elapsed(rt)?.as_micros();
-    let events = log.len();
-    println!(rt; "{events} events, {frames} frames: {said}")?;
-    if is_timed {
-        let hundredths = replay_time.saturating_mul(100) / cut_time.max(1);
-        let (whole, part) = (hundredths / 100, hundredths % 100);
-        println!(rt; "  {replay_time} us, frames alone {cut_time} us, ratio {whole}.{part:02}")?;
+    match (plan_of(alloc, blocks), log_of(alloc, blocks)) {
+        (Ok(plan), Ok(log)) => measure_log(rt, &plan, &log, is_timed),
+        _ => println!(rt; "no memory"),
     }
-    Ok(())
 }
 
 /// Replays runs of three lengths.

@@ -1,214 +1,191 @@
+//! What bytes by address are asked. The inputs are what is put, as `AT:DIGITS` with single blanks between them, and the
+//! question: a word and its numbers.
 ghost use Rattle.std.specs.Prelude.{◌+◌, ◌≤◌};
 ghost use Rattle.span_store.specs.ByteMap.{top};
 
-use span_store::{PutFault, Spans, TOP};
+use flash_base::NoMemory;
+use span_store::{PutFault, Spans, TOP, Walk};
 use std::alloc::Global;
+use test_rows::{bytes_of_digits, first, put_digits};
 
-/// Starts and sizes of bytes that are put, and the maximal runs that they leave.
-const RUNS: &[(&[(u64, usize)], &[(u64, u64)])] = &[
-    (&[(16, 4), (20, 4)], &[(16, 8)]),
-    (&[(20, 4), (16, 4)], &[(16, 8)]),
-    (&[(16, 8), (18, 0), (16, 2)], &[(16, 8)]),
-    (&[(16, 1), (20, 1), (18, 1), (16, 8)], &[(16, 8)]),
-    (&[(16, 8), (18, 2), (20, 8)], &[(16, 12)]),
-    (&[(24, 4), (16, 4), (32, 1), (18, 8)], &[(16, 12), (32, 1)]),
-    (&[(0, 1), (TOP - 1, 1)], &[(0, 1), (TOP - 1, 1)]),
-    (&[(0, 0)], &[]),
-];
-
-/// Puts at most eight bytes that depend on their address alone.
-fn put_same(spans: &mut Spans, at: u64, size: usize) -> bool {
-    let mut same = [0u8; 8];
-    for (i, b) in same.iter_mut().enumerate() {
-        *b = (at % 128) as u8 + i as u8 % 8;
-    }
-    if size > 8 || at > TOP - size as u64 {
-        return false;
-    }
-    spans.put(at, &same[..size]).is_ok()
+fn number(text: &str) -> u64 {
+    u64::from_str_radix(text, 16).unwrap_or(0)
 }
 
-/// Whether these are the maximal runs, as a list and one by one.
-fn has_runs(alloc: Global, spans: &Spans, runs: &[(u64, u64)]) -> bool {
-    if spans.extents() != runs.len() as u64 {
-        return false;
+/// Puts bytes where they fit, and says of a conflict its address, the byte there and the other.
+fn put(spans: &mut Spans, at: u64, bytes: &[u8], out: &mut String) -> Result<(), NoMemory> {
+    if bytes.len() as u64 > TOP {
+        return Ok(());
     }
-    for (i, run) in runs.iter().enumerate() {
-        if (i as u64) < spans.extents() && spans.extent(i as u64) != *run {
-            return false;
+    if at > TOP - bytes.len() as u64 {
+        return Ok(());
+    }
+    match spans.put(at, bytes) {
+        Ok(()) => Ok(()),
+        Err(PutFault::Conflict { at, old, new }) => {
+            Ok(write!(out, "conflict {at:x} {old:02x} {new:02x}; ")?)
         }
-    }
-    match spans.runs(alloc) {
-        Ok(all) => all.as_slice() == runs,
-        Err(_) => false,
+        Err(PutFault::NoMemory) => Err(NoMemory),
     }
 }
 
-#[test]
-fn runs_after_puts(rt: HostRuntime) {
-    for (puts, runs) in RUNS {
-        let mut spans = Spans::new(rt.alloc());
-        for (at, size) in puts.iter() {
-            assert!(rt; put_same(&mut spans, *at, *size));
-        }
-        assert!(rt; has_runs(rt.alloc(), &spans, runs));
-    }
+fn put_part(
+    alloc: Global,
+    spans: &mut Spans,
+    part: &str,
+    out: &mut String,
+) -> Result<(), NoMemory> {
+    let (at, digits) = part.split_once(':').unwrap_or((part, ""));
+    let bytes = bytes_of_digits(alloc, digits)?;
+    put(spans, number(at), bytes.as_slice(), out)
 }
 
-/// The bytes 1, 2 and 3 at 1000, of which 2 was put twice.
-fn three_bytes(alloc: Global) -> Spans {
+/// What is left of these puts.
+pub fn spans_of(alloc: Global, puts: &str, out: &mut String) -> Result<Spans, NoMemory> {
     let mut spans = Spans::new(alloc);
-    let _first = spans.put(0x1000, &[1, 2]).is_ok();
-    let _second = spans.put(0x1001, &[2, 3]).is_ok();
-    spans
+    for part in puts.split(' ') {
+        put_part(alloc, &mut spans, part, out)?;
+    }
+    Ok(spans)
 }
 
-/// Bytes that touch are one extent.
-#[test]
-fn bytes_put_twice(rt: HostRuntime) {
-    let spans = three_bytes(rt.alloc());
-    assert!(rt; has_runs(rt.alloc(), &spans, &[(0x1000, 3)]));
-    assert!(rt; spans.get(0x1000) == Some(1));
-    assert!(rt; spans.get(0x1001) == Some(2));
-    assert!(rt; spans.get(0x1002) == Some(3));
+/// The pieces of a walk, with their bytes.
+fn put_walk(walk: Walk<'_>, out: &mut String) -> Result<(), NoMemory> {
+    let mut walk = walk;
+    for _ in 0..1000u32 {
+        let Some((at, bytes)) = walk.next() else {
+            break;
+        };
+        write!(out, "{at:x}:")?;
+        put_digits(out, bytes)?;
+        out.push(' ')?;
+    }
+    Ok(())
 }
 
-/// Another byte at an address that has one is refused, and the byte stays.
-#[test]
-fn conflict(rt: HostRuntime) {
-    let mut spans = three_bytes(rt.alloc());
-    let said = match spans.put(0x1002, &[4]) {
-        Err(PutFault::Conflict { at, old, new }) => Some((at, old, new)),
-        _ => None,
-    };
-    assert!(rt; said == Some((0x1002, 3, 4)));
-    assert!(rt; spans.get(0x1002) == Some(3));
+/// All pieces, with their bytes.
+pub fn put_pieces(spans: &Spans, out: &mut String) -> Result<(), NoMemory> {
+    put_walk(spans.pieces(), out)
 }
 
-#[test]
-fn holes(rt: HostRuntime) {
-    let spans = three_bytes(rt.alloc());
-    assert!(rt; spans.hole_in(0xFFF, 2) == Some(0xFFF));
-    assert!(rt; spans.hole_in(0x1000, 4) == Some(0x1003));
-    assert!(rt; spans.hole_in(0x1000, 3) == None);
+fn put_list(runs: &[(u64, u64)], out: &mut String) -> Result<(), NoMemory> {
+    for (at, size) in runs {
+        write!(out, "{at:x}+{size:x} ")?;
+    }
+    Ok(())
 }
 
-#[test]
-fn ranges(rt: HostRuntime) {
-    let spans = three_bytes(rt.alloc());
-    let mut out = [0u8; 3];
-    assert!(rt; spans.range(0x1000, &mut out) == None);
-    assert!(rt; out == [1, 2, 3]);
-    assert!(rt; spans.range(0x1001, &mut out) == Some(0x1003));
+/// The maximal runs, one by one and as a list.
+fn put_runs(alloc: Global, spans: &Spans, out: &mut String) -> Result<(), NoMemory> {
+    for i in 0..spans.extents() {
+        let (at, size) = spans.extent(i);
+        write!(out, "{at:x}+{size:x} ")?;
+    }
+    out.push_str("| ")?;
+    let runs = spans.runs(alloc)?;
+    put_list(runs.as_slice(), out)
 }
 
-#[test]
-fn cuts(rt: HostRuntime) {
-    let spans = three_bytes(rt.alloc());
-    let Ok(cut) = spans.cut(0x1001, 1) else {
-        panic!(rt; "no memory");
-    };
-    assert!(rt; has_runs(rt.alloc(), &cut, &[(0x1001, 1)]));
-    assert!(rt; cut.get(0x1001) == Some(2));
-    assert!(rt; spans.overlap(&cut) == Some(0x1001));
+fn put_place(place: Option<u64>, out: &mut String) -> Result<(), NoMemory> {
+    match place {
+        Some(at) => write!(out, "{at:x}")?,
+        None => out.push_str("none")?,
+    }
+    Ok(())
 }
 
-#[test]
-fn first_piece(rt: HostRuntime) {
-    let spans = three_bytes(rt.alloc());
-    match spans.piece(0) {
-        Some((at, bytes)) => assert!(rt; at == 0x1000 && bytes == [1, 2, 3].as_slice()),
-        None => panic!(rt; "no piece"),
+/// The bytes of a range of three, or its first address without one.
+fn put_three(spans: &Spans, from: u64, out: &mut String) -> Result<(), NoMemory> {
+    let mut bytes = [0u8; 3];
+    if from > TOP - 3 {
+        return Ok(out.push_str("too high")?);
+    }
+    match spans.range(from, &mut bytes) {
+        None => put_digits(out, &bytes),
+        hole => put_place(hole, out),
     }
 }
 
-/// Three runs, the last at the end of the addresses.
-fn three_runs(alloc: Global) -> Spans {
-    let mut spans = Spans::new(alloc);
-    for (at, bytes) in [
-        (0x1000, [1, 2]),
-        (0x1002, [3, 4]),
-        (0x1008, [7, 8]),
-        (TOP - 2, [9, 10]),
-    ] {
-        if at <= TOP - 2 && spans.put(at, &bytes).is_err() {
-            return Spans::new(alloc);
-        }
-    }
-    spans
-}
-
-/// Ranges, each with the starts and sizes of its pieces.
-const PIECES: &[(u64, u64, &[(u64, usize)])] = &[
-    (0, TOP, &[(0x1000, 4), (0x1008, 2), (TOP - 2, 2)]),
-    (0x1001, 8, &[(0x1001, 3), (0x1008, 1)]),
-    (0x1003, 1, &[(0x1003, 1)]),
-    (0x1004, 4, &[]),
-    (0x1000, 0, &[]),
-    (0x1009, TOP - 0x100A, &[(0x1009, 1), (TOP - 2, 1)]),
-    (TOP - 1, 1, &[(TOP - 1, 1)]),
-];
-
-/// Whether the pieces of a range are these, with the bytes that stand there.
-fn has_pieces(spans: &Spans, from: u64, size: u64, wanted: &[(u64, usize)]) -> bool
+/// The range cut out, and the lowest address that it shares with the whole.
+fn put_cut(spans: &Spans, from: u64, size: u64, out: &mut String) -> Result<(), NoMemory>
     requires { from + size ≤ top }
 {
-    let mut walk = spans.walk(from, size);
-    for (at, length) in wanted {
-        let Some((start, bytes)) = walk.next() else {
-            return false;
-        };
-        if start != *at || bytes.len() != *length || spans.get(start) != bytes.first().copied() {
-            return false;
+    let cut = spans.cut(from, size)?;
+    put_pieces(&cut, out)?;
+    put_place(spans.overlap(&cut), out)
+}
+
+/// What is asked of a range.
+fn put_of_range(
+    spans: &Spans,
+    word: &str,
+    from: u64,
+    size: u64,
+    out: &mut String,
+) -> Result<(), NoMemory> {
+    if from > TOP {
+        return Ok(out.push_str("too high")?);
+    }
+    if size > TOP - from {
+        return Ok(out.push_str("too large")?);
+    }
+    match word {
+        "hole" => put_place(spans.hole_in(from, size), out),
+        "cut" => put_cut(spans, from, size, out),
+        _ => put_walk(spans.walk(from, size), out),
+    }
+}
+
+/// Takes the range out where it is an extent, and puts what was taken and what is left.
+fn put_taken(spans: &mut Spans, from: u64, size: u64, out: &mut String) -> Result<(), NoMemory> {
+    match spans.take(from, size) {
+        Some(bytes) => put_digits(out, bytes.as_slice())?,
+        None => out.push_str("none")?,
+    }
+    out.push_str(" | ")?;
+    put_pieces(spans, out)
+}
+
+fn put_byte(byte: Option<u8>, out: &mut String) -> Result<(), NoMemory> {
+    match byte {
+        Some(byte) => write!(out, "{byte:02x}")?,
+        None => out.push_str("none")?,
+    }
+    Ok(())
+}
+
+fn put_piece(piece: Option<(u64, &[u8])>, out: &mut String) -> Result<(), NoMemory> {
+    match piece {
+        Some((at, bytes)) => {
+            write!(out, "{at:x}:")?;
+            put_digits(out, bytes)
         }
-    }
-    walk.next().is_none()
-}
-
-/// The pieces of a range, by start and size, are the runs of its cut.
-#[test]
-fn pieces_of_ranges(rt: HostRuntime) {
-    let spans = three_runs(rt.alloc());
-    for (from, size, wanted) in PIECES {
-        if *from <= TOP && *size <= TOP - *from {
-            assert!(rt;
-                has_pieces(&spans, *from, *size, wanted),
-                "{from:x} {size:x}"
-            );
-        }
+        None => Ok(out.push_str("none")?),
     }
 }
 
-#[test]
-fn all_pieces(rt: HostRuntime) {
-    let spans = three_runs(rt.alloc());
-    let mut pieces = spans.pieces();
-    for _ in 0..3 {
-        assert!(rt; pieces.next().is_some());
+fn put_answer(
+    alloc: Global,
+    spans: &mut Spans,
+    question: &str,
+    out: &mut String,
+) -> Result<(), NoMemory> {
+    let (word, rest) = question.split_once(' ').unwrap_or((question, ""));
+    let (from, size) = rest.split_once(' ').unwrap_or((rest, ""));
+    let (from, size) = (number(from), number(size));
+    match word {
+        "runs" => put_runs(alloc, spans, out),
+        "all" => put_pieces(spans, out),
+        "get" => put_byte(spans.get(from), out),
+        "piece" => put_piece(spans.piece(from), out),
+        "three" => put_three(spans, from, out),
+        "take" => put_taken(spans, from, size, out),
+        _ => put_of_range(spans, word, from, size, out),
     }
-    assert!(rt; pieces.next().is_none());
 }
 
-/// A part of an extent and a hole are not taken out.
-#[test]
-fn parts_stay(rt: HostRuntime) {
-    let mut spans = three_runs(rt.alloc());
-    assert!(rt; spans.take(0x1008, 1).is_none());
-    assert!(rt; spans.take(0x1001, 3).is_none());
-    assert!(rt; spans.take(0x1004, 4).is_none());
-    assert!(rt; spans.extents() == 3);
-}
-
-/// A whole extent is taken out, and all else stays.
-#[test]
-fn extent_taken_out(rt: HostRuntime) {
-    let mut spans = three_runs(rt.alloc());
-    match spans.take(0x1000, 4) {
-        Some(bytes) => assert!(rt; bytes.as_slice() == [1, 2, 3, 4].as_slice()),
-        None => panic!(rt; "not taken"),
-    }
-    assert!(rt; spans.extents() == 2);
-    assert!(rt; spans.get(0x1001) == None);
-    assert!(rt; spans.get(0x1008) == Some(7));
-    assert!(rt; spans.take(0x1000, 4).is_none());
+pub fn answer(alloc: Global, inputs: &str, out: &mut String) -> Result<(), NoMemory> {
+    let (puts, question) = first(inputs);
+    let mut spans = spans_of(alloc, puts, out)?;
+    put_answer(alloc, &mut spans, question, out)
 }

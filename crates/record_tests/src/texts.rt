@@ -1,45 +1,55 @@
+//! What a record text is read as, and which texts are written. The input of the first is the text; those of the second are
+//! the format, and bytes in the form of `spans`.
+use crate::spans::{put_pieces, spans_of};
+use flash_base::{Bytes, NoMemory};
 use rec_text::RecFault;
 use span_store::Spans;
+use std::alloc::Global;
+use test_rows::{first, put_bytes};
 
-/// A refusal, with what it names.
-#[derive(Clone, Copy, Debug, PartialEq, Eq)]
-pub enum Refusal {
-    BadLine(usize),
-    BadSum(usize),
-    /// The count that the record says, and that of the records before.
-    BadCount(u64, u64),
-    AfterEnd(usize),
-    Conflict(u64),
-    NoEnd,
-    NoMemory,
-}
-
-fn refusal_of(fault: &RecFault) -> Refusal {
+fn put_fault(out: &mut String, fault: &RecFault) -> Result<(), NoMemory> {
     match fault {
-        RecFault::BadLine { n } => Refusal::BadLine(*n),
-        RecFault::BadSum { n } => Refusal::BadSum(*n),
-        RecFault::BadCount { said, seen } => Refusal::BadCount(*said, *seen),
-        RecFault::AfterEnd { n } => Refusal::AfterEnd(*n),
-        RecFault::Conflict { at } => Refusal::Conflict(*at),
-        RecFault::NoEnd => Refusal::NoEnd,
-        RecFault::NoMemory => Refusal::NoMemory,
+        RecFault::BadLine { n } => write!(out, "bad line {n}")?,
+        RecFault::BadSum { n } => write!(out, "bad sum {n}")?,
+        RecFault::BadCount { said, seen } => write!(out, "bad count {said} {seen}")?,
+        RecFault::AfterEnd { n } => write!(out, "after end {n}")?,
+        RecFault::Conflict { at } => write!(out, "conflict {at:x}")?,
+        RecFault::NoEnd => out.push_str("no end")?,
+        RecFault::NoMemory => out.push_str("no memory")?,
+    }
+    Ok(())
+}
+
+pub fn put_read(read: Result<Spans, RecFault>, out: &mut String) -> Result<(), NoMemory> {
+    match read {
+        Ok(spans) => put_pieces(&spans, out),
+        Err(fault) => put_fault(out, &fault),
     }
 }
 
-/// Whether a text gave these bytes, each with its address.
-pub fn has(read: Result<Spans, RecFault>, bytes: [(u64, u8); 2]) -> bool {
-    match read {
-        Ok(spans) => {
-            spans.get(bytes[0].0) == Some(bytes[0].1) && spans.get(bytes[1].0) == Some(bytes[1].1)
-        }
-        Err(_) => false,
+fn put_text(text: Result<Bytes, NoMemory>, out: &mut String) -> Result<(), NoMemory> {
+    let text = text?;
+    put_bytes(out, text.as_slice())
+}
+
+/// The text of a format, `hex` or `srec`, of bytes at addresses below 4 GiB.
+fn put_written(
+    alloc: Global,
+    format: &str,
+    spans: &Spans,
+    out: &mut String,
+) -> Result<(), NoMemory> {
+    let None = spans.piece(0x1_0000_0000) else {
+        return Ok(out.push_str("too high")?);
+    };
+    match format {
+        "hex" => put_text(hex_rec::write(alloc, spans), out),
+        _ => put_text(srec_rec::write(alloc, spans), out),
     }
 }
 
-/// Whether a text was refused so.
-pub fn is_refused(read: Result<Spans, RecFault>, wanted: Refusal) -> bool {
-    match read {
-        Ok(_) => false,
-        Err(fault) => refusal_of(&fault) == wanted,
-    }
+pub fn answer_writes(alloc: Global, inputs: &str, out: &mut String) -> Result<(), NoMemory> {
+    let (format, puts) = first(inputs);
+    let spans = spans_of(alloc, puts, out)?;
+    put_written(alloc, format, &spans, out)
 }

@@ -1,0 +1,76 @@
+use crate::pieces::{expanded, first};
+use flash_base::NoMemory;
+use std::alloc::Global;
+use std::rt::Files;
+use std::{fs, io};
+
+/// The calls that rows name.
+pub trait Calls {
+    /// Writes what a call answers to its inputs at the end of a text.
+    fn answer(
+        &self,
+        alloc: Global,
+        call: &str,
+        inputs: &str,
+        out: &mut String,
+    ) -> Result<(), NoMemory>;
+}
+
+fn is_wanted(wanted: &str, said: &str) -> bool {
+    match wanted.strip_suffix("...") {
+        Some(front) => said.starts_with(front),
+        None => said == wanted,
+    }
+}
+
+/// What is printed after the name of a row; the rest of the row follows the name.
+fn judged<C: Calls>(calls: &C, alloc: Global, table: &str, rest: &str) -> Result<String, NoMemory> {
+    let row = expanded(alloc, table, rest)?;
+    let (call, rest) = first(row.as_str());
+    let (wanted, inputs) = first(rest);
+    let mut said = String::new(alloc);
+    calls.answer(alloc, call, inputs, &mut said)?;
+    if is_wanted(wanted, said.as_str()) {
+        return Ok(String::from_str(alloc, "ok")?);
+    }
+    Ok(said)
+}
+
+fn show<R: Print + Alloc<A = Global>, C: Calls>(
+    rt: &R,
+    calls: &C,
+    table: &str,
+    row: &str,
+) -> io::Result<()> {
+    let (name, rest) = first(row);
+    match judged(calls, rt.alloc(), table, rest) {
+        Ok(said) => println!(rt; "{name}: {said}"),
+        Err(NoMemory) => println!(rt; "{name}: no memory"),
+    }
+}
+
+fn show_table<R: Print + Alloc<A = Global>, C: Calls>(
+    rt: &R,
+    calls: &C,
+    table: &str,
+) -> io::Result<()> {
+    for line in table.split('\n') {
+        if let Some(row) = line.strip_prefix("row\t") {
+            show(rt, calls, table, row)?;
+        }
+    }
+    Ok(())
+}
+
+/// Prints a line for each row of the tables in these files.
+pub fn show_tables<R: Files + Print + Alloc<A = Global>, C: Calls>(
+    rt: &R,
+    calls: &C,
+    names: &[&str],
+) -> io::Result<()> {
+    for name in names {
+        let table = fs::read_to_string(rt, *name)?;
+        show_table(rt, calls, table.as_str())?;
+    }
+    Ok(())
+}
