@@ -4,7 +4,7 @@
 ghost use Rattle.std.specs.Prelude.{◌≡◌, ◌⊎◌, ⊤, Err, IfOk, MatchResult};
 ghost use Rattle.vehicle_file.specs.Files.{vehicle_of};
 ghost use Rattle.vehicle_file.specs.declared.fault.BenchFault.{BenchFault};
-ghost use Rattle.vehicle_world.specs.Worlds.{world_of};
+ghost use Rattle.vehicle_world.specs.Worlds.{IsFresh, world_of};
 ghost use Rattle.world_file.specs.Saves.{IsRead, IsSave, ReadsBack, said_by, spec_in};
 
 use flash_base::{Bytes, NoMemory};
@@ -35,6 +35,7 @@ fn spec_in(vehicle: vehicle_file::VehicleSpec) -> vehicle_world::VehicleSpec
 /// The vehicle that the bytes of a file say, on a new connection at tick 0; or the first refusal.
 pub fn read(alloc: Global, bytes: &[u8]) -> Result<World, BenchFault>
     ensures is { IfOk result (λ w. IsRead bytes.now (world_of w)) }
+    ensures fresh { IfOk result (λ w. IsFresh (world_of w)) }
     ensures fault { MatchResult result (λ _. ⊤)
         (λ e. (e ≡ BenchFault.NoMemory) ⊎ (vehicle_of bytes.now ≡ Err e)) }
 {
