@@ -16,6 +16,7 @@ pub mod Places
 pub mod Prefixes
 pub mod Queued
 pub mod Refusals
+pub mod Shaped
 pub mod Specs
 pub mod Stepping
 pub mod Streaming

@@ -75,6 +75,7 @@ impl World {
     ghost use Rattle.vehicle_world.specs.Feeding.{frame_done, gathered, hears, nacked};
     ghost use Rattle.vehicle_world.specs.Running.{Adds, HasBody, Handled, HeardOrNot, IsReply, OneOrNone, StepsIn, WentAll, WentPart};
     ghost use Rattle.vehicle_world.specs.Saving.{IsVehicleSpec, anew};
+    ghost use Rattle.vehicle_world.specs.Shapes.{KeepsShapes};
     ghost use Rattle.vehicle_world.specs.States.{change_at, forgotten, sim_at};
     ghost use Rattle.vehicle_world.specs.Worlds.{world_of, made_of, fed, polled, garbled, redialed_world, state_of, ticks_on, IsFresh, FeedsBroken, Garbles, PolledTo, Saves};
 
@@ -211,6 +212,7 @@ impl World {
         ensures err { OnErr result (FeedsBroken bytes.now (world_of self.old).vehicle
             (world_of self.new).vehicle) }
         ensures tick { (world_of self.new).vehicle.gateway.tick ≡ (world_of self.old).vehicle.gateway.tick }
+        ensures shapes { KeepsShapes (world_of self.old) (world_of self.new) }
     {
         let Ok(fed) = self.gate.cut(bytes) else {
             self.redial();
@@ -252,6 +254,7 @@ impl World {
         ensures ok { IfOk result (PolledTo (length out.old) out.new (world_of self.old).vehicle
             (world_of self.new).vehicle) }
         ensures err { OnErr result (world_of self.new ≡ world_of self.old) }
+        ensures shapes { KeepsShapes (world_of self.old) (world_of self.new) }
     {
         if self.gate.has_due() {
             return self.gate.poll(out);
@@ -264,6 +267,7 @@ impl World {
         ensures ok { OnOk result (world_of self.new ≡ garbled piece.now (world_of self.old)) }
         ensures carries { OnOk result (Garbles piece.now (world_of self.old).vehicle (world_of self.new).vehicle) }
         ensures err { OnErr result (world_of self.new ≡ world_of self.old) }
+        ensures shapes { KeepsShapes (world_of self.old) (world_of self.new) }
     {
         self.gate.garble(piece)
     }
@@ -273,6 +277,7 @@ impl World {
     pub fn redial(&mut self)
         ensures exact { world_of self.new ≡ redialed_world (world_of self.old) }
         ensures vehicle { (world_of self.new).vehicle ≡ redialed (world_of self.old).vehicle }
+        ensures shapes { KeepsShapes (world_of self.old) (world_of self.new) }
     {
         self.gate.redial();
         self.held.clear();

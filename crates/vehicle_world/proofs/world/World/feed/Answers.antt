@@ -9,6 +9,7 @@ use Rattle.vehicle_world.specs.States.{forgotten, vehicle_in}
 use Rattle.vehicle_world.specs.Worlds.{state_of}
 use Rattle.vehicle_world.proofs.Bodies.{have_bodies}
 use Rattle.vehicle_world.proofs.Fed.{all_tick, broken, deaf_none, feeds, moved_all, moved_part, tick_same}
+use Rattle.vehicle_world.proofs.Shaped.{all_keep, part_keeps}
 use Rattle.vehicle_world.proofs.Nothing.{nothing_is_fed, partial_is}
 use Rattle.vehicle_world.proofs.world.World.feed.Goals as goal
 
@@ -45,6 +46,16 @@ returns-in-Ok-handle_all-clause-tick c =
     moved_all _ _ _ _ (record old { gate = gate_of c.cut.new.self }) _ new c.in-Ok.ensures.frames c.in-Ok.ensures.bad mid_is c.in-Ok-handle_all.ensures.ok in
     all_tick bytes old _ _ new w
 
+pub returns-in-Ok-handle_all-clause-shapes : goal.returns-in-Ok-handle_all-clause-shapes
+returns-in-Ok-handle_all-clause-shapes c =
+    let old = state_of c.args.self.now in
+    let new = state_of c.handle_all.new.self in
+    let bytes = c.args.bytes.now in
+    let mid_is : record old { gate = gate_of c.cut.new.self } ≡ record old { gate = cut_off old.gate bytes } = λ i. record old { gate = c.in-Ok.ensures.ok i } in
+    let w : WentAll (ended old.gate bytes) (bad_in (front_of old.gate.gateway) bytes) (record old { gate = cut_off old.gate bytes }) new =
+    moved_all _ _ _ _ (record old { gate = gate_of c.cut.new.self }) _ new c.in-Ok.ensures.frames c.in-Ok.ensures.bad mid_is c.in-Ok-handle_all.ensures.ok in
+    all_keep _ _ _ new w
+
 pub returns-clause-err : goal.returns-clause-err
 returns-clause-err c =
     let old = state_of c.args.self.now in
@@ -64,3 +75,13 @@ returns-clause-tick c =
     let w : WentPart (ended old.gate bytes) (record old { gate = cut_off old.gate bytes }) new =
     moved_part _ _ (record old { gate = gate_of c.cut.new.self }) _ (forgotten (state_of c.handle_all.new.self)) new c.in-Ok.ensures.frames mid_is c.redial-in-Err.ensures.vehicle c.in-Err.ensures.err in
     ap (λ (v : Vehicle). v.gateway.tick) w.leaves ∙ tick_same bytes old _ w.now w.out w.went
+
+pub returns-clause-shapes : goal.returns-clause-shapes
+returns-clause-shapes c =
+    let old = state_of c.args.self.now in
+    let new : Vehicle = vehicle_in (state_of c.redial-in-Err.new.self) in
+    let bytes = c.args.bytes.now in
+    let mid_is : record old { gate = gate_of c.cut.new.self } ≡ record old { gate = cut_off old.gate bytes } = λ i. record old { gate = c.in-Ok.ensures.ok i } in
+    let w : WentPart (ended old.gate bytes) (record old { gate = cut_off old.gate bytes }) new =
+    moved_part _ _ (record old { gate = gate_of c.cut.new.self }) _ (forgotten (state_of c.handle_all.new.self)) new c.in-Ok.ensures.frames mid_is c.redial-in-Err.ensures.vehicle c.in-Err.ensures.err in
+    part_keeps _ _ new w
