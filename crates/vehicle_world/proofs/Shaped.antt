@@ -1,6 +1,7 @@
 -- No call changes the address of a unit, its identifiers, or how many bytes it has.
-use Rattle.std.proofs.Common.{◌≡◌, ℕ, suc, Bool, true, false, List, [], ◌∷◌, map, take, length, Option, Some, None, refl, sym, ◌∙◌, ap}
+use Rattle.std.proofs.Common.{◌≡◌, inl, inr, ℕ, suc, Bool, true, false, List, [], ◌∷◌, map, take, length, Option, Some, None, refl, sym, ◌∙◌, ap}
 use Rattle.std.specs.Prelude.{◌||◌, ◌==◌, nat_lt, not, ◌+◌, Result, OnOk, OnErr, Ok, Err, if◌then◌else◌}
+use Rattle.std.proofs.lemmas.Bool.{cases_Bool}
 use Rattle.doip_frame.specs.declared.frame.Bad.{Bad}
 use Rattle.doip_frame.specs.declared.frame.Frame.{Frame}
 use Rattle.flash_base.specs.ByteMaps.{MemoryMap, fill, has_each, put}
@@ -151,11 +152,7 @@ hear_keeps : (body : List ℕ) (tick : ℕ) → Keeps (after body tick)
 hear_keeps body tick s = acted_in_same (acting (sid_of body) s.troubles) s.unit (obedient s.unit body) body tick (obedient_same s.unit body)
 
 raise_keeps : (tick : ℕ) (h : HeldAnswer) → Keeps (raised tick h)
-raise_keeps tick h s = go (s.unit.address == h.unit) _
-  where
-    go : (c : Bool) (u : ControlUnit) → shape u ≡ shape s.unit → shape (if c then u else s.unit) ≡ shape s.unit
-    go true u e = e
-    go false u e = refl
+raise_keeps tick h s = elim (cases_Bool (s.unit.address == h.unit)) [ inl e ↦ rw e refl | inr e ↦ rw e refl ]
 
 abbrev shapes_in : List Sim → List Shape
 shapes_in sims = map shape (map unit_in sims)
