@@ -7,8 +7,8 @@ use Rattle.vehicle_file.specs.Files.{vehicle_of}
 use Rattle.vehicle_file.specs.declared.vehicle.VehicleSpec as file
 use Rattle.vehicle_text.specs.Texts.{IsSaid, text_of}
 use Rattle.vehicle_world.specs.Saving.{anew}
-use Rattle.vehicle_world.specs.States.{unit_in}
-use Rattle.vehicle_world.specs.Worlds.{Saves, Simulated, made_of}
+use Rattle.vehicle_world.specs.States.{State, unit_in}
+use Rattle.vehicle_world.specs.Worlds.{Saves, Simulated, made_of, simulated}
 use Rattle.vehicle_world.specs.declared.spec.VehicleSpec.{VehicleSpec}
 use Rattle.world_file.specs.Said.{IsSaidWorld, all_settled}
 use Rattle.world_file.specs.Saves.{IsRead, IsSave, ReadsBack, said_by, spec_in}
@@ -22,13 +22,16 @@ made_units (u ∷ us) = λ i. settled_unit u i ∷ made_units us i
 same_vehicle : (s : VehicleSpec) → (made_of (spec_in (said_by s))).vehicle ≡ (made_of s).vehicle
 same_vehicle s = λ i. record { gateway = (made_of s).vehicle.gateway; units = made_units s.units i }
 
-same_ok : (a b : file.VehicleSpec) → Ok {E = _} a ≡ Ok b → a ≡ b
+same_ok : {E : Type 0} (a b : file.VehicleSpec) → ◌≡◌ {A = Result file.VehicleSpec E} (Ok a) (Ok b) → a ≡ b
 same_ok a b e = cc
 
-module _ (w : Simulated) (s : VehicleSpec) (bytes : List ℕ) (saves : Saves w s) (new : (made_of s).vehicle ≡ anew w.vehicle) (text : bytes ≡ text_of (said_by s))
+module _ (now : State) (s : VehicleSpec) (bytes : List ℕ) (saves : Saves (simulated now) s) (new : (made_of s).vehicle ≡ anew (simulated now).vehicle) (text : bytes ≡ text_of (said_by s))
     (reads : IsSaid (said_by s) → vehicle_of bytes ≡ Ok (said_by s)) where
+  abbrev w : Simulated
+  w = simulated now
+
   again : IsSaidWorld w → vehicle_of bytes ≡ Ok (said_by s)
-  again said = reads (is_said s _ saves.is (saved_shapes w.state.sims w.state.sims s.units saves.units) said)
+  again said = reads (is_said s _ saves.is (saved_shapes now.sims now.sims s.units saves.units) said)
 
   pub is_save : IsSave w bytes
   is_save = record { spec = s; saves = saves; anew = new; text = text; reads = again }

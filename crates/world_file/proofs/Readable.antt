@@ -13,9 +13,9 @@ use Rattle.unit_sim.specs.Sims.{made_of as sim_made}
 use Rattle.vehicle_file.proofs.Bounds.{always, beneath, goes, of_chosen, of_holds, of_needed, of_object}
 use Rattle.vehicle_file.specs.Fields.{Reading, bytes_up_to, chosen, four, hold_to, list_of, list_with, needed, under}
 use Rattle.vehicle_file.specs.Files.{MOST_MEMORY, MOST_UNITS, few_of, is_few, memory_sizes, value_in, vehicle, vehicle_from, vehicle_members, vehicle_of}
-use Rattle.vehicle_file.specs.Units.{has_address, ident, ident_at, ident_of, idents, idents_from, idents_with, layout, new_address, patch, position_from, regions, unit, unit_members, units, units_from}
+use Rattle.vehicle_file.specs.Troubles.{gate_troubles}
+use Rattle.vehicle_file.specs.Units.{has_address, ident, ident_at, ident_of, idents, idents_from, idents_with, layout, new_address, past, patch, position_from, regions, rules_at, state, unit, unit_members, units, units_from}
 use Rattle.vehicle_file.specs.declared.fault.BenchFault.TheVariants as bench
-use Rattle.vehicle_file.specs.declared.unit.Layout.{Layout}
 use Rattle.vehicle_file.specs.declared.vehicle.VehicleSpec.{VehicleSpec}
 use Rattle.vehicle_text.specs.Texts.{ascend, new_from}
 use Rattle.vehicle_world.specs.Shapes.{Shape, shape, shapes}
@@ -149,24 +149,21 @@ new_in : (before : List UnitSpec) (d : Data) → IfOk (new_address before d) (λ
 new_in before d = always (λ a. has_address a before ≡ false) (four d) (λ a. hold_to (not (has_address a before)) a)
     (λ a. of_holds (λ b. has_address b before ≡ false) (not (has_address a before)) a (λ e. not_true (has_address a before) e))
 
-abbrev NewLayout : List UnitSpec → Layout → Type 0
-NewLayout before l = IsNew before l.address l.idents
-
-layout_in : (before : List UnitSpec) (o : Data) → IfOk (layout before o) (NewLayout before)
+layout_in : (before : List UnitSpec) (o : Data) → IfOk (layout before o) (λ l. IsNew before l.address l.idents)
 layout_in before o =
-    goes (λ a. has_address a before ≡ false) (NewLayout before) (needed (codes "address") (new_address before) o) _ (of_needed (λ a. has_address a before ≡ false) (codes "address") (new_address before) o (new_in before)) (λ address new.
-    always (NewLayout before) (needed (codes "regions") regions o) _ (λ rs.
-    always (NewLayout before) (chosen (codes "bytes") [] (list_of (patch rs)) o) _ (λ bytes.
-    goes Up (NewLayout before) (chosen (codes "idents") [] idents o) _ (of_chosen Up (codes "idents") [] idents o refl idents_in) (λ is up.
+    goes (λ a. has_address a before ≡ false) (λ l. IsNew before l.address l.idents) (needed (codes "address") (new_address before) o) _ (of_needed (λ a. has_address a before ≡ false) (codes "address") (new_address before) o (new_in before)) (λ address new.
+    always (λ l. IsNew before l.address l.idents) (needed (codes "regions") regions o) _ (λ rs.
+    always (λ l. IsNew before l.address l.idents) (chosen (codes "bytes") [] (list_of (patch rs)) o) _ (λ bytes.
+    goes Up (λ l. IsNew before l.address l.idents) (chosen (codes "idents") [] idents o) _ (of_chosen Up (codes "idents") [] idents o refl idents_in) (λ is up.
     record { address_new = new; up = up }))))
 
 abbrev NewUnit : List UnitSpec → UnitSpec → Type 0
 NewUnit before u = IsNew before u.address u.idents
 
-unit_in : (before : List UnitSpec) (d : Data) → IfOk (unit before d) (NewUnit before)
-unit_in before d = of_object (NewUnit before) _ (unit_members before) d
-    (goes (NewLayout before) (NewUnit before) (layout before d) _ (layout_in before d) (λ l new.
-    always (NewUnit before) _ _ (λ r. always (NewUnit before) _ _ (λ p. always (NewUnit before) _ _ (λ s. record { address_new = new.address_new; up = new.up })))))
+unit_new : (before : List UnitSpec) (d : Data) → IfOk (unit before d) (NewUnit before)
+unit_new before d = of_object (NewUnit before) _ (unit_members before) d
+    (goes (λ l. IsNew before l.address l.idents) (NewUnit before) (layout before d) _ (layout_in before d) (λ l new.
+    always (NewUnit before) (rules_at d) _ (λ r. always (NewUnit before) (past d) _ (λ p. always (NewUnit before) (state l.regions d) _ (λ s. record { address_new = new.address_new; up = new.up })))))
 
 -- ------ units
 pub record AreNew (us : List UnitSpec) : Type 0 where
@@ -187,7 +184,7 @@ each_more P (y ∷ ys) x all p = (all.0, each_more P ys x all.1 p)
 units_new : (before : List UnitSpec) (i : ℕ) (ds : Items) → AreNew before → IfOk (units_from before i ds) AreNew
 units_new before i no_items are = are
 units_new before i (item d ds) are =
-    goes (NewUnit before) AreNew (under (decimal i) (unit before d)) (λ u. units_from (before ++ u ∷ []) (i + 1) ds) (beneath (NewUnit before) (decimal i) (unit before d) (unit_in before d))
+    goes (NewUnit before) AreNew (under (decimal i) (unit before d)) (λ u. units_from (before ++ u ∷ []) (i + 1) ds) (beneath (NewUnit before) (decimal i) (unit before d) (unit_new before d))
     (λ u new. units_new (before ++ u ∷ []) (i + 1) ds (record {
       addresses = new_more [] before u are.addresses new.address_new;
       idents = each_more (λ (w : UnitSpec). ascend w.idents ≡ true) before u are.idents new.up;
@@ -208,7 +205,7 @@ vehicle_in : (d : Data) → IfOk (vehicle d) VehicleNew
 vehicle_in d = of_object VehicleNew _ vehicle_members d
     (always VehicleNew (needed (codes "entity") four d) _ (λ entity.
     goes AreNew VehicleNew (needed (codes "units") units d) _ (of_needed AreNew (codes "units") units d units_in) (λ us are.
-    always VehicleNew _ _ (λ ts. are))))
+    always VehicleNew (chosen (codes "gateway") [] gate_troubles d) _ (λ ts. are))))
 
 abbrev Can : VehicleSpec → Type 0
 Can v = CanBeSaid (shapes_in v.units)

@@ -25,15 +25,10 @@ use Rattle.world_file.specs.Said.{CanBeSaid, all_new, all_settled, has_some, is_
 use Rattle.world_file.specs.Saves.{said_by}
 
 truth : (b : Bool) → IsTrue b → b ≡ true
-truth true t = refl
-truth false t = absurd t
+truth b t = t
 
 pub true_is : (b : Bool) → b ≡ true → IsTrue b
-true_is true e = tt
-true_is false e = absurd (true_false (sym e))
-  where
-    true_false : true ≡ false → ⊥
-    true_false e = cc
+true_is b e = e
 
 -- ------ shapes of specs
 abbrev pub shape_in : UnitSpec → Shape
@@ -199,7 +194,7 @@ units_said (u ∷ us) is ups = (
 
 addresses_stay : (us : List UnitSpec) → map address_in us ≡ map file.address_in (all_settled us)
 addresses_stay [] = refl
-addresses_stay (u ∷ us) = ap (λ (as : List ℕ). u.address ∷ as) (addresses_stay us)
+addresses_stay (u ∷ us) = ap (λ (rest : List ℕ). u.address ∷ rest) (addresses_stay us)
 
 pub shapes_stay : (us : List UnitSpec) → shapes_in (all_settled us) ≡ shapes_in us
 shapes_stay [] = refl
