@@ -22,7 +22,7 @@ vehicle_fields v =
 abbrev pub vehicle_data : VehicleSpec → Data
 vehicle_data v = object_in (vehicle_fields v)
 
--- the text: JSON without blanks, the members of an object in the order of their names
+-- the text: JSON without blanks, the members of an object in the order in which they are listed
 abbrev pub text_of : VehicleSpec → List ℕ
 text_of v = compact_text (vehicle_data v)
 

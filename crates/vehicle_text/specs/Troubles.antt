@@ -18,6 +18,9 @@ words text = Some (string text)
 abbrev pub heard_fields : ℕ → ℕ → Fields
 heard_fields unit sid = (codes "unit", Some (four_data unit)) ∷ (codes "sid", Some (two_data sid)) ∷ []
 
+abbrev pub pair_fields : ℕ × ℕ → Fields
+pair_fields p = heard_fields p.0 p.1
+
 abbrev pub until_fields : Until → Fields
 until_fields (Times times) = (codes "times", Some (whole_data times)) ∷ []
 until_fields (Heard unit sid) = (codes "until", Some (object_in (heard_fields unit sid))) ∷ []

@@ -1,6 +1,6 @@
 -- How a unit is written.
 use Rattle.std.specs.Prelude.{ℕ, ◌==◌, not, Bool, true, List, [], ◌∷◌, ◌++◌, map, codes, bytes_eq, Option, Some, None}
-use Rattle.serde_json.specs.Data.{Data, array, object, Members, no_members, put}
+use Rattle.serde_json.specs.Data.{Data, array}
 use Rattle.serde_json.specs.View.{items_of}
 use Rattle.unit_model.specs.declared.spec.PatchSpec.{PatchSpec}
 use Rattle.unit_model.specs.declared.spec.RegionSpec.{RegionSpec}
@@ -8,8 +8,12 @@ use Rattle.unit_model.specs.declared.spec.UnitSpec.{UnitSpec}
 use Rattle.unit_model.specs.declared.unit.Transfer.{Transfer}
 use Rattle.vehicle_text.specs.Forms.{bytes_data, flag_data, four_data, four_text, off_data, place_data, two_data, whole_data}
 use Rattle.vehicle_text.specs.Keys.{key_given}
-use Rattle.vehicle_text.specs.Objects.{Fields, members_over, object_in, unless, unless_empty}
+use Rattle.vehicle_text.specs.Objects.{Fields, object_in, unless, unless_empty}
 use Rattle.vehicle_text.specs.Troubles.{trouble_data}
+
+-- an object of these members
+abbrev pub data_in : {A : Type 0} → (A → Fields) → A → Data
+data_in f x = object_in (f x)
 
 -- a list, each item written alike
 abbrev pub list_data : {A : Type 0} → (A → Data) → List A → Data
@@ -38,13 +42,15 @@ range_fields r = (codes "at", Some (place_data r.0)) ∷ (codes "size", Some (wh
 abbrev pub range_data : ℕ × ℕ → Data
 range_data r = object_in (range_fields r)
 
--- the first identifier is put last
-abbrev pub idents_members : List (ℕ × List ℕ) → Members
-idents_members [] = no_members
-idents_members (i ∷ is) = put (four_text i.0) (bytes_data i.1) (idents_members is)
+abbrev pub ident_field : ℕ × List ℕ → List ℕ × Option Data
+ident_field i = (four_text i.0, Some (bytes_data i.1))
+
+-- the members of identifiers, in their order
+abbrev pub idents_fields : List (ℕ × List ℕ) → Fields
+idents_fields is = map ident_field is
 
 abbrev pub idents_given : List (ℕ × List ℕ) → Option Data
-idents_given is = unless_empty is (object (idents_members is))
+idents_given is = unless_empty is (object_in (idents_fields is))
 
 -- the last block of a transfer: that it was taken, and its length
 abbrev pub taken_given : Option ℕ → Option Data

@@ -1,17 +1,15 @@
 //! Members with single values.
 
-ghost use Rattle.std.specs.Prelude.{◌≡◌, ◌<◌, ◌^◌, ◌/◌, ◌%◌, [], ◌∷◌, not, Some, IfOk, OnOk, codes, string_bytes};
-ghost use Rattle.hex.specs.Hex.{IsBytes, encode_upper};
+ghost use Rattle.std.specs.Prelude.{◌≡◌, ◌<◌, ◌^◌, Some, IfOk, OnOk, string_bytes, true};
+ghost use Rattle.hex.specs.Hex.{IsBytes};
 ghost use Rattle.serde_json.specs.Data.{string};
 ghost use Rattle.flash_base.specs.Numbers.{big_endian};
-ghost use Rattle.serde_json.specs.View.{members_view, view};
-ghost use Rattle.vehicle_text.specs.Forms.{bytes_data, flag_data, four_data, four_text, off_data, place_data, place_text, two_data, whole_data};
-ghost use Rattle.vehicle_text.specs.Objects.{put_some, unless};
+ghost use Rattle.vehicle_text.specs.Forms.{bytes_data, flag_data, four_data, four_text, place_data, place_text, two_data, whole_data};
+ghost use Rattle.vehicle_text.specs.Objects.{put_some};
 ghost use Rattle.vehicle_text.specs.Units.{flag_given, off_given};
 
-use crate::objects::put_some;
+use crate::out::Out;
 use flash_base::NoMemory;
-use serde_json::{Map, Value};
 use std::alloc::Global;
 
 /// Addresses are below.
@@ -77,143 +75,95 @@ fn place_text(alloc: Global, at: u64) -> Result<String, NoMemory>
     Ok(hex::encode_upper(alloc, &bytes[..])?)
 }
 
-/// Bytes in pairs of hexadecimal digits.
-pub(crate) fn bytes(alloc: Global, bytes: &[u8]) -> Result<Value, NoMemory>
-    ensures is { IfOk result (λ v. view v ≡ bytes_data bytes.now) }
-    ensures fits { IfOk result (λ _. IsBytes bytes.now) }
+/// Puts a member with a text.
+pub(crate) fn put_words(out: &mut Out, name: &str, text: &str) -> Result<(), NoMemory>
+    ensures { OnOk result (out.new ≡ put_some name.now (Some (string text.now)) out.old) }
 {
-    Ok(Value::String(hex::encode_upper(alloc, bytes)?))
+    out.key(name)?;
+    out.string(text)
 }
 
-/// Puts a member with a text.
-pub(crate) fn put_words(
-    alloc: Global,
-    members: &mut Map<String, Value>,
-    name: &str,
-    text: &str,
-) -> Result<(), NoMemory>
-    ensures { OnOk result (members_view members.new.entries
-        ≡ put_some name.now (Some (string text.now)) (members_view members.old.entries)) }
+/// Puts a member that is true.
+fn put_yes(out: &mut Out, name: &str) -> Result<(), NoMemory>
+    ensures { OnOk result (out.new ≡ put_some name.now (Some (flag_data true)) out.old) }
 {
-    let text = Value::String(String::from_str(alloc, text)?);
-    put_some(alloc, members, name, Some(text))
+    out.key(name)?;
+    out.yes()
+}
+
+/// Puts a member with a whole number.
+pub(crate) fn put_whole(out: &mut Out, name: &str, n: u64) -> Result<(), NoMemory>
+    ensures is { OnOk result (out.new ≡ put_some name.now (Some (whole_data n)) out.old) }
+    ensures fits { OnOk result (n < 2 ^ 64) }
+{
+    out.key(name)?;
+    out.whole(n)
+}
+
+/// Puts a member with a number of 32 bits.
+pub(crate) fn put_number(out: &mut Out, name: &str, n: u32) -> Result<(), NoMemory>
+    ensures is { OnOk result (out.new ≡ put_some name.now (Some (whole_data n)) out.old) }
+    ensures fits { OnOk result (n < 2 ^ 32) }
+{
+    put_whole(out, name, u64::from(n))
 }
 
 /// Puts a member with two hexadecimal digits.
-pub(crate) fn put_two(
-    alloc: Global,
-    members: &mut Map<String, Value>,
-    name: &str,
-    n: u8,
-) -> Result<(), NoMemory>
-    ensures is { OnOk result (members_view members.new.entries
-        ≡ put_some name.now (Some (two_data n)) (members_view members.old.entries)) }
+pub(crate) fn put_two(alloc: Global, out: &mut Out, name: &str, n: u8) -> Result<(), NoMemory>
+    ensures is { OnOk result (out.new ≡ put_some name.now (Some (two_data n)) out.old) }
     ensures fits { OnOk result (n < 256) }
 {
     let text = hex::encode_upper(alloc, &[n][..])?;
-    put_some(alloc, members, name, Some(Value::String(text)))
+    put_words(out, name, text.as_str())
 }
 
 /// Puts a member with four hexadecimal digits.
-pub(crate) fn put_four(
-    alloc: Global,
-    members: &mut Map<String, Value>,
-    name: &str,
-    n: u16,
-) -> Result<(), NoMemory>
-    ensures is { OnOk result (members_view members.new.entries
-        ≡ put_some name.now (Some (four_data n)) (members_view members.old.entries)) }
+pub(crate) fn put_four(alloc: Global, out: &mut Out, name: &str, n: u16) -> Result<(), NoMemory>
+    ensures is { OnOk result (out.new ≡ put_some name.now (Some (four_data n)) out.old) }
     ensures fits { OnOk result (n < 65536) }
 {
     let text = four_text(alloc, n)?;
-    put_some(alloc, members, name, Some(Value::String(text)))
+    put_words(out, name, text.as_str())
 }
 
 /// Puts a member with an address.
-pub(crate) fn put_place(
-    alloc: Global,
-    members: &mut Map<String, Value>,
-    name: &str,
-    at: u64,
-) -> Result<(), NoMemory>
-    ensures { OnOk result (members_view members.new.entries
-        ≡ put_some name.now (Some (place_data at)) (members_view members.old.entries)) }
+pub(crate) fn put_place(alloc: Global, out: &mut Out, name: &str, at: u64) -> Result<(), NoMemory>
+    ensures { OnOk result (out.new ≡ put_some name.now (Some (place_data at)) out.old) }
 {
     let text = place_text(alloc, at)?;
-    put_some(alloc, members, name, Some(Value::String(text)))
+    put_words(out, name, text.as_str())
 }
 
 /// Puts a member with bytes.
 pub(crate) fn put_bytes(
     alloc: Global,
-    members: &mut Map<String, Value>,
+    out: &mut Out,
     name: &str,
     content: &[u8],
 ) -> Result<(), NoMemory>
-    ensures is { OnOk result (members_view members.new.entries
-        ≡ put_some name.now (Some (bytes_data content.now)) (members_view members.old.entries)) }
+    ensures is { OnOk result (out.new ≡ put_some name.now (Some (bytes_data content.now)) out.old) }
     ensures fits { OnOk result (IsBytes content.now) }
 {
-    let text = bytes(alloc, content)?;
-    put_some(alloc, members, name, Some(text))
-}
-
-/// Puts a member with a whole number.
-pub(crate) fn put_whole(
-    alloc: Global,
-    members: &mut Map<String, Value>,
-    name: &str,
-    n: u64,
-) -> Result<(), NoMemory>
-    ensures is { OnOk result (members_view members.new.entries
-        ≡ put_some name.now (Some (whole_data n)) (members_view members.old.entries)) }
-    ensures fits { OnOk result (n < 2 ^ 64) }
-{
-    put_some(alloc, members, name, Some(Value::from(n)))
-}
-
-/// Puts a member with a number of 32 bits.
-pub(crate) fn put_number(
-    alloc: Global,
-    members: &mut Map<String, Value>,
-    name: &str,
-    n: u32,
-) -> Result<(), NoMemory>
-    ensures is { OnOk result (members_view members.new.entries
-        ≡ put_some name.now (Some (whole_data n)) (members_view members.old.entries)) }
-    ensures fits { OnOk result (n < 2 ^ 32) }
-{
-    put_some(alloc, members, name, Some(Value::from(n)))
+    let text = hex::encode_upper(alloc, content)?;
+    put_words(out, name, text.as_str())
 }
 
 /// Puts a member that is true; what is false is left out.
-pub(crate) fn put_flag(
-    alloc: Global,
-    members: &mut Map<String, Value>,
-    name: &str,
-    b: bool,
-) -> Result<(), NoMemory>
-    ensures { OnOk result (members_view members.new.entries
-        ≡ put_some name.now (flag_given b) (members_view members.old.entries)) }
+pub(crate) fn put_flag(out: &mut Out, name: &str, b: bool) -> Result<(), NoMemory>
+    ensures { OnOk result (out.new ≡ put_some name.now (flag_given b) out.old) }
 {
     if b {
-        return put_some(alloc, members, name, Some(Value::Bool(true)));
+        return put_yes(out, name);
     }
     Ok(())
 }
 
 /// Puts a member that is off; what is on is left out.
-pub(crate) fn put_off(
-    alloc: Global,
-    members: &mut Map<String, Value>,
-    name: &str,
-    b: bool,
-) -> Result<(), NoMemory>
-    ensures { OnOk result (members_view members.new.entries
-        ≡ put_some name.now (off_given b) (members_view members.old.entries)) }
+pub(crate) fn put_off(out: &mut Out, name: &str, b: bool) -> Result<(), NoMemory>
+    ensures { OnOk result (out.new ≡ put_some name.now (off_given b) out.old) }
 {
     if b {
-        return put_words(alloc, members, name, "off");
+        return put_words(out, name, "off");
     }
     Ok(())
 }

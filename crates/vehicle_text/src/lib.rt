@@ -4,7 +4,7 @@
 mod forms;
 mod keys;
 mod lists;
-mod objects;
+mod out;
 mod text;
 mod troubles;
 mod units;

@@ -1,76 +1,106 @@
-//! Lists, each item written alike.
+//! Objects and lists, each item written alike.
 
-ghost use Rattle.std.specs.Prelude.{◌≡◌, IfOk, OnOk, Some, map};
+ghost use Rattle.std.specs.Prelude.{◌≡◌, OnOk, Some, map};
 ghost use Rattle.flash_base.specs.Lists.{Each};
-ghost use Rattle.serde_json.specs.View.{members_view, view};
-ghost use Rattle.vehicle_text.specs.Objects.{put_some};
-ghost use Rattle.vehicle_text.specs.Units.{list_data, list_given};
+ghost use Rattle.vehicle_text.specs.Objects.{object_in, put_some, put_value, put_values};
+ghost use Rattle.vehicle_text.specs.Units.{data_in, list_data, list_given};
 
-use crate::objects::put_some;
+use crate::out::Out;
 use flash_base::NoMemory;
-use serde_json::{Map, Value};
 use std::alloc::Global;
 
-/// A way to write an item.
-pub(crate) trait Writer {
-    ghost use Rattle.std.specs.Prelude.{◌≡◌, IfOk};
-    ghost use Rattle.serde_json.specs.Data.{Data};
-    ghost use Rattle.serde_json.specs.View.{view};
+/// A way to write the members of an object.
+pub(crate) trait Form {
+    ghost use Rattle.std.specs.Prelude.{◌≡◌, OnOk};
+    ghost use Rattle.vehicle_text.specs.Objects.{Fields, put_all};
 
     type Item;
 
-    ghost tree: { Self.Item → Data };
+    ghost fields: { Self.Item → Fields };
 
     ghost fits: { Self.Item → Type 0 };
 
-    fn write(&self, alloc: Global, item: &Self::Item) -> Result<Value, NoMemory>
-        ensures is { IfOk result (λ v. view v ≡ tree item.now) }
-        ensures fits { IfOk result (λ _. fits item.now) };
+    fn write(&self, alloc: Global, out: &mut Out, item: &Self::Item) -> Result<(), NoMemory>
+        ensures is { OnOk result (out.new ≡ put_all (fields item.now) out.old) }
+        ensures fits { OnOk result (fits item.now) };
 }
 
-/// The items of a list.
-fn written<W: Writer>(alloc: Global, items: &[W::Item], writer: &W) -> Result<Vec<Value>, NoMemory>
-    ensures is { IfOk result (λ vs. map view vs.items ≡ map W.tree items.now) }
-    ensures fits { IfOk result (λ _. Each W.fits items.now) }
+/// Writes an object.
+pub(crate) fn object<F: Form>(
+    alloc: Global,
+    out: &mut Out,
+    item: &F::Item,
+    form: &F,
+) -> Result<(), NoMemory>
+    ensures is { OnOk result (out.new ≡ put_value (object_in (F.fields item.now)) out.old) }
+    ensures fits { OnOk result (F.fits item.now) }
 {
-    let mut made = Vec::new(alloc);
+    out.begin_object()?;
+    form.write(alloc, out, item)?;
+    out.end_object()
+}
+
+/// Puts a member with an object.
+pub(crate) fn put_object<F: Form>(
+    alloc: Global,
+    out: &mut Out,
+    name: &str,
+    item: &F::Item,
+    form: &F,
+) -> Result<(), NoMemory>
+    ensures is { OnOk result (out.new ≡ put_some name.now (Some (object_in (F.fields item.now))) out.old) }
+    ensures fits { OnOk result (F.fits item.now) }
+{
+    out.key(name)?;
+    object(alloc, out, item, form)
+}
+
+/// Writes the items of a list.
+fn put_items<F: Form>(
+    alloc: Global,
+    out: &mut Out,
+    items: &[F::Item],
+    form: &F,
+) -> Result<(), NoMemory>
+    ensures is { OnOk result (out.new ≡ put_values (map (data_in F.fields) items.now) out.old) }
+    ensures fits { OnOk result (Each F.fits items.now) }
+{
     for item in items {
-        let value = writer.write(alloc, item)?;
-        made.push(value)?;
+        object(alloc, out, item, form)?;
     }
-    Ok(made)
+    Ok(())
 }
 
 /// Puts a member with a list.
-pub(crate) fn put_list<W: Writer>(
+pub(crate) fn put_list<F: Form>(
     alloc: Global,
-    members: &mut Map<String, Value>,
+    out: &mut Out,
     name: &str,
-    items: &[W::Item],
-    writer: &W,
+    items: &[F::Item],
+    form: &F,
 ) -> Result<(), NoMemory>
-    ensures is { OnOk result (members_view members.new.entries
-        ≡ put_some name.now (Some (list_data W.tree items.now)) (members_view members.old.entries)) }
-    ensures fits { OnOk result (Each W.fits items.now) }
+    ensures is { OnOk result (out.new ≡ put_some name.now (Some (list_data (data_in F.fields) items.now)) out.old) }
+    ensures fits { OnOk result (Each F.fits items.now) }
 {
-    let list = written(alloc, items, writer)?;
-    put_some(alloc, members, name, Some(Value::Array(list)))
+    out.key(name)?;
+    out.begin_array()?;
+    put_items(alloc, out, items, form)?;
+    out.end_array()
 }
 
 /// Puts a member with a list that is not empty; an empty one is left out.
-pub(crate) fn put_some_list<W: Writer>(
+pub(crate) fn put_some_list<F: Form>(
     alloc: Global,
-    members: &mut Map<String, Value>,
+    out: &mut Out,
     name: &str,
-    items: &[W::Item],
-    writer: &W,
+    items: &[F::Item],
+    form: &F,
 ) -> Result<(), NoMemory>
-    ensures is { OnOk result (members_view members.new.entries
-        ≡ put_some name.now (list_given W.tree items.now) (members_view members.old.entries)) }
-    ensures fits { OnOk result (Each W.fits items.now) }
+    ensures is { OnOk result (out.new ≡ put_some name.now (list_given (data_in F.fields) items.now) out.old) }
+    ensures fits { OnOk result (Each F.fits items.now) }
 {
     if items.is_empty() {
         return Ok(());
     }
-    put_list(alloc, members, name, items, writer)
+    put_list(alloc, out, name, items, form)
 }
