@@ -1,9 +1,8 @@
 -- Key rules and troubles are read as they are written.
-use Rattle.std.proofs.Common.{◌≡◌, ◌⊎◌, ℕ, ◌+◌, ◌^◌, ◌<◌, ◌≤◌, Bool, true, false, true≢false, List, [], ◌∷◌, Option, Some, None, refl, sym, ◌∙◌, ap, arith, length}
-use Rattle.std.specs.Prelude.{nat_le, nat_lt, ◌&&◌, ◌-◌, ◌%◌, ◌==◌, Ok, Err, codes, IsTrue}
+use Rattle.std.proofs.Common.{◌≡◌, ℕ, ◌^◌, ◌<◌, ◌≤◌, Bool, true, false, true≢false, Option, Some, None, refl, sym, ◌∙◌, ap, arith, length}
+use Rattle.std.specs.Prelude.{nat_le, nat_lt, ◌&&◌, ◌-◌, ◌%◌, ◌==◌, Ok, Err, codes}
 use Rattle.std.proofs.lemmas.Bool.{and_from, and_parts, le-leb, leb-true, ltb-true}
 use Rattle.serde_json.specs.Data.{Data, string}
-use Rattle.hex.specs.Hex.{IsBytes}
 use Rattle.text_forms.specs.Bytes.{byte_text}
 use Rattle.serde_json.specs.Find.{as_str}
 use Rattle.flash_base.specs.declared.unit.KeyRule.{KeyRule}
@@ -13,20 +12,19 @@ use Rattle.unit_model.specs.Troubles.{MOST_TICKS, MOST_TIMES, is_act, is_trouble
 use Rattle.unit_model.specs.declared.spec.Act.{Act}
 use Rattle.unit_model.specs.declared.spec.Act.TheVariants.{Refuse, Odd, Fail, Mute, Delay, Busy, Pending}
 use Rattle.unit_model.specs.declared.spec.TroubleSpec.{TroubleSpec}
-use Rattle.unit_model.specs.declared.spec.Until.{Until}
 use Rattle.unit_model.specs.declared.spec.Until.TheVariants.{Times, Heard}
 use Rattle.gateway_sim.specs.Troubles as gates
 use Rattle.gateway_sim.specs.Troubles.{LAST_TICK}
 use Rattle.gateway_sim.specs.declared.spec.GatewayTrouble.{GatewayTrouble}
 use Rattle.gateway_sim.specs.declared.spec.GatewayTrouble.TheVariants as gate
-use Rattle.vehicle_file.specs.Fields.{Reading, LAST_NTH, ◌>>=◌, ◌>=>◌, an_object, bytes_to, four, needed, object_of, of_form, only_if, two, whole}
-use Rattle.vehicle_file.specs.Keys.{digest, free, is_digest_member, is_free_member, is_xor_member, key_rule, level, rule_members, rule_name, rule_of, xor}
-use Rattle.vehicle_file.specs.Troubles.{act_in, act_of, deed, deed_in, gate_deed, gate_deed_in, gate_members, gate_trouble, gate_trouble_members, has, is_gate_member, is_trouble_member, is_until_member, pending, times, trouble, trouble_members, trouble_of, until, until_members, waits}
+use Rattle.vehicle_file.specs.Fields.{Reading, LAST_NTH, ◌>>=◌, ◌>=>◌, bytes_to, four, needed, object_of, of_form, only_if, two, whole}
+use Rattle.vehicle_file.specs.Keys.{digest, free, is_digest_member, is_free_member, is_xor_member, key_rule, level, rule_name, rule_of, xor}
+use Rattle.vehicle_file.specs.Troubles.{act_of, deed, deed_in, gate_deed, gate_deed_in, gate_members, gate_trouble, has, is_gate_member, is_trouble_member, is_until_member, times, trouble, trouble_of, until, until_members}
 use Rattle.vehicle_text.specs.Forms.{bytes_data, four_data, two_data, whole_data}
 use Rattle.vehicle_text.specs.Keys.{key_data, key_fields}
 use Rattle.vehicle_text.specs.Objects.{Fields, find_or, object_in}
-use Rattle.vehicle_text.specs.Ranges.{FitsAct, FitsGate, FitsKey, FitsTrouble, FitsUntil}
-use Rattle.vehicle_text.specs.Troubles.{act_fields, gate_data, gate_fields, heard_fields, trouble_data, trouble_fields, until_fields}
+use Rattle.vehicle_text.specs.Ranges.{FitsAct, FitsGate, FitsKey, FitsTrouble}
+use Rattle.vehicle_text.specs.Troubles.{act_fields, gate_data, gate_fields, heard_fields, trouble_data, trouble_fields}
 use Rattle.vehicle_text.proofs.Digits.{bytes_to_are, four_is, from_zero, two_is, whole_is}
 use Rattle.vehicle_text.proofs.Finding.{bind, from_some, needed_is, object_is, read_in, tabled}
 use Rattle.vehicle_text.proofs.Sorted.{normal}

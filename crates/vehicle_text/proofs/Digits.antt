@@ -1,18 +1,17 @@
 -- Digits that are written are read as what they say.
-use Rattle.std.proofs.Common.{◌≡◌, ◌⊎◌, inl, inr, ℕ, zero, suc, ◌+◌, ◌*◌, ◌/◌, ◌%◌, ◌^◌, ◌<◌, ◌≤◌, Bool, true, false, List, [], ◌∷◌, ◌++◌, Option, Some, None, refl, sym, ◌∙◌, ap, arith, length}
+use Rattle.std.proofs.Common.{◌≡◌, inl, inr, ℕ, zero, suc, ◌+◌, ◌*◌, ◌/◌, ◌%◌, ◌^◌, ◌<◌, ◌≤◌, Bool, true, false, List, [], ◌∷◌, ◌++◌, Option, Some, None, refl, ◌∙◌, ap, arith, length}
 use Rattle.std.specs.Prelude.{nat_lt, nat_le, slice_index, option_and_then, unwrap_or, ◌==◌, ◌&&◌, Ok, if◌then◌else◌}
 use Rattle.std.proofs.lemmas.Bool.{and_from, and_parts, cases_Bool, cases_lt, eqb-true, lt-ltb, le-leb, ltb-true}
 use Rattle.hex.specs.Hex.{IsBytes, encode_upper, encode_with, upper_digits}
 use Rattle.hex.proofs.HexLemmas.{decode_of-encode_upper, length-encode_with}
-use Rattle.flash_base.specs.Numbers.{big_endian, each_below, number_after, number_of, pow256}
+use Rattle.flash_base.specs.Numbers.{big_endian, each_below, number_after, number_of}
 use Rattle.uds_codec.proofs.Numbers.{big_length, big_number}
-use Rattle.serde_json.specs.Data.{string}
-use Rattle.text_forms.specs.Bytes.{byte_text, bytes_text, decoded}
-use Rattle.text_forms.specs.Numbers.{hex_digit, hex_text, hex_value, if_below, value_after}
+use Rattle.text_forms.specs.Bytes.{bytes_text, decoded}
+use Rattle.text_forms.specs.Numbers.{hex_digit, hex_text, if_below, value_after}
 use Rattle.text_forms.proofs.Digits.{hex_text_is, one_more, whole_number}
 use Rattle.unit_model.specs.RegionTests.{LIMIT}
-use Rattle.vehicle_file.specs.Fields.{Reading, LAST_COUNT, ◌>=>◌, any_bytes, bytes_to, bytes_up_to, end_place, flag, four, four_digits, is_off, of_form, only_if, place, two, whole}
-use Rattle.vehicle_text.specs.Forms.{bytes_data, flag_data, four_data, four_text, off_data, place_data, place_text, two_data, whole_data}
+use Rattle.vehicle_file.specs.Fields.{◌>=>◌, any_bytes, bytes_to, bytes_up_to, end_place, four, four_digits, of_form, only_if, place, two, whole}
+use Rattle.vehicle_text.specs.Forms.{bytes_data, four_data, four_text, place_data, place_text, two_data, whole_data}
 
 -- ------ the sixteen digits
 abbrev is_read : ℕ → Bool

@@ -1,14 +1,14 @@
 -- What is found in an object, and how a member of it is read.
-use Rattle.std.proofs.Common.{◌≡◌, ◌⊎◌, inl, inr, ℕ, Bool, true, false, true≢false, List, [], ◌∷◌, Option, Some, None, refl, sym, ◌∙◌, ap, subst, Ordering, Less, Equal, Greater, nat_cmp, bytes_eq}
-use Rattle.std.specs.Prelude.{Result, Ok, Err, is_some, if◌then◌else◌, option_map}
+use Rattle.std.proofs.Common.{◌≡◌, inl, inr, ℕ, Bool, true, false, true≢false, List, [], ◌∷◌, Option, Some, None, refl, sym, ◌∙◌, ap, subst, Ordering, Less, Equal, Greater, nat_cmp, bytes_eq}
+use Rattle.std.specs.Prelude.{Ok, is_some, if◌then◌else◌, option_map}
 use Rattle.std.specs.Ordering.{match_ordering}
 use Rattle.std.specs.Cmp.Lexicographic.{slice_cmp}
 use Rattle.std.proofs.lemmas.Bool.{and_parts, cases_Bool}
 use Rattle.std.proofs.lemmas.Slice.Eq.{bytes_eq-Decides}
 use Rattle.serde_json.proofs.Views.{get_member-put, get_member-put_other}
-use Rattle.serde_json.specs.Data.{Data, Members, no_members, member, object, put}
+use Rattle.serde_json.specs.Data.{Data, Members, no_members, member, put}
 use Rattle.serde_json.specs.Find.{get, get_member}
-use Rattle.vehicle_file.specs.Fields.{Reading, ◌>>=◌, chosen, chosen_of, inside, needed, needed_of, object_of, stranger, under, unless_strange}
+use Rattle.vehicle_file.specs.Fields.{Reading, ◌>>=◌, chosen, chosen_of, needed, needed_of, object_of, stranger, under, unless_strange}
 use Rattle.vehicle_text.specs.Objects.{Fields, all_known, find, find_or, members_in, object_in, or_else}
 use Rattle.vehicle_text.proofs.Sorted.{normal, normal_into}
 

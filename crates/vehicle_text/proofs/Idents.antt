@@ -1,17 +1,17 @@
 -- Identifiers are read as they are written.
-use Rattle.std.proofs.Common.{◌≡◌, ◌⊎◌, inl, inr, ℕ, zero, suc, ◌+◌, ◌*◌, ◌/◌, ◌%◌, ◌<◌, ◌≤◌, Bool, true, false, List, [], ◌∷◌, ◌++◌, Option, Some, None, refl, sym, ◌∙◌, ap, arith, length, append_assoc, Ordering, Less, Equal, Greater, nat_cmp}
-use Rattle.std.specs.Prelude.{nat_le, nat_lt, ◌&&◌, ◌==◌, Ok, codes, slice_index, unwrap_or, if◌then◌else◌}
+use Rattle.std.proofs.Common.{◌≡◌, ◌⊎◌, inl, inr, ℕ, ◌+◌, ◌*◌, ◌/◌, ◌%◌, ◌<◌, Bool, true, false, List, [], ◌∷◌, ◌++◌, Option, Some, None, refl, sym, ◌∙◌, ap, arith, length, append_assoc, Equal, Greater, nat_cmp}
+use Rattle.std.specs.Prelude.{nat_le, nat_lt, ◌==◌, Ok, codes, slice_index, if◌then◌else◌}
 use Rattle.std.specs.List.{insert}
 use Rattle.std.specs.Ordering.{match_ordering, ordering_then}
 use Rattle.std.specs.Cmp.Lexicographic.{slice_cmp}
 use Rattle.std.proofs.lemmas.List.{append-nil}
-use Rattle.std.proofs.lemmas.Bool.{and_from, and_parts, cases_lt, eqb-true, lt-ltb, ltb-true}
-use Rattle.hex.specs.Hex.{IsBytes, encode_upper, encode_with, upper_digits}
-use Rattle.serde_json.specs.Data.{Data, Members, member, no_members, put}
+use Rattle.std.proofs.lemmas.Bool.{and_parts, cases_lt, ltb-true}
+use Rattle.hex.specs.Hex.{encode_with, upper_digits}
+use Rattle.serde_json.specs.Data.{Members, member, no_members, put}
 use Rattle.flash_base.specs.Lists.{Each}
 use Rattle.flash_base.specs.Numbers.{each_below}
 use Rattle.unit_model.specs.Idents.{all_short}
-use Rattle.vehicle_file.specs.Fields.{Reading, ◌>>=◌, bytes_up_to, chosen_of, four_digits, under}
+use Rattle.vehicle_file.specs.Fields.{bytes_up_to, chosen_of, under}
 use Rattle.vehicle_file.specs.Units.{ident, ident_at, ident_of, idents, idents_from, position_from}
 use Rattle.vehicle_text.specs.Forms.{bytes_data, four_text}
 use Rattle.vehicle_text.specs.Ranges.{FitsIdent}

@@ -1,8 +1,8 @@
 -- What is written nests no deeper than six objects and lists, and has numbers below 2^64 alone.
-use Rattle.std.proofs.Common.{◌≡◌, ℕ, suc, ◌+◌, ◌^◌, ◌<◌, Bool, true, false, List, [], ◌∷◌, ◌++◌, map, Option, Some, None, refl, arith, bytes_eq}
-use Rattle.std.specs.Prelude.{◌==◌, codes, not}
+use Rattle.std.proofs.Common.{ℕ, suc, ◌^◌, ◌<◌, Bool, true, false, List, [], ◌∷◌, map, Option, Some, None, refl, arith, bytes_eq}
+use Rattle.std.specs.Prelude.{◌==◌, not}
 use Rattle.std.proofs.lemmas.Bool.{and_from, lt-ltb}
-use Rattle.serde_json.specs.Data.{Data, array, object, string}
+use Rattle.serde_json.specs.Data.{Data, string}
 use Rattle.serde_json.specs.View.{items_of}
 use Rattle.flash_base.specs.Lists.{Each}
 use Rattle.flash_base.specs.declared.unit.KeyRule.{KeyRule}
@@ -22,7 +22,7 @@ use Rattle.vehicle_text.proofs.Sorted.{ArePlain, IsPlain, ItemsPlain}
 use Rattle.vehicle_text.specs.Forms.{bytes_data, flag_data, off_data, two_data, whole_data}
 use Rattle.vehicle_text.specs.Keys.{key_fields, key_given}
 use Rattle.vehicle_text.specs.Objects.{Fields, members_in, object_in, unless}
-use Rattle.vehicle_text.specs.Ranges.{FitsAct, FitsGate, FitsKey, FitsLast, FitsOpen, FitsRange, FitsRegion, FitsTransfer, FitsTrouble, FitsUnit, FitsVehicle}
+use Rattle.vehicle_text.specs.Ranges.{FitsAct, FitsGate, FitsKey, FitsLast, FitsRange, FitsRegion, FitsTransfer, FitsTrouble, FitsUnit, FitsVehicle}
 use Rattle.vehicle_text.specs.Texts.{vehicle_data, vehicle_fields}
 use Rattle.vehicle_text.specs.Troubles.{act_fields, gate_data, gate_fields, heard_fields, trouble_data, trouble_fields}
 use Rattle.vehicle_text.specs.Units.{bytes_given, idents_fields, idents_given, last_given, list_data, list_given, patch_data, patch_fields, range_data, range_fields, region_data, region_fields, taken_given, transfer_fields, transfer_given, unit_data, unit_fields}

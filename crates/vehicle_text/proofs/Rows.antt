@@ -1,19 +1,18 @@
 -- Lists are read as they are written.
-use Rattle.std.proofs.Common.{◌≡◌, ◌⊎◌, inl, inr, ℕ, zero, suc, ◌+◌, ◌^◌, ◌<◌, ◌≤◌, Bool, true, false, List, [], ◌∷◌, ◌++◌, map, Option, Some, None, refl, sym, ◌∙◌, ap, arith, length, append_assoc, Ordering, Less, Equal, Greater, nat_cmp}
-use Rattle.std.specs.Prelude.{nat_le, nat_lt, not, ◌&&◌, ◌||◌, ◌==◌, Ok, codes, decimal, slice_index, if◌then◌else◌}
-use Rattle.std.specs.List.{insert}
+use Rattle.std.proofs.Common.{◌≡◌, ℕ, ◌+◌, ◌≤◌, Bool, true, false, List, [], ◌∷◌, ◌++◌, map, refl, sym, ◌∙◌, ap, arith, append_assoc}
+use Rattle.std.specs.Prelude.{nat_le, ◌&&◌, ◌||◌, Ok, codes, decimal}
 use Rattle.std.proofs.lemmas.List.{append-nil}
-use Rattle.std.proofs.lemmas.Bool.{and_from, and_parts, cases_lt, le-leb, leb-true, lt-ltb, ltb-true}
-use Rattle.serde_json.specs.Data.{Data, Items, item, no_items, array, Members, member, no_members, object, put}
+use Rattle.std.proofs.lemmas.Bool.{and_from, and_parts, le-leb, leb-true}
+use Rattle.serde_json.specs.Data.{Data}
 use Rattle.serde_json.specs.View.{items_of}
 use Rattle.flash_base.specs.Lists.{Each}
 use Rattle.unit_model.specs.RegionTests.{LIMIT, all_apart, apart_from, is_apart, spec_extents}
 use Rattle.unit_model.specs.Rules.{is_range}
 use Rattle.unit_model.specs.declared.spec.RegionSpec.{RegionSpec}
-use Rattle.vehicle_file.specs.Fields.{Reading, LAST_COUNT, ◌>>=◌, chosen_of, entries_from, list_of, needed, object_of, place, two, under, whole, hold_to}
+use Rattle.vehicle_file.specs.Fields.{Reading, LAST_COUNT, chosen_of, entries_from, list_of, object_of, place, two, under, hold_to}
 use Rattle.vehicle_file.specs.Units.{is_region_member, lies_well, region, region_members, regions, regions_from, size}
-use Rattle.vehicle_text.specs.Forms.{bytes_data, place_data, two_data, whole_data}
-use Rattle.vehicle_text.specs.Objects.{Fields, object_in}
+use Rattle.vehicle_text.specs.Forms.{place_data, two_data, whole_data}
+use Rattle.vehicle_text.specs.Objects.{Fields}
 use Rattle.vehicle_text.specs.Ranges.{FitsRegion}
 use Rattle.vehicle_text.specs.Units.{list_data, list_given, region_data, region_fields}
 use Rattle.vehicle_text.proofs.Digits.{place_is, two_is, whole_is}

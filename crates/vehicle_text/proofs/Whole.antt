@@ -1,11 +1,10 @@
 -- Units and vehicles are read as they are written.
-use Rattle.std.proofs.Common.{◌≡◌, ◌⊎◌, inl, inr, ℕ, zero, suc, ◌+◌, ◌^◌, ◌<◌, ◌≤◌, Bool, true, false, List, [], ◌∷◌, ◌++◌, map, Option, Some, None, refl, sym, ◌∙◌, ap, arith, length, append_assoc, bytes_eq}
+use Rattle.std.proofs.Common.{◌≡◌, ℕ, suc, ◌+◌, ◌^◌, ◌<◌, ◌≤◌, Bool, true, false, List, [], ◌∷◌, ◌++◌, map, Option, Some, None, refl, sym, ◌∙◌, ap, arith, length, append_assoc, bytes_eq}
 use Rattle.std.specs.Prelude.{nat_le, nat_lt, not, ◌-◌, ◌&&◌, ◌==◌, Ok, Err, codes, decimal, if◌then◌else◌, IsTrue}
 use Rattle.std.proofs.lemmas.List.{append-nil}
-use Rattle.std.proofs.lemmas.Bool.{and_from, and_parts, cases_Bool, eqb-true, le-leb, leb-true, ltb-true}
+use Rattle.std.proofs.lemmas.Bool.{and_from, and_parts, eqb-true, le-leb, leb-true, ltb-true}
 use Rattle.std.proofs.lemmas.Slice.Eq.{bytes_eq-Decides}
-use Rattle.hex.specs.Hex.{IsBytes}
-use Rattle.serde_json.specs.Data.{Data, array, object}
+use Rattle.serde_json.specs.Data.{Data}
 use Rattle.serde_json.specs.View.{items_of}
 use Rattle.flash_base.specs.ByteMaps.{has_each}
 use Rattle.flash_base.specs.Lists.{Each}
@@ -13,7 +12,7 @@ use Rattle.flash_base.specs.declared.unit.KeyRule.{KeyRule}
 use Rattle.flash_base.specs.declared.unit.KeyRule.TheVariants.{Free, Xor, Digest}
 use Rattle.unit_model.specs.Regions.{filled}
 use Rattle.unit_model.specs.RegionTests.{LIMIT}
-use Rattle.unit_model.specs.Rules.{all_inside, all_ranges, is_kind, is_range, is_rule, is_seed, last_in, transfer_in}
+use Rattle.unit_model.specs.Rules.{all_inside, all_ranges, is_kind, is_range, is_rule, last_in, transfer_in}
 use Rattle.unit_model.specs.Running.{IsUnitSpec}
 use Rattle.unit_model.specs.Troubles.{all_troubles, is_trouble}
 use Rattle.unit_model.specs.declared.spec.PatchSpec.{PatchSpec}
@@ -24,17 +23,17 @@ use Rattle.unit_model.specs.declared.unit.Transfer.{Transfer}
 use Rattle.gateway_sim.specs.Troubles as gates
 use Rattle.gateway_sim.specs.Troubles.{MOST_TROUBLES}
 use Rattle.gateway_sim.specs.declared.spec.GatewayTrouble.{GatewayTrouble}
-use Rattle.vehicle_file.specs.Fields.{Reading, LAST_COUNT, ◌>>=◌, any_bytes, bytes_to, chosen, chosen_of, end_place, entries_from, flag, four, hold_to, is_off, list_of, needed, object_of, place, refused, two, under, whole}
-use Rattle.vehicle_file.specs.Files.{address_in, few_of, is_few, is_vehicle_member, vehicle, vehicle_from, vehicle_members}
+use Rattle.vehicle_file.specs.Fields.{Reading, LAST_COUNT, any_bytes, bytes_to, chosen_of, end_place, entries_from, flag, four, hold_to, is_off, list_of, object_of, place, refused, two, under, whole}
+use Rattle.vehicle_file.specs.Files.{few_of, is_vehicle_member, vehicle, vehicle_from, vehicle_members}
 use Rattle.vehicle_file.specs.Keys.{key_rule}
-use Rattle.vehicle_file.specs.Troubles.{few_troubles, gate_trouble, gate_troubles, item_count, trouble, troubles}
-use Rattle.vehicle_file.specs.Units.{checked_range, has_address, idents, is_patch_member, is_range_member, is_transfer_member, is_unit_member, last_block, layout, lies_in, new_address, past, patch, patch_members, range_members, regions, rules_at, seed_given, session, size, some_length, state, transfer, transfer_members, unit, unit_members, unit_of, units, units_from}
+use Rattle.vehicle_file.specs.Troubles.{gate_trouble, gate_troubles, item_count, trouble, troubles}
+use Rattle.vehicle_file.specs.Units.{checked_range, has_address, idents, is_patch_member, is_range_member, is_transfer_member, is_unit_member, last_block, layout, lies_in, new_address, past, patch, patch_members, range_members, regions, rules_at, seed_given, session, size, some_length, state, transfer, transfer_members, unit, unit_members, units, units_from}
 use Rattle.vehicle_file.specs.declared.fault.BenchFault.TheVariants as bench
 use Rattle.vehicle_file.specs.declared.vehicle.VehicleSpec.{VehicleSpec}
-use Rattle.vehicle_text.specs.Forms.{bytes_data, flag_data, four_data, off_data, place_data, two_data, whole_data}
+use Rattle.vehicle_text.specs.Forms.{bytes_data, four_data, place_data, two_data, whole_data}
 use Rattle.vehicle_text.specs.Keys.{key_data, key_given}
-use Rattle.vehicle_text.specs.Objects.{Fields, find, object_in, or_else, unless}
-use Rattle.vehicle_text.specs.Ranges.{FitsBytes, FitsGate, FitsIdent, FitsKey, FitsLayout, FitsPast, FitsPatch, FitsRegion, FitsRules, FitsState, FitsTransfer, FitsTrouble, FitsUnit, FitsVehicle}
+use Rattle.vehicle_text.specs.Objects.{Fields, object_in, or_else, unless}
+use Rattle.vehicle_text.specs.Ranges.{FitsBytes, FitsGate, FitsKey, FitsPatch, FitsTransfer, FitsTrouble, FitsUnit, FitsVehicle}
 use Rattle.vehicle_text.specs.Texts.{IsSaid, IsSaidUnit, lie_low, new_from, vehicle_data, vehicle_fields}
 use Rattle.vehicle_text.specs.Troubles.{gate_data, trouble_data}
 use Rattle.vehicle_text.specs.Units.{bytes_given, flag_given, idents_given, last_given, list_data, list_given, off_given, patch_data, patch_fields, range_data, range_fields, region_data, taken_given, transfer_fields, transfer_given, unit_data, unit_fields}
@@ -43,7 +42,7 @@ use Rattle.vehicle_text.proofs.Digits.{any_bytes_are, bytes_to_are, end_place_is
 use Rattle.vehicle_text.proofs.Finding.{bind, chosen_is, given_is, needed_is, normal_some, object_is, read_in}
 use Rattle.vehicle_text.proofs.Sorted.{normal, normal_items}
 use Rattle.vehicle_text.proofs.Idents.{given_idents}
-use Rattle.vehicle_text.proofs.Rows.{each_with, given_list, list_is, regions_are, size_is}
+use Rattle.vehicle_text.proofs.Rows.{given_list, list_is, regions_are, size_is}
 
 -- ------ bytes and ranges
 patch_is : (rs : List RegionSpec) (p : PatchSpec) → (nat_lt p.at LIMIT && nat_le (p.at + length p.bytes) LIMIT) ≡ true → has_each p.at (length p.bytes) (filled rs) ≡ true → FitsPatch p

@@ -1,5 +1,5 @@
 -- The ranges that the types of a vehicle's parts keep.
-use Rattle.std.specs.Prelude.{ℕ, ◌<◌, ◌^◌, List, Option, Some, None, slice_index}
+use Rattle.std.specs.Prelude.{ℕ, ◌<◌, ◌^◌, List, Option, Some, None}
 use Rattle.hex.specs.Hex.{IsBytes}
 use Rattle.flash_base.specs.Lists.{Each}
 use Rattle.flash_base.specs.declared.unit.KeyRule.{KeyRule}

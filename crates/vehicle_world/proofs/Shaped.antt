@@ -1,5 +1,5 @@
 -- No call changes the address of a unit, its identifiers, or how many bytes it has.
-use Rattle.std.proofs.Common.{◌≡◌, inl, inr, ℕ, suc, Bool, true, false, List, [], ◌∷◌, map, take, length, Option, Some, None, refl, sym, ◌∙◌, ap}
+use Rattle.std.proofs.Common.{◌≡◌, inl, inr, ℕ, suc, Bool, true, false, List, [], ◌∷◌, map, take, length, Option, Some, None, refl, ◌∙◌, ap}
 use Rattle.std.specs.Prelude.{◌||◌, ◌==◌, nat_lt, not, ◌+◌, Result, OnOk, OnErr, Ok, Err, if◌then◌else◌}
 use Rattle.std.proofs.lemmas.Bool.{cases_Bool}
 use Rattle.doip_frame.specs.declared.frame.Bad.{Bad}

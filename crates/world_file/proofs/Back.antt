@@ -1,8 +1,8 @@
 -- What is saved is read again.
 use Rattle.std.proofs.Common.{◌≡◌, List, [], ◌∷◌, map, refl, sym, ◌∙◌, ap}
-use Rattle.std.specs.Prelude.{ℕ, Ok, Err, Result}
+use Rattle.std.specs.Prelude.{ℕ, Ok, Result}
 use Rattle.unit_model.specs.declared.spec.UnitSpec.{UnitSpec}
-use Rattle.unit_sim.specs.Sims.{Sim, made_of as sim_made}
+use Rattle.unit_sim.specs.Sims.{made_of as sim_made}
 use Rattle.vehicle_file.specs.Files.{vehicle_of}
 use Rattle.vehicle_file.specs.declared.vehicle.VehicleSpec as file
 use Rattle.vehicle_text.specs.Texts.{IsSaid, text_of}
@@ -11,7 +11,7 @@ use Rattle.vehicle_world.specs.States.{State, unit_in}
 use Rattle.vehicle_world.specs.Worlds.{Saves, Simulated, made_of, simulated}
 use Rattle.vehicle_world.specs.declared.spec.VehicleSpec.{VehicleSpec}
 use Rattle.world_file.specs.Said.{IsSaidWorld, all_settled}
-use Rattle.world_file.specs.Saves.{IsRead, IsSave, ReadsBack, said_by, spec_in}
+use Rattle.world_file.specs.Saves.{IsSave, ReadsBack, said_by, spec_in}
 use Rattle.world_file.proofs.Sizes.{is_said, saved_shapes, settled_unit}
 
 made_units : (us : List UnitSpec) → map unit_in (map sim_made (all_settled us)) ≡ map unit_in (map sim_made us)

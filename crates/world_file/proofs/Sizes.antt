@@ -1,6 +1,6 @@
 -- A vehicle as a spec has the shapes that it has.
 use Rattle.std.proofs.Common.{◌≡◌, ◌⊎◌, inl, inr, ℕ, zero, suc, ◌+◌, ◌<◌, ◌≤◌, Bool, true, false, List, [], ◌∷◌, ◌++◌, map, length, replicate, refl, sym, ◌∙◌, ap, subst, arith}
-use Rattle.std.specs.Prelude.{◌&&◌, ◌||◌, ◌==◌, filter, is_some, not, nat_le, nat_lt, if◌then◌else◌, Option, IsTrue}
+use Rattle.std.specs.Prelude.{◌&&◌, ◌||◌, ◌==◌, filter, is_some, not, nat_le, nat_lt, Option, IsTrue}
 use Rattle.std.proofs.lemmas.Bool.{and_from, and_parts, cases_Bool, cases_lt, le-leb, leb-true, lt-ltb, ltb-true}
 use Rattle.std.proofs.lemmas.List.{length-append, length-replicate, map-append}
 use Rattle.flash_base.specs.ByteMaps.{MemoryMap, byte_at, has_each, put}
@@ -17,7 +17,7 @@ use Rattle.unit_sim.specs.Sims.{Sim}
 use Rattle.vehicle_file.specs.Files as file
 use Rattle.vehicle_file.specs.Units.{has_address}
 use Rattle.vehicle_text.specs.Texts.{IsSaid, IsSaidUnit, ascend, lie_low, new_from}
-use Rattle.vehicle_world.specs.Saving.{IsVehicleSpec, SavesUnit, SaveUnits, address_in}
+use Rattle.vehicle_world.specs.Saving.{IsVehicleSpec, SaveUnits, address_in}
 use Rattle.vehicle_world.specs.Shapes.{Shape, shape}
 use Rattle.vehicle_world.specs.States.{unit_in}
 use Rattle.vehicle_world.specs.declared.spec.VehicleSpec.{VehicleSpec}
