@@ -176,8 +176,8 @@ impl Told {
         self.link_calls += 1;
         self.linked = linked;
         if answer.is_err() {
-            self.link_faults = self.link_faults.saturating_add(1);
             self.starved += 1;
+            self.link_faults = self.link_faults.saturating_add(1);
         }
         answer
     }
