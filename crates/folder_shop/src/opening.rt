@@ -7,7 +7,8 @@ ghost use Rattle.folder_shop.specs.Moments.{tick_of};
 use crate::fault::BenchFault;
 use bench_files::BenchFiles;
 use call_log::{Calls, LinkCall, calls_of, head};
-use flash_base::{Bytes, NoMemory};
+use flash_base::{Bytes, Items, NoMemory};
+use gateway_sim::GatewaySpec;
 use sha2::{Digest, Sha256};
 use std::alloc::Global;
 use std::fs::File;
@@ -41,7 +42,13 @@ pub(crate) fn head_on(alloc: Global, bytes: &[u8]) -> Result<Bytes, NoMemory> {
 fn bare(alloc: Global) -> Result<World, NoMemory>
     ensures { IfOk result (λ w. tick_of w ≡ 0) }
 {
-    World::new(alloc, &VehicleSpec { entity: ENTITY })
+    let gateway = GatewaySpec {
+        entity: ENTITY,
+        gateway: Items::new(alloc),
+        units: Items::new(alloc),
+    };
+    let units = Items::new(alloc);
+    World::new(alloc, &VehicleSpec { gateway, units })
 }
 
 /// The vehicle of these bytes.
