@@ -17,7 +17,7 @@ use std::fs::File;
 use std::rt::Files as FileSystem;
 use std::snapshot::Snapshot;
 use unit_model::Got;
-use vehicle_world::World;
+use vehicle_world::{World, nothing_sent};
 
 /// The journal of a folder, and the vehicle of its files. Whenever the process ends, the files hold the vehicle as it
 /// was behind the last call of the link that had returned, or behind the one under way.
@@ -240,6 +240,7 @@ impl<R: FileSystem<File = File> + Drop> Shop for BenchShop<R> {
 
     fn send(&mut self, bytes: &[u8]) -> Result<(), DeviceFault> {
         if self.told.is_over() {
+            nothing_sent(&self.world);
             return self.told.late_link_call();
         }
         let world = Snapshot::of(&self.world);
