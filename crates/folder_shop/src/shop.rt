@@ -183,8 +183,11 @@ fn done(went: bool) -> Option<()> {
 }
 
 impl<R: FileSystem<File = File> + Drop> Shop for BenchShop<R> {
-    ghost use Rattle.std.specs.Prelude.{true, false};
-    ghost use Rattle.folder_shop.specs.Shops.{history_of, nothing_left};
+    ghost use Rattle.std.proofs.Common.{arith};
+    ghost use Rattle.std.specs.Prelude.{◌≡◌, ◌≤◌, ◌<◌, ◌↔◌, true, false, length, IfOk, IsOk, IsTrue};
+    ghost use Rattle.flash_base.specs.Counts.{Rises};
+    ghost use Rattle.shop_model.specs.History.{LAST, LinkCall as IsLinkCall, Send, Receive, Redial, Sent, Received, Redialed, IsPiece, vehicle_now};
+    ghost use Rattle.folder_shop.specs.Shops.{history_of, nothing_left, FailsHungry};
 
     ghost tells_disk = { false };
 
@@ -196,7 +199,7 @@ impl<R: FileSystem<File = File> + Drop> Shop for BenchShop<R> {
 
     ghost readable = { λ s m. nothing_left };
 
-    ghost stepped = { λ s m told lt. s.steps m lt };
+    ghost stepped = { λ s m told lt. s.steps m (omega (arith, lt, s.told.depth)) };
 
     fn len(&mut self) -> Result<u64, DeviceFault> {
         if self.told.is_over() {
@@ -238,7 +241,16 @@ impl<R: FileSystem<File = File> + Drop> Shop for BenchShop<R> {
         self.told.disk_call(Made::Sync, world, answer, hungry)
     }
 
-    fn send(&mut self, bytes: &[u8]) -> Result<(), DeviceFault> {
+    fn send(&mut self, bytes: &[u8]) -> Result<(), DeviceFault>
+        requires linked { IsTrue (history_of self.old).linked }
+        requires some { 1 ≤ length bytes.now }
+        requires few { length bytes.now ≤ 65600 }
+        ensures call { IsLinkCall (Send bytes.now) (history_of self.old) (history_of self.new) result }
+        ensures linked { (history_of self.new).linked ≡ (history_of self.old).linked }
+        ensures vehicle { Sent bytes.now (vehicle_now (history_of self.old)) (vehicle_now (history_of self.new))
+            result }
+        ensures exact { FailsHungry self.old.told self.new.told result }
+    {
         if self.told.is_over() {
             nothing_sent(&self.world);
             return self.told.late_link_call();
@@ -252,7 +264,16 @@ impl<R: FileSystem<File = File> + Drop> Shop for BenchShop<R> {
             .link_call(Made::Send(seen(bytes)), world, answer, linked)
     }
 
-    fn receive(&mut self, out: &mut [u8]) -> Result<Got, DeviceFault> {
+    fn receive(&mut self, out: &mut [u8]) -> Result<Got, DeviceFault>
+        requires linked { IsTrue (history_of self.old).linked }
+        requires room { 1 ≤ length out.old }
+        ensures call { IsLinkCall Receive (history_of self.old) (history_of self.new) result }
+        ensures linked { (history_of self.new).linked ≡ (history_of self.old).linked }
+        ensures piece { IfOk result (IsPiece (length out.old)) }
+        ensures vehicle { Received out.new (Unit {0}) (vehicle_now (history_of self.old))
+            (vehicle_now (history_of self.new)) result }
+        ensures exact { FailsHungry self.old.told self.new.told result }
+    {
         if self.told.is_over() {
             return self.told.late_link_call();
         }
@@ -264,7 +285,14 @@ impl<R: FileSystem<File = File> + Drop> Shop for BenchShop<R> {
         self.told.link_call(Made::Receive, world, answer, linked)
     }
 
-    fn redial(&mut self) -> Result<(), DeviceFault> {
+    fn redial(&mut self) -> Result<(), DeviceFault>
+        ensures call { IsLinkCall Redial (history_of self.old) (history_of self.new) result }
+        ensures linked { (history_of self.old).moment < LAST → IsTrue (history_of self.new).linked ↔ IsOk result }
+        ensures last { (history_of self.old).moment ≡ LAST
+            → (history_of self.new).linked ≡ (history_of self.old).linked }
+        ensures vehicle { Redialed (vehicle_now (history_of self.old)) (vehicle_now (history_of self.new)) result }
+        ensures exact { FailsHungry self.old.told self.new.told result }
+    {
         if self.told.is_over() {
             return self.told.late_link_call();
         }

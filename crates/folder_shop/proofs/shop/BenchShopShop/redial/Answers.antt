@@ -15,7 +15,7 @@ returns-clause-call g c =
     (c.link_call.ensures.call (vehicle_of c.redial-answer.new.world))
 
 pub returns-clause-vehicle : goal.returns-clause-vehicle
-returns-clause-vehicle g c = λ told.
+returns-clause-vehicle g c =
     between (λ a b r. Redialed a b r) c.args.self.now.told c.link_call.new.self
     c.args.self.now.world c.keep-may.new.self.world c.redial-answer.new.world c.redial-answer.result
     c.link_call.result c.keep-may.ensures.world c.link_call.ensures.same c.redial-answer.ensures.redialed

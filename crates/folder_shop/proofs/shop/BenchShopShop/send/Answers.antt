@@ -9,7 +9,7 @@ returns-then-is_over-clause-call g c =
     c.late_link_call.ensures.call (Send c.args.bytes.now) (vehicle_of c.args.self.now.world)
 
 pub returns-then-is_over-clause-vehicle : goal.returns-then-is_over-clause-vehicle
-returns-then-is_over-clause-vehicle g c = λ told.
+returns-then-is_over-clause-vehicle g c =
     late_sent c.args.bytes.now c.args.self.now.told c.late_link_call.new.self c.args.self.now.world
     c.late_link_call.result c.nothing_sent.ensures c.late_link_call.ensures.fails
 
@@ -21,7 +21,7 @@ returns-clause-call g c =
     (c.link_call.ensures.call (vehicle_of c.send-answer.new.world))
 
 pub returns-clause-vehicle : goal.returns-clause-vehicle
-returns-clause-vehicle g c = λ told.
+returns-clause-vehicle g c =
     between (λ a b r. Sent c.args.bytes.now a b r) c.args.self.now.told c.link_call.new.self
     c.args.self.now.world c.keep_send-may.new.self.world c.send-answer.new.world c.send-answer.result
     c.link_call.result c.keep_send-may.ensures.world c.link_call.ensures.same c.send-answer.ensures.sent
