@@ -10,3 +10,4 @@ mod record;
 
 pub use disk::MemDisk;
 pub use disk_model::Pick;
+pub use record::{Made, Said, seen};

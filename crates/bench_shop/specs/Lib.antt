@@ -1,0 +1,5 @@
+pub mod Benches
+pub mod Deeds
+pub mod Faults
+pub mod Pasts
+pub mod Shops
