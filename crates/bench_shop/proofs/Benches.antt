@@ -76,18 +76,22 @@ noted_over at m now was before lt = ∣ then_behind at m now was before lt ∣�
 
 -- ------ what was noted was done, or failed on the way
 pub any_over : (moment m : ℕ) (deed : Deed) (old mid : Bench) (now : Simulated) → Noted moment deed old mid
-    → moment < m → ∥ world_in mid.past now m ≡ now ∥₁
-any_over moment m deed old mid now noted lt = ∣ noted.behind now m lt ∣₁
+    → mid.reach < m → ∥ world_in mid.past now m ≡ now ∥₁
+any_over moment m deed old mid now noted lt = ∣ noted.behind now m (omega (arith, noted.reach, lt)) ∣₁
+
+pub never_over : (moment m : ℕ) (deed : Deed) (old mid : Bench) (now : Simulated) → Noted moment deed old mid
+    → moment < 2 ^ 63 → 2 ^ 64 - 1 < m → ∥ world_in mid.past now m ≡ now ∥₁
+never_over moment m deed old mid now noted small lt = ∣ noted.behind now m (omega (arith, small, lt)) ∣₁
 
 pub went_steps : (moment : ℕ) (deed : Deed) (old mid : Bench) (now : Simulated) → Noted moment deed old mid
     → last_of old.past ≤ moment → ((v : Vehicle) → StepsUnits v v)
-    → StepsUnits (world_of old.world).vehicle now.vehicle → AreSteps mid.past now
+    → StepsUnits (world_of mid.world).vehicle now.vehicle → AreSteps mid.past now
 went_steps moment deed old mid now noted last same steps m = elim (cases_order m moment) [
   | inl is ↦ between (world_of old.world) now (world_in mid.past now m) (world_in mid.past now (m + 1))
       (noted.before now m (omega (arith, is))
         ∙ world_after old.past (world_of old.world) m (omega (arith, is, last)))
       (noted.behind now (m + 1) (omega (arith, is)))
-      ∣ steps ∣₁
+      ∣ subst (λ (w : World). StepsUnits (world_of w).vehicle now.vehicle) noted.world steps ∣₁
   | inr (inl lt) ↦ between (world_at old m) (world_at old (m + 1))
       (world_in mid.past now m) (world_in mid.past now (m + 1))
       (noted.before now m (omega (arith, lt))) (noted.before now (m + 1) (omega (arith, lt))) (old.steps m)
@@ -111,17 +115,18 @@ failed_replays moment m deed old mid now noted small le =
     until_replays moment m deed old mid now noted (omega (arith, le, noted.reach)) small
 
 behind_replays : (moment m : ℕ) (deed : Deed) (old mid : Bench) (now : Simulated) → Noted moment deed old mid
-    → moment < m → m ≤ 2 ^ 64 - 1 → last_of old.past ≤ moment → now ≡ does deed (world_of old.world)
+    → moment < m → m ≤ 2 ^ 64 - 1 → last_of old.past ≤ moment → now ≡ does deed (world_of mid.world)
     → ∥ replayed mid.entries.items m (made_of mid.start) ≡ world_in mid.past now m ∥₁
 behind_replays moment m deed old mid now noted lt few last is =
     ∥∥₁_map (old.replays m (omega (arith, few, noted.whole))) (λ same.
       (λ i. replayed (noted.entries i) m (made_of (noted.start i)))
       ∙ replayed_behind old.entries.items (record { moment = moment; deed = deed }) m (made_of old.start) lt
       ∙ ap (does deed) (same ∙ world_after old.past (world_of old.world) m (omega (arith, lt, last)))
-      ∙ sym is ∙ sym (noted.behind now m lt))
+      ∙ sym (is ∙ ap (λ (w : World). does deed (world_of w)) noted.world)
+      ∙ sym (noted.behind now m lt))
 
 pub went_replays : (moment m : ℕ) (deed : Deed) (old mid : Bench) (now : Simulated) → Noted moment deed old mid
-    → moment < 2 ^ 63 → last_of old.past ≤ moment → now ≡ does deed (world_of old.world) → m ≤ 2 ^ 64 - 1
+    → moment < 2 ^ 63 → last_of old.past ≤ moment → now ≡ does deed (world_of mid.world) → m ≤ 2 ^ 64 - 1
     → ∥ replayed mid.entries.items m (made_of mid.start) ≡ world_in mid.past now m ∥₁
 went_replays moment m deed old mid now noted small last is few = elim (cases_lt moment m) [
   | inl lt ↦ behind_replays moment m deed old mid now noted lt few last is
