@@ -46,7 +46,7 @@ impl Bench {
     ghost use Rattle.std.specs.Prelude.{◌≡◌, ◌+◌, ◌-◌, ◌≤◌, ◌<◌, ◌^◌, ◌↔◌, true, false, IfOk, OnOk, IsTrue, length, min, take};
     ghost use Rattle.std.specs.Bool.{OnTrue, OnFalse};
     ghost use Rattle.shop_model.specs.History.{Sent, Received, Redialed, IsPiece};
-    ghost use Rattle.vehicle_world.specs.Worlds.{IsFresh};
+    ghost use Rattle.vehicle_world.specs.Worlds.{fed, garbled, polled, redialed_world, IsFresh};
     ghost use Rattle.bench_shop.specs.declared.entry.Deed.TheVariants.{Fed, Garbled};
     ghost use Rattle.bench_shop.specs.Benches.{world_at, FailsHungry, Hungers, IsAnew, IsNewBench, Noted, Went};
     ghost use Rattle.bench_shop.specs.Pasts.{last_of, tick_of, vehicle_of};
@@ -56,6 +56,7 @@ impl Bench {
         requires { IsFresh (world_of world) }
         ensures { IfOk result (IsNewBench (world_of world)) }
     {
+        each_link_call_is_unit_steps();
         let start = world.spec(alloc)?;
         Ok(Bench {
             alloc,
@@ -151,6 +152,7 @@ impl Bench {
         requires last { last_of self.old.past ≤ moment }
         requires moment { moment < 2 ^ 63 }
         requires hungry { self.old.hungry < 2 ^ 63 }
+        ensures does { OnOk result (world_of self.new.world ≡ fed bytes.now (world_of self.old.world)) }
         ensures sent { Sent bytes.now (vehicle_of self.old.world) (vehicle_of self.new.world) result }
         ensures went { Went moment self.old self.new }
         ensures exact { FailsHungry may self.old self.new result }
@@ -183,6 +185,7 @@ impl Bench {
         requires moment { moment < 2 ^ 63 }
         requires hungry { self.old.hungry < 2 ^ 63 }
         requires room { 1 ≤ length out.old }
+        ensures does { OnOk result (world_of self.new.world ≡ polled (length out.old) (world_of self.old.world)) }
         ensures piece { IfOk result (IsPiece (length out.old)) }
         ensures received { Received out.new (Unit {0}) (vehicle_of self.old.world) (vehicle_of self.new.world) result }
         ensures went { Went moment self.old self.new }
@@ -221,6 +224,8 @@ impl Bench {
         requires hungry { self.old.hungry < 2 ^ 63 }
         requires some { 1 ≤ length piece.now }
         requires room { 1 ≤ length out.old }
+        ensures does { OnOk result (world_of self.new.world
+            ≡ garbled (take (min (length piece.now) (length out.old)) piece.now) (world_of self.old.world)) }
         ensures piece { IfOk result (λ got. got ≡ Got.Bytes (min (length piece.now) (length out.old))) }
         ensures bytes { OnOk result (take (min (length piece.now) (length out.old)) out.new
             ≡ take (min (length piece.now) (length out.old)) piece.now) }
@@ -256,6 +261,7 @@ impl Bench {
         requires last { last_of self.old.past ≤ moment }
         requires moment { moment < 2 ^ 63 }
         requires hungry { self.old.hungry < 2 ^ 63 }
+        ensures does { OnOk result (world_of self.new.world ≡ redialed_world (world_of self.old.world)) }
         ensures redialed { Redialed (vehicle_of self.old.world) (vehicle_of self.new.world) result }
         ensures went { Went moment self.old self.new }
         ensures exact { FailsHungry may self.old self.new result }
@@ -287,17 +293,24 @@ impl Bench {
         Ok(world)
     }
 
+    // The vehicle of a moment on a new connection, at tick 0, as a spec.
+    fn spec_at(&self, alloc: Global, moment: u64) -> Result<VehicleSpec, NoMemory>
+        ensures form { IfOk result IsVehicleSpec }
+        ensures is { IfOk result (λ spec. IsAnew self.now moment (made_of spec).vehicle) }
+    {
+        if self.reach < moment {
+            return self.world.spec(alloc);
+        }
+        let world = self.replay(alloc, moment)?;
+        world.spec(alloc)
+    }
+
     /// The vehicle of a moment on a new connection, at tick 0.
     pub(crate) fn at(&self, alloc: Global, moment: u64) -> Result<World, NoMemory>
         ensures fresh { IfOk result (λ w. IsFresh (world_of w)) }
         ensures is { IfOk result (λ w. IsAnew self.now moment (vehicle_of w)) }
     {
-        let spec = if self.reach < moment {
-            self.world.spec(alloc)?
-        } else {
-            let world = self.replay(alloc, moment)?;
-            world.spec(alloc)?
-        };
+        let spec = self.spec_at(alloc, moment)?;
         World::new(alloc, &spec)
     }
 }

@@ -1,6 +1,6 @@
 //! The record of what link calls did to the vehicle.
 
-ghost use Rattle.std.specs.Prelude.{◌≡◌, ◌+◌, ◌-◌, ◌<◌, ◌^◌, OnOk};
+ghost use Rattle.std.specs.Prelude.{◌≡◌, ◌+◌, ◌≤◌, ◌<◌, ◌^◌, OnOk};
 ghost use Rattle.bench_shop.specs.Deeds.{does};
 ghost use Rattle.bench_shop.specs.Pasts.{tick_of};
 ghost use Rattle.vehicle_world.specs.Worlds.{polled, world_of};
@@ -28,13 +28,16 @@ pub struct Entry {
     pub deed: Deed,
 }
 
-/// Takes a piece with room for one byte more than this, and drops it.
+/// Takes a piece with room for one byte more than this, and drops it. There is no memory for 2^64 bytes.
 fn poll_again(alloc: Global, world: &mut World, room: u64) -> Result<(), NoMemory>
     requires early { tick_of world.old < 2 ^ 63 }
-    requires room { room < 2 ^ 64 - 1 }
-    ensures { OnOk result (world_of world.new ≡ polled (room + 1) (world_of world.old)) }
+    ensures does { OnOk result (world_of world.new ≡ polled (room + 1) (world_of world.old)) }
+    ensures tick { OnOk result (tick_of world.new ≤ tick_of world.old + 1) }
 {
-    let mut out = vec![in alloc; 0u8; room as usize + 1]?;
+    let Some(size) = room.checked_add(1) else {
+        return Err(NoMemory);
+    };
+    let mut out = vec![in alloc; 0u8; size as usize]?;
     world.poll(&mut out)?;
     Ok(())
 }
@@ -42,7 +45,8 @@ fn poll_again(alloc: Global, world: &mut World, room: u64) -> Result<(), NoMemor
 /// Does a deed once more.
 pub(crate) fn again(alloc: Global, world: &mut World, deed: &Deed) -> Result<(), NoMemory>
     requires early { tick_of world.old < 2 ^ 63 }
-    ensures { OnOk result (world_of world.new ≡ does deed.now (world_of world.old)) }
+    ensures does { OnOk result (world_of world.new ≡ does deed.now (world_of world.old)) }
+    ensures tick { OnOk result (tick_of world.new ≤ tick_of world.old + 1) }
 {
     match deed {
         Deed::Fed(bytes) => world.feed(bytes.as_slice()),
