@@ -1,17 +1,19 @@
 -- What is known of a bench, behind a deed that was noted and behind one that was done.
-use Rattle.std.proofs.Common.{◌≡◌, inl, inr, ℕ, ◌+◌, ◌-◌, ◌≤◌, ◌<◌, ◌^◌, true, false, List, [], ◌∷◌, ◌++◌, refl, sym, ◌∙◌, ap, subst, arith}
+use Rattle.std.proofs.Common.{◌≡◌, inl, inr, ℕ, ◌+◌, ◌-◌, ◌≤◌, ◌<◌, ◌^◌, true, false, List, [], ◌∷◌, ◌++◌, refl, sym, ◌∙◌, ap, subst, arith, Result, Ok, Err, IfOk}
 use Rattle.std.proofs.lemmas.Bool.{lt-ltb, le-ltb, cases_lt, cases_order}
 use Rattle.std.specs.Prelude.{nat_lt, if◌then◌else◌}
 use mathlib.Core.Logic.{∥∥₁_map}
 use Rattle.unit_model.specs.Vehicle.{Vehicle}
 use Rattle.shop_model.specs.Stepping.{StepsUnits}
+use Rattle.vehicle_world.specs.Saving.{anew}
 use Rattle.vehicle_world.specs.Worlds.{Simulated, made_of, world_of}
+use Rattle.vehicle_world.specs.declared.spec.VehicleSpec.{VehicleSpec}
 use Rattle.vehicle_world.specs.declared.world.World.{World}
 use Rattle.bench_shop.specs.declared.bench.Bench.{Bench}
 use Rattle.bench_shop.specs.declared.entry.Deed.{Deed}
 use Rattle.bench_shop.specs.declared.entry.Entry.{Entry}
-use Rattle.bench_shop.specs.declared.past.Past.{Past, Start, Then'}
-use Rattle.bench_shop.specs.Benches.{world_at, Noted}
+use Rattle.bench_shop.specs.declared.past.Past.{Past}
+use Rattle.bench_shop.specs.Benches.{world_at, IsAnew, Noted}
 use Rattle.bench_shop.specs.Deeds.{does, replayed}
 use Rattle.bench_shop.specs.Pasts.{last_of, world_in, AreSteps}
 use Rattle.bench_shop.proofs.Replays.{world_after, replayed_until, replayed_behind}
@@ -132,3 +134,14 @@ went_replays moment m deed old mid now noted small last is few = elim (cases_lt 
   | inl lt ↦ behind_replays moment m deed old mid now noted lt few last is
   | inr ge ↦ until_replays moment m deed old mid now noted ge small
 ]
+
+-- ------ the vehicle of a moment, made anew
+pub now_at : (b : Bench) (m : ℕ) → b.reach < m → ∥ world_of b.world ≡ world_at b m ∥₁
+now_at b m lt = ∥∥₁_map (b.over m lt) (λ same. sym same)
+
+pub saved_as : {E : Type 0} (b : Bench) (m : ℕ) (w : Simulated) (result : Result VehicleSpec E)
+    → ∥ w ≡ world_at b m ∥₁ → IfOk result (λ spec. (made_of spec).vehicle ≡ anew w.vehicle)
+    → IfOk result (λ spec. IsAnew b m (made_of spec).vehicle)
+saved_as b m w (Ok spec) same is =
+    ∥∥₁_map same (λ e. is ∙ ap (λ (v : Simulated). anew v.vehicle) e)
+saved_as b m w (Err e) same is = tt

@@ -1,8 +1,8 @@
 -- What a record of link calls makes of the vehicle of the start, and what the vehicle was at past moments.
-use Rattle.std.proofs.Common.{◌≡◌, ℕ, suc, ◌≤◌, ◌<◌, true, false, List, [], ◌∷◌, ◌++◌, refl, ◌∙◌, arith}
+use Rattle.std.proofs.Common.{◌≡◌, ℕ, ◌≤◌, ◌<◌, true, false, List, [], ◌∷◌, ◌++◌, refl, ◌∙◌, arith}
 use Rattle.std.proofs.lemmas.Bool.{lt-ltb, le-ltb}
 use Rattle.std.specs.Prelude.{nat_lt, if◌then◌else◌}
-use Rattle.vehicle_world.specs.Worlds.{Simulated, world_of}
+use Rattle.vehicle_world.specs.Worlds.{Simulated}
 use Rattle.bench_shop.specs.Deeds.{does, replayed}
 use Rattle.bench_shop.specs.Pasts.{last_of, world_in}
 use Rattle.bench_shop.specs.declared.entry.Entry.{Entry}

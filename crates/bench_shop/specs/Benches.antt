@@ -1,12 +1,11 @@
 -- What one link call adds to a vehicle and its record.
-use Rattle.std.specs.Prelude.{◌≡◌, ◌↔◌, ℕ, ◌+◌, ◌≤◌, ◌<◌, ◌^◌, List, [], ◌∷◌, ◌++◌, ◌-◌, Bool, false, IsTrue, IsErr, Result}
+use Rattle.std.specs.Prelude.{◌≡◌, ◌↔◌, ℕ, ◌+◌, ◌≤◌, ◌<◌, ◌^◌, [], ◌∷◌, ◌++◌, ◌-◌, Bool, false, IsTrue, IsErr, Result}
 use Rattle.disk_model.specs.declared.device.DeviceFault.{DeviceFault}
 use Rattle.vehicle_world.specs.Saving.{anew}
 use Rattle.vehicle_world.specs.Worlds.{Simulated, world_of}
 use Rattle.unit_model.specs.Vehicle.{Vehicle}
 use Rattle.bench_shop.specs.declared.bench.Bench.{Bench}
 use Rattle.bench_shop.specs.declared.entry.Deed.{Deed}
-use Rattle.bench_shop.specs.declared.entry.Entry.{Entry}
 use Rattle.bench_shop.specs.Pasts.{last_of, world_in}
 
 -- the vehicle at a moment

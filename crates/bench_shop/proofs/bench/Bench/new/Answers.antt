@@ -1,5 +1,3 @@
-use Rattle.std.proofs.Common.{◌≡◌, ◌≤◌, ℕ, refl, sym, ap, ◌∙◌}
-use Rattle.vehicle_world.specs.Worlds.{made_of, world_of}
 use Rattle.bench_shop.specs.Pasts.{vehicle_of}
 use Rattle.bench_shop.proofs.bench.Bench.new.Goals as goal
 

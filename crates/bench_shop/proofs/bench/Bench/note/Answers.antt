@@ -1,4 +1,4 @@
-use Rattle.std.proofs.Common.{◌≡◌, ◌≤◌, ◌<◌, ◌^◌, ℕ, arith}
+use Rattle.std.proofs.Common.{arith}
 use Rattle.vehicle_world.specs.Worlds.{made_of, world_of}
 use Rattle.bench_shop.proofs.Benches.{noted_steps, noted_replays, noted_over}
 use Rattle.bench_shop.proofs.bench.Bench.note.Goals as goal

@@ -1,10 +1,8 @@
-use Rattle.std.proofs.Common.{◌≡◌, ℕ, ◌-◌, length, min, take, refl, ap, ◌∙◌, arith}
-use Rattle.vehicle_world.specs.Worlds.{polled, world_of}
-use Rattle.vehicle_world.specs.declared.world.World.{World}
+use Rattle.vehicle_world.specs.Worlds.{world_of}
 use Rattle.bench_shop.specs.Pasts.{vehicle_of}
-use Rattle.bench_shop.specs.declared.entry.Deed.TheVariants.{Fed, Polled, Garbled, Redialed}
-use Rattle.bench_shop.proofs.Benches.{went_steps, went_replays, failed_replays, any_over, never_over}
-use Rattle.bench_shop.proofs.Links.{fed_steps, broken_steps, redialed_steps, carried_steps, polled_steps, misses_none, misses_same}
+use Rattle.bench_shop.specs.declared.entry.Deed.TheVariants.{Redialed}
+use Rattle.bench_shop.proofs.Benches.{went_steps, went_replays, never_over}
+use Rattle.bench_shop.proofs.Links.{redialed_steps}
 use Rattle.bench_shop.proofs.bench.Bench.redial.Goals as goal
 
 pub invariant_of-self-clause-steps : goal.invariant_of-self-clause-steps
