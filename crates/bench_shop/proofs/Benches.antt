@@ -57,7 +57,7 @@ kept_same at m now snapped past before is kept le =
 pub noted_steps : (at m : ℕ) (now snapped : World) (past before : Past) → snapped ≡ now → before ≡ past
     → last_of past ≤ at → AreSteps past (world_of now)
     → ∥ StepsUnits (then_in at (world_of now) (world_of snapped) before m).vehicle
-        (then_in at (world_of now) (world_of snapped) before (m + 1)).vehicle ∥₁
+    (then_in at (world_of now) (world_of snapped) before (m + 1)).vehicle ∥₁
 noted_steps at m now snapped past before is kept le steps =
     between (world_in past (world_of now) m) (world_in past (world_of now) (m + 1))
     (then_in at (world_of now) (world_of snapped) before m)
@@ -91,7 +91,7 @@ pub went_steps : (moment : ℕ) (deed : Deed) (old mid : Bench) (now : Simulated
 went_steps moment deed old mid now noted last same steps m = elim (cases_order m moment) [
   | inl is ↦ between (world_of old.world) now (world_in mid.past now m) (world_in mid.past now (m + 1))
       (noted.before now m (omega (arith, is))
-        ∙ world_after old.past (world_of old.world) m (omega (arith, is, last)))
+      ∙ world_after old.past (world_of old.world) m (omega (arith, is, last)))
       (noted.behind now (m + 1) (omega (arith, is)))
       ∣ subst (λ (w : World). StepsUnits (world_of w).vehicle now.vehicle) noted.world steps ∣₁
   | inr (inl lt) ↦ between (world_at old m) (world_at old (m + 1))
@@ -106,9 +106,9 @@ until_replays : (moment m : ℕ) (deed : Deed) (old mid : Bench) (now : Simulate
     → m ≤ moment → moment < 2 ^ 63 → ∥ replayed mid.entries.items m (made_of mid.start) ≡ world_in mid.past now m ∥₁
 until_replays moment m deed old mid now noted le small = ∥∥₁_map (old.replays m (omega (arith, le, small, noted.whole)))
     (λ same.
-      (λ i. replayed (noted.entries i) m (made_of (noted.start i)))
-      ∙ replayed_until old.entries.items (record { moment = moment; deed = deed }) m (made_of old.start) le
-      ∙ same ∙ sym (noted.before now m le))
+    (λ i. replayed (noted.entries i) m (made_of (noted.start i)))
+    ∙ replayed_until old.entries.items (record { moment = moment; deed = deed }) m (made_of old.start) le
+    ∙ same ∙ sym (noted.before now m le))
 
 pub failed_replays : (moment m : ℕ) (deed : Deed) (old mid : Bench) (now : Simulated) → Noted moment deed old mid
     → moment < 2 ^ 63 → m ≤ mid.reach
@@ -121,11 +121,11 @@ behind_replays : (moment m : ℕ) (deed : Deed) (old mid : Bench) (now : Simulat
     → ∥ replayed mid.entries.items m (made_of mid.start) ≡ world_in mid.past now m ∥₁
 behind_replays moment m deed old mid now noted lt few last is =
     ∥∥₁_map (old.replays m (omega (arith, few, noted.whole))) (λ same.
-      (λ i. replayed (noted.entries i) m (made_of (noted.start i)))
-      ∙ replayed_behind old.entries.items (record { moment = moment; deed = deed }) m (made_of old.start) lt
-      ∙ ap (does deed) (same ∙ world_after old.past (world_of old.world) m (omega (arith, lt, last)))
-      ∙ sym (is ∙ ap (λ (w : World). does deed (world_of w)) noted.world)
-      ∙ sym (noted.behind now m lt))
+    (λ i. replayed (noted.entries i) m (made_of (noted.start i)))
+    ∙ replayed_behind old.entries.items (record { moment = moment; deed = deed }) m (made_of old.start) lt
+    ∙ ap (does deed) (same ∙ world_after old.past (world_of old.world) m (omega (arith, lt, last)))
+    ∙ sym (is ∙ ap (λ (w : World). does deed (world_of w)) noted.world)
+    ∙ sym (noted.behind now m lt))
 
 pub went_replays : (moment m : ℕ) (deed : Deed) (old mid : Bench) (now : Simulated) → Noted moment deed old mid
     → moment < 2 ^ 63 → last_of old.past ≤ moment → now ≡ does deed (world_of mid.world) → m ≤ 2 ^ 64 - 1

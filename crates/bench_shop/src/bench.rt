@@ -179,7 +179,12 @@ impl Bench {
     }
 
     /// Takes what is due, if it may.
-    pub(crate) fn receive(&mut self, moment: u64, out: &mut [u8], may: bool) -> Result<Got, DeviceFault>
+    pub(crate) fn receive(
+        &mut self,
+        moment: u64,
+        out: &mut [u8],
+        may: bool,
+    ) -> Result<Got, DeviceFault>
         requires early { tick_of self.old.world < 2 ^ 63 }
         requires last { last_of self.old.past ≤ moment }
         requires moment { moment < 2 ^ 63 }

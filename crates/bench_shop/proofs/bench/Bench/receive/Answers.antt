@@ -17,7 +17,7 @@ invariant_of-self-clause-steps c =
 pub invariant_of-self-clause-replays : goal.invariant_of-self-clause-replays
 invariant_of-self-clause-replays c = λ m few.
     went_replays c.args.moment m (Polled (length c.args.out.now - 1)) c.args.self.now c.note.new.self (world_of c.poll.new.self)
-    (c.if-not-note.ensures.yes) c.requires.moment c.requires.last 
+    (c.if-not-note.ensures.yes) c.requires.moment c.requires.last
     (c.in-Ok.ensures.exact ∙ ap (λ (n : ℕ). polled n (world_of c.note.new.self.world)) (omega (arith, c.requires.room))) few
 
 pub invariant_of-self-clause-over : goal.invariant_of-self-clause-over
