@@ -215,6 +215,7 @@ impl MemDisk {
         ensures bytes { (disk_now (history_of self.new)).bytes ≡ (disk_now (history_of self.old)).bytes }
         ensures exact { FailsExactly self.old self.new result }
         ensures calm { OnOk result (self.new.disk_faults ≡ self.old.disk_faults) }
+        ensures plan { self.new.failing.items ≡ self.old.failing.items }
     {
         if self.calls() >= LAST {
             self.miss_disk();
@@ -242,6 +243,7 @@ impl MemDisk {
         ensures listed { ListsMiss at (length bytes.now) self.old self.new result }
         ensures exact { FailsExactly self.old self.new result }
         ensures calm { OnOk result (self.new.disk_faults ≡ self.old.disk_faults) }
+        ensures plan { self.new.failing.items ≡ self.old.failing.items }
     {
         if self.calls() >= LAST {
             self.miss_disk();
@@ -385,6 +387,7 @@ impl Shop for MemDisk {
         ensures len { IfOk result (λ n. n ≡ length (disk_now (history_of self.old)).bytes) }
         ensures exact { FailsExactly self.old self.new result }
         ensures calm { OnOk result (self.new.disk_faults ≡ self.old.disk_faults) }
+        ensures plan { self.new.failing.items ≡ self.old.failing.items }
     {
         self.disk_call(Made::Len, Done::Kept)?;
         Ok(self.bytes.len() as u64)
@@ -399,6 +402,7 @@ impl Shop for MemDisk {
             (at + length out.old)) }
         ensures exact { FailsExactly self.old self.new result }
         ensures calm { OnOk result (self.new.disk_faults ≡ self.old.disk_faults) }
+        ensures plan { self.new.failing.items ≡ self.old.failing.items }
     {
         self.disk_call(Made::ReadAt(at, out.len() as u64), Done::Kept)?;
         copy_part(&self.bytes, at as usize, out);
@@ -413,6 +417,7 @@ impl Shop for MemDisk {
         ensures listed { ListsMiss at (length bytes.now) self.old self.new result }
         ensures exact { FailsExactly self.old self.new result }
         ensures calm { OnOk result (self.new.disk_faults ≡ self.old.disk_faults) }
+        ensures plan { self.new.failing.items ≡ self.old.failing.items }
     {
         self.write_call(Made::WriteAt(at, seen(bytes)), at as usize, bytes)
     }
@@ -422,6 +427,7 @@ impl Shop for MemDisk {
         ensures disk { SyncedOrNot (disk_now (history_of self.old)) (disk_now (history_of self.new)) result }
         ensures exact { FailsExactly self.old self.new result }
         ensures calm { OnOk result (self.new.disk_faults ≡ self.old.disk_faults) }
+        ensures plan { self.new.failing.items ≡ self.old.failing.items }
     {
         self.disk_call(Made::Sync, Done::Synced)
     }
