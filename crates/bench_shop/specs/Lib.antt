@@ -1,5 +1,6 @@
 pub mod Benches
 pub mod Deeds
 pub mod Faults
+pub mod Links
 pub mod Pasts
 pub mod Shops

@@ -1,5 +1,5 @@
 -- What a shop in memory tells, and when its calls fail.
-use Rattle.std.specs.Prelude.{◌≡◌, ◌⊎◌, ◌↔◌, ¬, ℕ, ◌+◌, ◌-◌, ◌≤◌, ◌<◌, min, Bool, false, ◌&&◌, not, IsTrue, List, length, take, Option, Some, None, Result, Ok, Err, IsErr, OnOk}
+use Rattle.std.specs.Prelude.{◌≡◌, ◌⊎◌, ◌↔◌, ℕ, ◌+◌, ◌-◌, ◌≤◌, ◌<◌, min, Bool, false, ◌&&◌, not, IsTrue, List, length, take, Option, Some, None, Result, Ok, Err, IsErr, OnOk}
 use Rattle.disk_model.specs.declared.device.DeviceFault.{DeviceFault}
 use Rattle.disk_model.specs.Disk.{IsCrashImage}
 use Rattle.disk_model.specs.declared.device.Pick.{Pick}
@@ -14,9 +14,6 @@ use Rattle.vehicle_world.specs.Worlds.{Simulated, world_of}
 use Rattle.bench_shop.specs.Benches.{world_at}
 use Rattle.bench_shop.specs.Faults.{is_listed, no_faults, piece_for}
 use Rattle.bench_shop.specs.declared.faults.Faults.{Faults}
-use Rattle.mem_disk.specs.Disks.{LinkPassed}
-use Rattle.mem_disk.specs.declared.disk.MemDisk.{MemDisk}
-use Rattle.shop_model.specs.History.{Call}
 use Rattle.bench_shop.specs.declared.shop.Made.{Made}
 use Rattle.bench_shop.specs.declared.shop.MemoryShop.{MemoryShop}
 
@@ -92,10 +89,3 @@ pub record IsCrashed (s : MemoryShop) (m : ℕ) (pick : Pick) (crashed : MemoryS
   pub picked : IsPicked pick ((history_of s).disk_at m) (synced_at s m) (disk_now (history_of crashed)).bytes
   pub vehicle : ∥ vehicle_now (history_of crashed) ≡ anew ((history_of s).vehicle_at m) ∥₁
   pub uncalled : IsUncalled no_faults crashed
-
--- ------ link calls
--- a link call was counted; it may be made where it was recorded and is not listed
-pub record LinkBegun (call : Call) (numbers : List ℕ) (may : Bool) (old new : MemDisk) : Type 0 where
-  pub went : Bool
-  pub passed : LinkPassed call went old new
-  pub is : may ≡ went && not (is_listed numbers old.link_calls)

@@ -11,6 +11,7 @@
 mod bench;
 mod entry;
 mod faults;
+mod link;
 mod past;
 mod shop;
 

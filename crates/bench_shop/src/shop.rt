@@ -1,15 +1,13 @@
 //! The shop.
-ghost use Rattle.std.specs.Prelude.{◌≡◌, ◌≤◌, ◌<◌, true};
-ghost use Rattle.mem_disk.specs.Disks.{moment_of, LinkEnded};
-ghost use Rattle.mem_disk.specs.Made.{call_of};
-ghost use Rattle.shop_model.specs.History.{LAST};
-ghost use Rattle.bench_shop.specs.Shops.{LinkBegun};
+ghost use Rattle.std.specs.Prelude.{◌≡◌, ◌≤◌};
+ghost use Rattle.mem_disk.specs.Disks.{moment_of};
 ghost use Rattle.bench_shop.specs.Faults.{IsFaults};
 ghost use Rattle.bench_shop.specs.Pasts.{last_of, tick_of};
 
 use crate::bench::Bench;
 use crate::entry::Entry;
 use crate::faults::{Faults, copied, piece_for};
+use crate::link::{begin, late};
 use disk_model::{DeviceFault, Pick};
 use flash_base::NoMemory;
 use mem_disk::{MemDisk, Made as Call, seen};
@@ -110,24 +108,6 @@ impl MemoryShop {
         let world = self.bench.at(alloc, moment)?;
         MemoryShop::new(alloc, image.as_slice(), world, &Faults::none(alloc))
     }
-}
-
-/// Counts a link call. Whether it may be made: there was memory, and it is none that is to fail.
-fn begin(disk: &mut MemDisk, plan: &Faults, made: Call) -> bool
-    requires { moment_of disk.old < LAST }
-    ensures { LinkBegun (call_of made) plan.now.link result disk.old disk.new }
-{
-    let listed = plan.link.as_slice().contains(&disk.link_calls());
-    let recorded = disk.pass_link(made);
-    recorded && !listed
-}
-
-/// A link call at the last moment.
-fn late(disk: &mut MemDisk)
-    ensures { LinkEnded true disk.old.linked disk.old disk.new }
-{
-    let linked = disk.is_linked();
-    disk.end_link(true, linked);
 }
 
 impl Shop for MemoryShop {
