@@ -4,7 +4,7 @@ use Rattle.disk_model.specs.declared.device.DeviceFault.{DeviceFault}
 use Rattle.disk_model.specs.Disk.{IsCrashImage}
 use Rattle.disk_model.specs.declared.device.Pick.{Pick}
 use Rattle.mem_disk.specs.Crashed.{IsPicked}
-use Rattle.mem_disk.specs.Replay.{start, synced_bytes}
+use Rattle.mem_disk.specs.Replay.{start as start_disk, synced_bytes}
 use Rattle.unit_model.specs.declared.reply.Got.{Got}
 use Rattle.unit_model.specs.declared.reply.Got.TheVariants.{Quiet, Bytes}
 use Rattle.shop_model.specs.History.{History, LAST, disk_now, vehicle_now}
@@ -38,8 +38,8 @@ made_of s = record {
 }
 
 -- nothing was called yet, and calls fail by this plan
-pub record IsUncalled (plan : Faults) (s : MemoryShop) : Type 0 where
-  pub plan : s.plan ≡ plan
+pub record IsUncalled (faults : Faults) (s : MemoryShop) : Type 0 where
+  pub plan : s.plan ≡ faults
   pub moment : moment_of s ≡ 0
   pub disk_faults : s.disk.disk_faults ≡ 0
   pub link_faults : s.disk.link_faults ≡ 0
@@ -49,11 +49,11 @@ pub record IsUncalled (plan : Faults) (s : MemoryShop) : Type 0 where
   pub starved : starved_of s ≡ 0
 
 -- a new shop over a file with these bytes
-pub record IsNew (image : List ℕ) (world : Simulated) (plan : Faults) (s : MemoryShop) : Type 0 where
-  pub uncalled : IsUncalled plan s
+pub record IsNew (image : List ℕ) (start : Simulated) (faults : Faults) (s : MemoryShop) : Type 0 where
+  pub uncalled : IsUncalled faults s
   pub disk : (disk_now (history_of s)).bytes ≡ image
-  pub vehicle : vehicle_now (history_of s) ≡ world.vehicle
-  pub world : world_of s.bench.world ≡ world
+  pub vehicle : vehicle_now (history_of s) ≡ start.vehicle
+  pub world : world_of s.bench.world ≡ start
 
 -- before the last moment a disk call fails just where it is listed or no memory was found
 abbrev pub DiskFails : {T : Type 0} → MemoryShop → MemoryShop → Result T DeviceFault → Type 0
@@ -81,7 +81,7 @@ piece_now s = piece_for s.plan.garbled s.receives
 -- ------ a stop
 -- the bytes at the last sync before a moment
 abbrev pub synced_at : MemoryShop → ℕ → List ℕ
-synced_at s m = synced_bytes (start s.disk.first.items) s.disk.first.items (take m s.disk.calls.items)
+synced_at s m = synced_bytes (start_disk s.disk.first.items) s.disk.first.items (take m s.disk.calls.items)
 
 -- what is left: an image that a crash at the moment leaves, namely that one, and the vehicle on a new connection
 pub record IsCrashed (s : MemoryShop) (m : ℕ) (pick : Pick) (crashed : MemoryShop) : Type 0 where

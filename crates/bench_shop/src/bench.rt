@@ -4,6 +4,7 @@ ghost use Rattle.std.specs.Prelude.{◌≡◌, ◌≤◌, ◌<◌, ◌^◌, ℕ,
 ghost use Rattle.vehicle_world.specs.Saving.{IsVehicleSpec};
 ghost use Rattle.vehicle_world.specs.Worlds.{made_of, world_of};
 ghost use Rattle.bench_shop.specs.Deeds.{replayed};
+ghost use Rattle.bench_shop.specs.Forms.{IsVehicleSpec-prop};
 ghost use Rattle.bench_shop.specs.Pasts.{last_of, world_in, AreSteps};
 
 use crate::entry::{Deed, Entry, again};
@@ -32,7 +33,7 @@ pub struct Bench {
     past: Past,
     reach: u64,
     hungry: u64,
-    ghost form: { IsVehicleSpec start },
+    ghost form: { IsVehicleSpec start } by { IsVehicleSpec-prop start },
     ghost steps: { AreSteps past (world_of world) },
     ghost replays: { (m : ℕ) → m ≤ reach
         → ∥ replayed entries.items m (made_of start) ≡ world_in past (world_of world) m ∥₁ },
@@ -157,7 +158,10 @@ impl Bench {
     {
         each_link_call_is_unit_steps();
         nothing_sent(&self.world);
-        if !may || !self.note_bytes(moment, bytes, false) {
+        if !may {
+            return Err(DeviceFault);
+        }
+        if !self.note_bytes(moment, bytes, false) {
             return Err(DeviceFault);
         }
         match self.world.feed(bytes) {
@@ -186,7 +190,10 @@ impl Bench {
         ensures tick { tick_of self.new.world ≤ tick_of self.old.world + 1 }
     {
         each_link_call_is_unit_steps();
-        if !may || !self.note(moment, Deed::Polled(out.len() as u64 - 1)) {
+        if !may {
+            return Err(DeviceFault);
+        }
+        if !self.note(moment, Deed::Polled(out.len() as u64 - 1)) {
             return Err(DeviceFault);
         }
         match self.world.poll(out) {
@@ -225,7 +232,10 @@ impl Bench {
         each_link_call_is_unit_steps();
         let n = piece.len().min(out.len());
         let front = &piece[..n];
-        if !may || !self.note_bytes(moment, front, true) {
+        if !may {
+            return Err(DeviceFault);
+        }
+        if !self.note_bytes(moment, front, true) {
             return Err(DeviceFault);
         }
         match self.world.garble(front) {
@@ -252,7 +262,10 @@ impl Bench {
         ensures tick { tick_of self.new.world ≡ tick_of self.old.world }
     {
         each_link_call_is_unit_steps();
-        if !may || !self.note(moment, Deed::Redialed) {
+        if !may {
+            return Err(DeviceFault);
+        }
+        if !self.note(moment, Deed::Redialed) {
             return Err(DeviceFault);
         }
         self.world.redial();
