@@ -1,3 +1,2 @@
-pub mod Counted
 pub mod Listed
-pub mod Made
+pub mod Calling

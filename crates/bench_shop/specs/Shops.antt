@@ -11,7 +11,7 @@ use Rattle.shop_model.specs.History.{History, LAST, disk_now, vehicle_now}
 use Rattle.mem_disk.specs.Disks.{moment_of as disk_moment, disk_calls, history_of as disk_history}
 use Rattle.vehicle_world.specs.Saving.{anew}
 use Rattle.vehicle_world.specs.Worlds.{Simulated, world_of}
-use Rattle.bench_shop.specs.Benches.{world_at}
+use Rattle.bench_shop.specs.Benches.{world_at, Brings}
 use Rattle.bench_shop.specs.Faults.{is_listed, no_faults, piece_for}
 use Rattle.bench_shop.specs.declared.faults.Faults.{Faults}
 use Rattle.bench_shop.specs.declared.shop.Made.{Made}
@@ -65,15 +65,10 @@ abbrev pub LinkFails : {T : Type 0} → MemoryShop → MemoryShop → Result T D
 LinkFails old new result = moment_of old < LAST
     → (IsErr result ↔ (IsTrue (is_listed old.plan.link old.disk.link_calls) ⊎ (starved_of old < starved_of new)))
 
--- the first bytes of the piece, as many as there was room for
-abbrev pub BringsPiece : List ℕ → List ℕ → Got → Type 0
-BringsPiece piece out Quiet = ⊥
-BringsPiece piece out (Bytes n) = (n ≡ min (length piece) (length out)) × (take n out ≡ take n piece)
-
 -- a receive that did not fail is garbled just where a piece is listed for it; the fault is counted there alone
 abbrev pub Garbles : Option (List ℕ) → List ℕ → MemoryShop → MemoryShop → Got → Type 0
 Garbles None out old new got = new.disk.link_faults ≡ old.disk.link_faults
-Garbles (Some piece) out old new got = BringsPiece piece out got
+Garbles (Some piece) out old new got = Brings (Some piece) out got
 
 abbrev pub piece_now : MemoryShop → Option (List ℕ)
 piece_now s = piece_for s.plan.garbled s.receives

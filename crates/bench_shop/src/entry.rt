@@ -1,7 +1,7 @@
 //! The record of what link calls did to the vehicle.
 
 ghost use Rattle.std.specs.Prelude.{◌≡◌, ◌+◌, ◌-◌, ◌<◌, ◌^◌, OnOk};
-ghost use Rattle.bench_shop.specs.Deeds.{does, IsDeed};
+ghost use Rattle.bench_shop.specs.Deeds.{does};
 ghost use Rattle.bench_shop.specs.Pasts.{tick_of};
 ghost use Rattle.vehicle_world.specs.Worlds.{polled, world_of};
 

@@ -14,6 +14,7 @@ mod faults;
 mod link;
 mod past;
 mod shop;
+mod taking;
 
 pub use disk_model::{DeviceFault, Pick};
 pub use entry::{Deed, Entry};

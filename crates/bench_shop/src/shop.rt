@@ -8,12 +8,13 @@ use crate::bench::Bench;
 use crate::entry::Entry;
 use crate::faults::{Faults, copied, piece_for};
 use crate::link::{begin, late};
+use crate::taking::{is_faulty, take};
 use disk_model::{DeviceFault, Pick};
 use flash_base::NoMemory;
 use mem_disk::{MemDisk, Made as Call, seen};
 use shop_model::{Got, Shop};
 use std::alloc::Global;
-use vehicle_world::World;
+use vehicle_world::{World, nothing_sent};
 
 /// How many calls there were.
 #[derive(Debug, Clone, Copy, PartialEq, Drop)]
@@ -177,6 +178,7 @@ impl Shop for MemoryShop {
         ensures exact { LinkFails self.old self.new result }
     {
         if self.disk.is_over() {
+            nothing_sent(self.bench.world());
             late(&mut self.disk);
             return Err(DeviceFault);
         }
@@ -208,12 +210,10 @@ impl Shop for MemoryShop {
         let number = self.receives;
         self.receives += 1;
         let piece = piece_for(self.plan.garbled.as_slice(), number);
-        let got = match piece {
-            Some(piece) => self.bench.garble(moment, piece.as_slice(), out, may),
-            None => self.bench.receive(moment, out, may),
-        };
+        let got = take(&mut self.bench, moment, piece, out, may);
+        let faulty = is_faulty(&got, piece);
         let linked = self.disk.is_linked();
-        self.disk.end_link(got.is_err() || piece.is_some(), linked);
+        self.disk.end_link(faulty, linked);
         got
     }
 
