@@ -1,2 +1,5 @@
-pub mod Listed
+pub mod Benches
 pub mod Calling
+pub mod Links
+pub mod Listed
+pub mod Replays
