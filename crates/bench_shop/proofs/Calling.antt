@@ -1,13 +1,11 @@
 -- The calls of a shop in memory are those of a shop.
 use Rattle.std.proofs.Common.{◌≡◌, inl, inr, ℕ, suc, ◌+◌, ◌-◌, ◌<◌, ◌≤◌, ◌^◌, min, Bool, true, false, List, [], ◌∷◌, Option, Some, None, refl, sym, ◌∙◌, ap, subst, arith, Result, Ok, Err}
-use Rattle.std.proofs.lemmas.Bool.{both_ways, lt-ltb}
+use Rattle.std.proofs.lemmas.Bool.{both_ways, cases_lt, lt-ltb}
 use Rattle.std.specs.Bool.{OnTrue, OnFalse}
 use Rattle.std.specs.Prelude.{nat_lt, IsErr, IsTrue, not, ◌&&◌, ◌||◌, ◌⊎◌, ◌↔◌}
 use Rattle.std.specs.Option.{is_some}
 use Rattle.std.specs.Result.{is_err}
-use Rattle.flash_base.specs.Lists.{IsSomeOf, ends, keeps}
 use Rattle.unit_model.specs.Feed.{Feeds}
-use Rattle.unit_model.specs.Poll.{Misses}
 use Rattle.unit_model.specs.declared.reply.Got.{Got}
 use Rattle.unit_model.specs.declared.reply.Got.TheVariants.{Quiet}
 use Rattle.unit_model.specs.declared.reply.Got.TheVariants.{Bytes as GotBytes}
@@ -202,14 +200,6 @@ clean (Some x) err missed old new mid went connected call is passed ended not = 
     or_true true = refl
     or_true false = refl
 
--- nothing was received, and all stays due
-all_of_them : (xs : List ℕ) → IsSomeOf xs xs
-all_of_them [] = ends
-all_of_them (x ∷ xs) = keeps x xs xs (all_of_them xs)
-
-pub misses_none : (v : Vehicle) → Misses v v
-misses_none v = record { becomes = refl; some = all_of_them v.gateway.ready }
-
 -- nothing was sent
 pub not_sent : (bytes : List ℕ) (v : Vehicle) (e : DeviceFault) → Feeds [] v v → Sent bytes v v (Err e)
 not_sent bytes v e feeds = record { ok = tt; err = record { count = 0; mid = v; feeds = feeds; broken = inl refl } }
@@ -222,3 +212,10 @@ err_is (Err e) b is err = is
 pub err_or : {T : Type 0} (r : Result T DeviceFault) (b c : Bool) → b ≡ is_err r || c → IsErr r → b ≡ true
 err_or (Ok x) b c is err = absurd (both_ways false refl err)
 err_or (Err e) b c is err = is
+
+-- it is not the last moment yet
+pub not_over : (s : MemoryShop) (b : Bool) → b ≡ false → (moment_of s ≡ LAST → IsTrue b) → moment_of s < LAST
+not_over s b is only = elim (cases_lt (moment_of s) LAST) [
+  | inl lt ↦ lt
+  | inr ge ↦ absurd (both_ways b is (only (omega (arith, ge, s.disk.few))))
+]

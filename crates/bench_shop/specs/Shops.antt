@@ -55,6 +55,16 @@ pub record IsNew (image : List ℕ) (start : Simulated) (faults : Faults) (s : M
   pub vehicle : vehicle_now (history_of s) ≡ start.vehicle
   pub world : world_of s.bench.world ≡ start
 
+-- the plan stays, and the count of calls that found no memory never falls
+pub record KeepsPlan (old new : MemoryShop) : Type 0 where
+  pub plan : new.plan ≡ old.plan
+  pub starved : starved_of old ≤ starved_of new
+
+-- a disk call leaves the vehicle and its record
+pub record KeepsBench (old new : MemoryShop) : Type 0 where
+  pub plan : KeepsPlan old new
+  pub bench : new.bench ≡ old.bench
+
 -- before the last moment a disk call fails just where it is listed or no memory was found
 abbrev pub DiskFails : {T : Type 0} → MemoryShop → MemoryShop → Result T DeviceFault → Type 0
 DiskFails old new result = moment_of old < LAST

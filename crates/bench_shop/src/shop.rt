@@ -1,5 +1,5 @@
 //! The shop.
-ghost use Rattle.std.specs.Prelude.{◌≡◌, ◌≤◌};
+ghost use Rattle.std.specs.Prelude.{◌≡◌, ◌+◌, ◌≤◌};
 ghost use Rattle.mem_disk.specs.Disks.{moment_of};
 ghost use Rattle.bench_shop.specs.Faults.{IsFaults};
 ghost use Rattle.bench_shop.specs.Pasts.{last_of, tick_of};
@@ -42,7 +42,7 @@ pub struct MemoryShop {
     ghost form: { IsFaults plan },
     ghost listed: { disk.failing.items ≡ plan.disk },
     ghost last: { last_of bench.past ≤ moment_of disk },
-    ghost hunger: { bench.hungry ≤ moment_of disk },
+    ghost hunger: { bench.hungry + disk.starved ≤ moment_of disk },
     ghost tick: { tick_of bench.world ≤ disk.link_calls },
     ghost few_receives: { receives ≤ disk.link_calls },
 }
@@ -112,10 +112,11 @@ impl MemoryShop {
 }
 
 impl Shop for MemoryShop {
-    ghost use Rattle.std.specs.Prelude.{◌≡◌, ◌+◌, ◌≤◌, ◌<◌, ◌↔◌, true, IfOk, IsOk, OnOk, length, slice_range, IsTrue};
+    ghost use Rattle.std.specs.Prelude.{◌≡◌, ◌+◌, ◌≤◌, ◌<◌, ◌↔◌, None, true, IfOk, IsOk, OnOk, length, slice_range, IsTrue};
     ghost use Rattle.shop_model.specs.History.{DiskCall, LinkCall, Len, ReadAt, WriteAt, Sync, Send, Receive, Redial, WroteOrMissed, SyncedOrNot, Sent, Received, Redialed, IsPiece, LAST, disk_now, vehicle_now};
     ghost use Rattle.mem_disk.specs.Laws.{readable_of};
-    ghost use Rattle.bench_shop.specs.Shops.{history_of, piece_now, DiskFails, Garbles, LinkFails};
+    ghost use Rattle.bench_shop.specs.Shops.{history_of, piece_now, DiskFails, Garbles, KeepsBench, KeepsPlan, LinkFails};
+    ghost use Rattle.vehicle_world.specs.Worlds.{fed, polled, redialed_world, world_of};
     ghost use Rattle.flash_base.specs.Counts.{Rises};
 
     ghost tells_disk = { true };
@@ -135,6 +136,8 @@ impl Shop for MemoryShop {
         ensures disk { disk_now (history_of self.new) ≡ disk_now (history_of self.old) }
         ensures len { IfOk result (λ n. n ≡ length (disk_now (history_of self.old)).bytes) }
         ensures exact { DiskFails self.old self.new result }
+        ensures kept { KeepsBench self.old self.new }
+        ensures counted { OnOk result (self.new.disk.disk_faults ≡ self.old.disk.disk_faults) }
     {
         self.disk.len()
     }
@@ -146,6 +149,8 @@ impl Shop for MemoryShop {
         ensures bytes { OnOk result (out.new ≡ slice_range (disk_now (history_of self.old)).bytes at
             (at + length out.old)) }
         ensures exact { DiskFails self.old self.new result }
+        ensures kept { KeepsBench self.old self.new }
+        ensures counted { OnOk result (self.new.disk.disk_faults ≡ self.old.disk.disk_faults) }
     {
         self.disk.read_at(at, out)
     }
@@ -156,6 +161,8 @@ impl Shop for MemoryShop {
         ensures disk { WroteOrMissed at bytes.now (disk_now (history_of self.old))
             (disk_now (history_of self.new)) result }
         ensures exact { DiskFails self.old self.new result }
+        ensures kept { KeepsBench self.old self.new }
+        ensures counted { OnOk result (self.new.disk.disk_faults ≡ self.old.disk.disk_faults) }
     {
         self.disk.write_at(at, bytes)
     }
@@ -164,6 +171,8 @@ impl Shop for MemoryShop {
         ensures call { DiskCall Sync (history_of self.old) (history_of self.new) result }
         ensures disk { SyncedOrNot (disk_now (history_of self.old)) (disk_now (history_of self.new)) result }
         ensures exact { DiskFails self.old self.new result }
+        ensures kept { KeepsBench self.old self.new }
+        ensures counted { OnOk result (self.new.disk.disk_faults ≡ self.old.disk.disk_faults) }
     {
         self.disk.sync()
     }
@@ -176,6 +185,9 @@ impl Shop for MemoryShop {
         ensures linked { (history_of self.new).linked ≡ (history_of self.old).linked }
         ensures vehicle { Sent bytes.now (vehicle_now (history_of self.old)) (vehicle_now (history_of self.new)) result }
         ensures exact { LinkFails self.old self.new result }
+        ensures kept { KeepsPlan self.old self.new }
+        ensures counted { OnOk result (self.new.disk.link_faults ≡ self.old.disk.link_faults) }
+        ensures does { OnOk result (world_of self.new.bench.world ≡ fed bytes.now (world_of self.old.bench.world)) }
     {
         if self.disk.is_over() {
             nothing_sent(self.bench.world());
@@ -200,6 +212,9 @@ impl Shop for MemoryShop {
             (vehicle_now (history_of self.old)) (vehicle_now (history_of self.new)) result }
         ensures garbled { IfOk result (Garbles (piece_now self.old) out.new self.old self.new) }
         ensures exact { LinkFails self.old self.new result }
+        ensures kept { KeepsPlan self.old self.new }
+        ensures does { piece_now self.old ≡ None
+            → OnOk result (world_of self.new.bench.world ≡ polled (length out.old) (world_of self.old.bench.world)) }
     {
         if self.disk.is_over() {
             late(&mut self.disk);
@@ -223,6 +238,9 @@ impl Shop for MemoryShop {
         ensures last { (history_of self.old).moment ≡ LAST → (history_of self.new).linked ≡ (history_of self.old).linked }
         ensures vehicle { Redialed (vehicle_now (history_of self.old)) (vehicle_now (history_of self.new)) result }
         ensures exact { LinkFails self.old self.new result }
+        ensures kept { KeepsPlan self.old self.new }
+        ensures counted { OnOk result (self.new.disk.link_faults ≡ self.old.disk.link_faults) }
+        ensures does { OnOk result (world_of self.new.bench.world ≡ redialed_world (world_of self.old.bench.world)) }
     {
         if self.disk.is_over() {
             late(&mut self.disk);
