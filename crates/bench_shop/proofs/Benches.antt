@@ -49,8 +49,8 @@ then_same at m now before le = elim (cases_lt at m) [
   | inr ge ↦ then_until at m now now before ge
 ]
 
-kept_same : (at m : ℕ) (now snapped : World) (past before : Past) → snapped ≡ now → before ≡ past → last_of past ≤ at
-    → then_in at (world_of now) (world_of snapped) before m ≡ world_in past (world_of now) m
+kept_same : (at m : ℕ) (now snapped : World) (past before : Past) → snapped ≡ now → before ≡ past
+    → last_of past ≤ at → then_in at (world_of now) (world_of snapped) before m ≡ world_in past (world_of now) m
 kept_same at m now snapped past before is kept le =
     (λ i. then_in at (world_of now) (world_of (is i)) (kept i) m) ∙ then_same at m (world_of now) past le
 
@@ -73,7 +73,8 @@ noted_replays es longer e m start now snapped past before le more is kept last w
     ap (λ (xs : List Entry). replayed xs m start) more ∙ replayed_until es e m start le ∙ same
     ∙ sym (kept_same e.moment m now snapped past before is kept last))
 
-pub noted_over : (at m : ℕ) (now was : Simulated) (before : Past) → at < m → ∥ then_in at now was before m ≡ now ∥₁
+pub noted_over : (at m : ℕ) (now was : Simulated) (before : Past) → at < m
+    → ∥ then_in at now was before m ≡ now ∥₁
 noted_over at m now was before lt = ∣ then_behind at m now was before lt ∣₁
 
 -- ------ what was noted was done, or failed on the way
@@ -103,15 +104,16 @@ went_steps moment deed old mid now noted last same steps m = elim (cases_order m
 
 -- up to its moment
 until_replays : (moment m : ℕ) (deed : Deed) (old mid : Bench) (now : Simulated) → Noted moment deed old mid
-    → m ≤ moment → moment < 2 ^ 63 → ∥ replayed mid.entries.items m (made_of mid.start) ≡ world_in mid.past now m ∥₁
-until_replays moment m deed old mid now noted le small = ∥∥₁_map (old.replays m (omega (arith, le, small, noted.whole)))
-    (λ same.
+    → m ≤ moment → moment < 2 ^ 63
+    → ∥ replayed mid.entries.items m (made_of mid.start) ≡ world_in mid.past now m ∥₁
+until_replays moment m deed old mid now noted le small =
+    ∥∥₁_map (old.replays m (omega (arith, le, small, noted.whole))) (λ same.
     (λ i. replayed (noted.entries i) m (made_of (noted.start i)))
     ∙ replayed_until old.entries.items (record { moment = moment; deed = deed }) m (made_of old.start) le
     ∙ same ∙ sym (noted.before now m le))
 
-pub failed_replays : (moment m : ℕ) (deed : Deed) (old mid : Bench) (now : Simulated) → Noted moment deed old mid
-    → moment < 2 ^ 63 → m ≤ mid.reach
+pub failed_replays : (moment m : ℕ) (deed : Deed) (old mid : Bench) (now : Simulated)
+    → Noted moment deed old mid → moment < 2 ^ 63 → m ≤ mid.reach
     → ∥ replayed mid.entries.items m (made_of mid.start) ≡ world_in mid.past now m ∥₁
 failed_replays moment m deed old mid now noted small le =
     until_replays moment m deed old mid now noted (omega (arith, le, noted.reach)) small
@@ -127,8 +129,8 @@ behind_replays moment m deed old mid now noted lt few last is =
     ∙ sym (is ∙ ap (λ (w : World). does deed (world_of w)) noted.world)
     ∙ sym (noted.behind now m lt))
 
-pub went_replays : (moment m : ℕ) (deed : Deed) (old mid : Bench) (now : Simulated) → Noted moment deed old mid
-    → moment < 2 ^ 63 → last_of old.past ≤ moment → now ≡ does deed (world_of mid.world) → m ≤ 2 ^ 64 - 1
+pub went_replays : (moment m : ℕ) (deed : Deed) (old mid : Bench) (now : Simulated)
+    → Noted moment deed old mid → moment < 2 ^ 63 → last_of old.past ≤ moment → now ≡ does deed (world_of mid.world) → m ≤ 2 ^ 64 - 1
     → ∥ replayed mid.entries.items m (made_of mid.start) ≡ world_in mid.past now m ∥₁
 went_replays moment m deed old mid now noted small last is few = elim (cases_lt moment m) [
   | inl lt ↦ behind_replays moment m deed old mid now noted lt few last is

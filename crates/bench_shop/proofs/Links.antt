@@ -10,7 +10,8 @@ use Rattle.shop_model.specs.Stepping.{AreUnitSteps, StepsUnits}
 use Rattle.vehicle_world.specs.Worlds.{Simulated, FeedsBroken, PolledTo}
 
 -- ------ steps of units
-pub fed_steps : (law : AreUnitSteps) (bytes : List ℕ) (old new : Vehicle) → Feeds bytes old new → StepsUnits old new
+pub fed_steps : (law : AreUnitSteps) (bytes : List ℕ) (old new : Vehicle) → Feeds bytes old new
+    → StepsUnits old new
 fed_steps law bytes old new feeds = law.sent bytes old new (Ok tt) (record { ok = feeds; err = tt })
 
 pub redialed_steps : (law : AreUnitSteps) (old new : Vehicle) → new ≡ redialed old → StepsUnits old new

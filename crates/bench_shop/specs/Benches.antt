@@ -1,5 +1,7 @@
 -- What one link call adds to a vehicle and its record.
-use Rattle.std.specs.Prelude.{◌≡◌, ◌↔◌, ℕ, ◌+◌, ◌≤◌, ◌<◌, ◌^◌, [], ◌∷◌, ◌++◌, ◌-◌, Bool, false, IsTrue, IsErr, Result}
+use Rattle.std.specs.Prelude.{◌≡◌, ◌↔◌, ℕ, ◌+◌, ◌≤◌, ◌<◌, ◌^◌, List, [], ◌∷◌, ◌++◌, ◌-◌, Bool, false, IsTrue, IsErr, Result, Option, Some, None, length, take, min}
+use Rattle.unit_model.specs.declared.reply.Got.{Got}
+use Rattle.unit_model.specs.declared.reply.Got.TheVariants.{Quiet, Bytes}
 use Rattle.disk_model.specs.declared.device.DeviceFault.{DeviceFault}
 use Rattle.vehicle_world.specs.Saving.{anew}
 use Rattle.vehicle_world.specs.Worlds.{Simulated, world_of}
@@ -46,7 +48,8 @@ pub record Went (moment : ℕ) (old new : Bench) : Type 0 where
   pub at_most : new.hungry ≤ old.hungry + 1
 
 -- A call that may be made fails just where there is no memory; another is not made.
-pub record FailsHungry {T : Type 0} (may : Bool) (old new : Bench) (result : Result T DeviceFault) : Type 0 where
+pub record FailsHungry {T : Type 0} (may : Bool) (old new : Bench)
+    (result : Result T DeviceFault) : Type 0 where
   pub made : IsTrue may → (IsErr result ↔ (old.hungry < new.hungry))
   pub not_made : may ≡ false → IsErr result
   pub not_hungry : may ≡ false → new.hungry ≡ old.hungry
@@ -54,3 +57,13 @@ pub record FailsHungry {T : Type 0} (may : Bool) (old new : Bench) (result : Res
 -- the vehicle of that moment on a new connection
 abbrev pub IsAnew : Bench → ℕ → Vehicle → Type 0
 IsAnew b m v = ∥ v ≡ anew (world_at b m).vehicle ∥₁
+
+-- the first bytes of the piece, as many as there was room for
+abbrev pub BringsPiece : List ℕ → List ℕ → Got → Type 0
+BringsPiece piece out Quiet = ⊥
+BringsPiece piece out (Bytes n) = (n ≡ min (length piece) (length out)) × (take n out ≡ take n piece)
+
+-- where a piece is to be brought, it is
+abbrev pub Brings : Option (List ℕ) → List ℕ → Got → Type 0
+Brings None out got = Unit {0}
+Brings (Some piece) out got = BringsPiece piece out got

@@ -1,22 +1,19 @@
 -- What a shop in memory tells, and when its calls fail.
-use Rattle.std.specs.Prelude.{◌≡◌, ◌⊎◌, ◌↔◌, ¬, ℕ, ◌+◌, ◌-◌, ◌≤◌, ◌<◌, min, Bool, false, ◌&&◌, not, IsTrue, List, length, take, Option, Some, None, Result, Ok, Err, IsErr, OnOk}
+use Rattle.std.specs.Prelude.{◌≡◌, ◌⊎◌, ◌↔◌, ℕ, ◌+◌, ◌-◌, ◌≤◌, ◌<◌, min, Bool, false, ◌&&◌, not, IsTrue, List, length, take, Option, Some, None, Result, Ok, Err, IsErr, OnOk}
 use Rattle.disk_model.specs.declared.device.DeviceFault.{DeviceFault}
 use Rattle.disk_model.specs.Disk.{IsCrashImage}
 use Rattle.disk_model.specs.declared.device.Pick.{Pick}
 use Rattle.mem_disk.specs.Crashed.{IsPicked}
-use Rattle.mem_disk.specs.Replay.{start, synced_bytes}
+use Rattle.mem_disk.specs.Replay.{start as start_disk, synced_bytes}
 use Rattle.unit_model.specs.declared.reply.Got.{Got}
 use Rattle.unit_model.specs.declared.reply.Got.TheVariants.{Quiet, Bytes}
 use Rattle.shop_model.specs.History.{History, LAST, disk_now, vehicle_now}
 use Rattle.mem_disk.specs.Disks.{moment_of as disk_moment, disk_calls, history_of as disk_history}
 use Rattle.vehicle_world.specs.Saving.{anew}
 use Rattle.vehicle_world.specs.Worlds.{Simulated, world_of}
-use Rattle.bench_shop.specs.Benches.{world_at}
+use Rattle.bench_shop.specs.Benches.{world_at, Brings}
 use Rattle.bench_shop.specs.Faults.{is_listed, no_faults, piece_for}
 use Rattle.bench_shop.specs.declared.faults.Faults.{Faults}
-use Rattle.mem_disk.specs.Disks.{LinkPassed}
-use Rattle.mem_disk.specs.declared.disk.MemDisk.{MemDisk}
-use Rattle.shop_model.specs.History.{Call}
 use Rattle.bench_shop.specs.declared.shop.Made.{Made}
 use Rattle.bench_shop.specs.declared.shop.MemoryShop.{MemoryShop}
 
@@ -41,8 +38,8 @@ made_of s = record {
 }
 
 -- nothing was called yet, and calls fail by this plan
-pub record IsUncalled (plan : Faults) (s : MemoryShop) : Type 0 where
-  pub plan : s.plan ≡ plan
+pub record IsUncalled (faults : Faults) (s : MemoryShop) : Type 0 where
+  pub plan : s.plan ≡ faults
   pub moment : moment_of s ≡ 0
   pub disk_faults : s.disk.disk_faults ≡ 0
   pub link_faults : s.disk.link_faults ≡ 0
@@ -52,11 +49,21 @@ pub record IsUncalled (plan : Faults) (s : MemoryShop) : Type 0 where
   pub starved : starved_of s ≡ 0
 
 -- a new shop over a file with these bytes
-pub record IsNew (image : List ℕ) (world : Simulated) (plan : Faults) (s : MemoryShop) : Type 0 where
-  pub uncalled : IsUncalled plan s
+pub record IsNew (image : List ℕ) (start : Simulated) (faults : Faults) (s : MemoryShop) : Type 0 where
+  pub uncalled : IsUncalled faults s
   pub disk : (disk_now (history_of s)).bytes ≡ image
-  pub vehicle : vehicle_now (history_of s) ≡ world.vehicle
-  pub world : world_of s.bench.world ≡ world
+  pub vehicle : vehicle_now (history_of s) ≡ start.vehicle
+  pub world : world_of s.bench.world ≡ start
+
+-- the plan stays, and the count of calls that found no memory never falls
+pub record KeepsPlan (old new : MemoryShop) : Type 0 where
+  pub plan : new.plan ≡ old.plan
+  pub starved : starved_of old ≤ starved_of new
+
+-- a disk call leaves the vehicle and its record
+pub record KeepsBench (old new : MemoryShop) : Type 0 where
+  pub plan : KeepsPlan old new
+  pub bench : new.bench ≡ old.bench
 
 -- before the last moment a disk call fails just where it is listed or no memory was found
 abbrev pub DiskFails : {T : Type 0} → MemoryShop → MemoryShop → Result T DeviceFault → Type 0
@@ -68,15 +75,10 @@ abbrev pub LinkFails : {T : Type 0} → MemoryShop → MemoryShop → Result T D
 LinkFails old new result = moment_of old < LAST
     → (IsErr result ↔ (IsTrue (is_listed old.plan.link old.disk.link_calls) ⊎ (starved_of old < starved_of new)))
 
--- the first bytes of the piece, as many as there was room for
-abbrev pub BringsPiece : List ℕ → List ℕ → Got → Type 0
-BringsPiece piece out Quiet = ⊥
-BringsPiece piece out (Bytes n) = (n ≡ min (length piece) (length out)) × (take n out ≡ take n piece)
-
 -- a receive that did not fail is garbled just where a piece is listed for it; the fault is counted there alone
 abbrev pub Garbles : Option (List ℕ) → List ℕ → MemoryShop → MemoryShop → Got → Type 0
 Garbles None out old new got = new.disk.link_faults ≡ old.disk.link_faults
-Garbles (Some piece) out old new got = BringsPiece piece out got
+Garbles (Some piece) out old new got = Brings (Some piece) out got
 
 abbrev pub piece_now : MemoryShop → Option (List ℕ)
 piece_now s = piece_for s.plan.garbled s.receives
@@ -84,7 +86,7 @@ piece_now s = piece_for s.plan.garbled s.receives
 -- ------ a stop
 -- the bytes at the last sync before a moment
 abbrev pub synced_at : MemoryShop → ℕ → List ℕ
-synced_at s m = synced_bytes (start s.disk.first.items) s.disk.first.items (take m s.disk.calls.items)
+synced_at s m = synced_bytes (start_disk s.disk.first.items) s.disk.first.items (take m s.disk.calls.items)
 
 -- what is left: an image that a crash at the moment leaves, namely that one, and the vehicle on a new connection
 pub record IsCrashed (s : MemoryShop) (m : ℕ) (pick : Pick) (crashed : MemoryShop) : Type 0 where
@@ -92,10 +94,3 @@ pub record IsCrashed (s : MemoryShop) (m : ℕ) (pick : Pick) (crashed : MemoryS
   pub picked : IsPicked pick ((history_of s).disk_at m) (synced_at s m) (disk_now (history_of crashed)).bytes
   pub vehicle : ∥ vehicle_now (history_of crashed) ≡ anew ((history_of s).vehicle_at m) ∥₁
   pub uncalled : IsUncalled no_faults crashed
-
--- ------ link calls
--- a link call was counted; it may be made where it was recorded and is not listed
-pub record LinkBegun (call : Call) (numbers : List ℕ) (may : Bool) (old new : MemDisk) : Type 0 where
-  pub went : Bool
-  pub passed : LinkPassed call went old new
-  pub is : may ≡ went && not (is_listed numbers old.link_calls)

@@ -21,7 +21,8 @@ const NEVER: u64 = u64::MAX;
 
 /// A vehicle, and what brings back what it was at each moment.
 ///
-/// A call that finds no memory in the midst of its work ends the record: each later one fails, and the vehicle stays.
+/// A call that finds no memory in the midst of its work ends the record: each later one fails, and the vehicle
+/// stays.
 #[derive(Drop)]
 pub struct Bench {
     alloc: Global,
@@ -131,7 +132,8 @@ impl Bench {
         requires moment { moment < 2 ^ 63 }
         requires hungry { self.old.hungry < 2 ^ 63 }
         ensures fed { garbled ≡ false → OnTrue result (Noted moment (Fed bytes.now) self.old self.new) }
-        ensures garbled { IsTrue garbled → OnTrue result (Noted moment (Garbled bytes.now) self.old self.new) }
+        ensures garbled { IsTrue garbled
+            → OnTrue result (Noted moment (Garbled bytes.now) self.old self.new) }
         ensures no { OnFalse result (Hungers self.old self.new) }
     {
         let Ok(bytes) = Bytes::from_slice(self.alloc, bytes) else {
@@ -190,9 +192,11 @@ impl Bench {
         requires moment { moment < 2 ^ 63 }
         requires hungry { self.old.hungry < 2 ^ 63 }
         requires room { 1 ≤ length out.old }
-        ensures does { OnOk result (world_of self.new.world ≡ polled (length out.old) (world_of self.old.world)) }
+        ensures does { OnOk result (world_of self.new.world
+            ≡ polled (length out.old) (world_of self.old.world)) }
         ensures piece { IfOk result (IsPiece (length out.old)) }
-        ensures received { Received out.new (Unit {0}) (vehicle_of self.old.world) (vehicle_of self.new.world) result }
+        ensures received { Received out.new (Unit {0}) (vehicle_of self.old.world) (vehicle_of self.new.world)
+            result }
         ensures went { Went moment self.old self.new }
         ensures exact { FailsHungry may self.old self.new result }
         ensures tick { tick_of self.new.world ≤ tick_of self.old.world + 1 }
@@ -216,7 +220,8 @@ impl Bench {
         }
     }
 
-    /// Brings the first bytes of a piece that is none of the gateway's, if it may: as many as there is room for.
+    /// Brings the first bytes of a piece that is none of the gateway's, if it may: as many as there is room
+    /// for.
     pub(crate) fn garble(
         &mut self,
         moment: u64,

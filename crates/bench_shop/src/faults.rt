@@ -1,8 +1,9 @@
 //! Which calls of a shop fail, and which receives bring other bytes.
 
-ghost use Rattle.std.specs.Prelude.{◌≡◌, IfOk};
+ghost use Rattle.std.specs.Prelude.{◌≡◌, ◌≤◌, true, length, IfOk, IfSome};
 ghost use Rattle.std.specs.Option.{option_map};
-ghost use Rattle.bench_shop.specs.Faults.{piece_for};
+ghost use Rattle.flash_base.specs.Lists.{all_of};
+ghost use Rattle.bench_shop.specs.Faults.{is_piece, piece_for};
 
 use flash_base::{Bytes, Items, NoMemory};
 use std::alloc::Global;
@@ -54,7 +55,8 @@ impl Faults {
 
 /// What the receive with this number brings, where it is garbled.
 pub(crate) fn piece_for(garbled: &[(u64, Bytes)], number: u64) -> Option<&Bytes>
-    ensures { option_map (λ b. b.now) result ≡ piece_for garbled.now number }
+    ensures is { option_map (λ b. b.now) result ≡ piece_for garbled.now number }
+    ensures some { all_of garbled.now is_piece ≡ true → IfSome result (λ b. 1 ≤ length b.now) }
 {
     for one in garbled {
         if one.0 == number {

@@ -11,8 +11,10 @@
 mod bench;
 mod entry;
 mod faults;
+mod link;
 mod past;
 mod shop;
+mod taking;
 
 pub use disk_model::{DeviceFault, Pick};
 pub use entry::{Deed, Entry};

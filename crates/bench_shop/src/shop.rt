@@ -1,21 +1,20 @@
 //! The shop.
-ghost use Rattle.std.specs.Prelude.{◌≡◌, ◌≤◌, ◌<◌, true};
-ghost use Rattle.mem_disk.specs.Disks.{moment_of, LinkEnded};
-ghost use Rattle.mem_disk.specs.Made.{call_of};
-ghost use Rattle.shop_model.specs.History.{LAST};
-ghost use Rattle.bench_shop.specs.Shops.{LinkBegun};
+ghost use Rattle.std.specs.Prelude.{◌≡◌, ◌+◌, ◌≤◌};
+ghost use Rattle.mem_disk.specs.Disks.{moment_of};
 ghost use Rattle.bench_shop.specs.Faults.{IsFaults};
 ghost use Rattle.bench_shop.specs.Pasts.{last_of, tick_of};
 
 use crate::bench::Bench;
 use crate::entry::Entry;
 use crate::faults::{Faults, copied, piece_for};
+use crate::link::{begin, late};
+use crate::taking::{is_faulty, take};
 use disk_model::{DeviceFault, Pick};
 use flash_base::NoMemory;
 use mem_disk::{MemDisk, Made as Call, seen};
 use shop_model::{Got, Shop};
 use std::alloc::Global;
-use vehicle_world::World;
+use vehicle_world::{World, nothing_sent};
 
 /// How many calls there were.
 #[derive(Debug, Clone, Copy, PartialEq, Drop)]
@@ -43,7 +42,7 @@ pub struct MemoryShop {
     ghost form: { IsFaults plan },
     ghost listed: { disk.failing.items ≡ plan.disk },
     ghost last: { last_of bench.past ≤ moment_of disk },
-    ghost hunger: { bench.hungry ≤ moment_of disk },
+    ghost hunger: { bench.hungry + disk.starved ≤ moment_of disk },
     ghost tick: { tick_of bench.world ≤ disk.link_calls },
     ghost few_receives: { receives ≤ disk.link_calls },
 }
@@ -112,29 +111,12 @@ impl MemoryShop {
     }
 }
 
-/// Counts a link call. Whether it may be made: there was memory, and it is none that is to fail.
-fn begin(disk: &mut MemDisk, plan: &Faults, made: Call) -> bool
-    requires { moment_of disk.old < LAST }
-    ensures { LinkBegun (call_of made) plan.now.link result disk.old disk.new }
-{
-    let listed = plan.link.as_slice().contains(&disk.link_calls());
-    let recorded = disk.pass_link(made);
-    recorded && !listed
-}
-
-/// A link call at the last moment.
-fn late(disk: &mut MemDisk)
-    ensures { LinkEnded true disk.old.linked disk.old disk.new }
-{
-    let linked = disk.is_linked();
-    disk.end_link(true, linked);
-}
-
 impl Shop for MemoryShop {
-    ghost use Rattle.std.specs.Prelude.{◌≡◌, ◌+◌, ◌≤◌, ◌<◌, ◌↔◌, true, IfOk, IsOk, OnOk, length, slice_range, IsTrue};
+    ghost use Rattle.std.specs.Prelude.{◌≡◌, ◌+◌, ◌≤◌, ◌<◌, ◌↔◌, None, true, IfOk, IsOk, OnOk, length, slice_range, IsTrue};
     ghost use Rattle.shop_model.specs.History.{DiskCall, LinkCall, Len, ReadAt, WriteAt, Sync, Send, Receive, Redial, WroteOrMissed, SyncedOrNot, Sent, Received, Redialed, IsPiece, LAST, disk_now, vehicle_now};
     ghost use Rattle.mem_disk.specs.Laws.{readable_of};
-    ghost use Rattle.bench_shop.specs.Shops.{history_of, piece_now, DiskFails, Garbles, LinkFails};
+    ghost use Rattle.bench_shop.specs.Shops.{history_of, piece_now, DiskFails, Garbles, KeepsBench, KeepsPlan, LinkFails};
+    ghost use Rattle.vehicle_world.specs.Worlds.{fed, polled, redialed_world, world_of};
     ghost use Rattle.flash_base.specs.Counts.{Rises};
 
     ghost tells_disk = { true };
@@ -154,6 +136,8 @@ impl Shop for MemoryShop {
         ensures disk { disk_now (history_of self.new) ≡ disk_now (history_of self.old) }
         ensures len { IfOk result (λ n. n ≡ length (disk_now (history_of self.old)).bytes) }
         ensures exact { DiskFails self.old self.new result }
+        ensures kept { KeepsBench self.old self.new }
+        ensures counted { OnOk result (self.new.disk.disk_faults ≡ self.old.disk.disk_faults) }
     {
         self.disk.len()
     }
@@ -165,6 +149,8 @@ impl Shop for MemoryShop {
         ensures bytes { OnOk result (out.new ≡ slice_range (disk_now (history_of self.old)).bytes at
             (at + length out.old)) }
         ensures exact { DiskFails self.old self.new result }
+        ensures kept { KeepsBench self.old self.new }
+        ensures counted { OnOk result (self.new.disk.disk_faults ≡ self.old.disk.disk_faults) }
     {
         self.disk.read_at(at, out)
     }
@@ -175,6 +161,8 @@ impl Shop for MemoryShop {
         ensures disk { WroteOrMissed at bytes.now (disk_now (history_of self.old))
             (disk_now (history_of self.new)) result }
         ensures exact { DiskFails self.old self.new result }
+        ensures kept { KeepsBench self.old self.new }
+        ensures counted { OnOk result (self.new.disk.disk_faults ≡ self.old.disk.disk_faults) }
     {
         self.disk.write_at(at, bytes)
     }
@@ -183,6 +171,8 @@ impl Shop for MemoryShop {
         ensures call { DiskCall Sync (history_of self.old) (history_of self.new) result }
         ensures disk { SyncedOrNot (disk_now (history_of self.old)) (disk_now (history_of self.new)) result }
         ensures exact { DiskFails self.old self.new result }
+        ensures kept { KeepsBench self.old self.new }
+        ensures counted { OnOk result (self.new.disk.disk_faults ≡ self.old.disk.disk_faults) }
     {
         self.disk.sync()
     }
@@ -195,8 +185,12 @@ impl Shop for MemoryShop {
         ensures linked { (history_of self.new).linked ≡ (history_of self.old).linked }
         ensures vehicle { Sent bytes.now (vehicle_now (history_of self.old)) (vehicle_now (history_of self.new)) result }
         ensures exact { LinkFails self.old self.new result }
+        ensures kept { KeepsPlan self.old self.new }
+        ensures counted { OnOk result (self.new.disk.link_faults ≡ self.old.disk.link_faults) }
+        ensures does { OnOk result (world_of self.new.bench.world ≡ fed bytes.now (world_of self.old.bench.world)) }
     {
         if self.disk.is_over() {
+            nothing_sent(self.bench.world());
             late(&mut self.disk);
             return Err(DeviceFault);
         }
@@ -218,6 +212,9 @@ impl Shop for MemoryShop {
             (vehicle_now (history_of self.old)) (vehicle_now (history_of self.new)) result }
         ensures garbled { IfOk result (Garbles (piece_now self.old) out.new self.old self.new) }
         ensures exact { LinkFails self.old self.new result }
+        ensures kept { KeepsPlan self.old self.new }
+        ensures does { piece_now self.old ≡ None
+            → OnOk result (world_of self.new.bench.world ≡ polled (length out.old) (world_of self.old.bench.world)) }
     {
         if self.disk.is_over() {
             late(&mut self.disk);
@@ -228,12 +225,10 @@ impl Shop for MemoryShop {
         let number = self.receives;
         self.receives += 1;
         let piece = piece_for(self.plan.garbled.as_slice(), number);
-        let got = match piece {
-            Some(piece) => self.bench.garble(moment, piece.as_slice(), out, may),
-            None => self.bench.receive(moment, out, may),
-        };
+        let got = take(&mut self.bench, moment, piece, out, may);
+        let faulty = is_faulty(&got, piece);
         let linked = self.disk.is_linked();
-        self.disk.end_link(got.is_err() || piece.is_some(), linked);
+        self.disk.end_link(faulty, linked);
         got
     }
 
@@ -243,6 +238,9 @@ impl Shop for MemoryShop {
         ensures last { (history_of self.old).moment ≡ LAST → (history_of self.new).linked ≡ (history_of self.old).linked }
         ensures vehicle { Redialed (vehicle_now (history_of self.old)) (vehicle_now (history_of self.new)) result }
         ensures exact { LinkFails self.old self.new result }
+        ensures kept { KeepsPlan self.old self.new }
+        ensures counted { OnOk result (self.new.disk.link_faults ≡ self.old.disk.link_faults) }
+        ensures does { OnOk result (world_of self.new.bench.world ≡ redialed_world (world_of self.old.bench.world)) }
     {
         if self.disk.is_over() {
             late(&mut self.disk);

@@ -138,6 +138,12 @@ pub record LinkCounted (mid counted : MemDisk) : Type 0 where
   pub link_faults : counted.link_faults ≡ mid.link_faults
   pub link_calls : counted.link_calls ≡ mid.link_calls + 1
 
+-- the calls that are listed to fail stay, and the count of calls that found no memory rises by these calls alone
+pub record KeepsPlan (old new : MemDisk) : Type 0 where
+  pub failing : new.failing.items ≡ old.failing.items
+  pub starves : old.starved ≤ new.starved
+  pub at_most : new.starved + moment_of old ≤ old.starved + moment_of new
+
 -- ------ link calls of whoever has a vehicle beside this disk
 -- one moment more, at which the disk stays; it was recorded, or no memory was found
 pub record LinkPassed (call : Call) (went : Bool) (old new : MemDisk) : Type 0 where

@@ -48,7 +48,7 @@ impl MemDisk {
     ghost use Rattle.std.specs.Prelude.{◌≡◌, ◌+◌, ◌≤◌, ◌<◌, ◌⊎◌, ◌↔◌, IsTrue, IsOk, IsErr, OnOk, OnErr, IfOk, length};
     ghost use Rattle.std.specs.Bool.{OnTrue, OnFalse};
     ghost use Rattle.shop_model.specs.History.{LAST, DiskCall, LinkCall, Redial, WroteOrMissed, disk_now};
-    ghost use Rattle.mem_disk.specs.Disks.{history_of, moment_of, disk_calls, is_listed, IsNew, FailsExactly, ListsMiss, Recorded, Starved, WroteSome, DiskFaulted, LinkFaulted, LinkCounted, LinkPassed, LinkEnded};
+    ghost use Rattle.mem_disk.specs.Disks.{history_of, moment_of, disk_calls, is_listed, IsNew, FailsExactly, ListsMiss, Recorded, Starved, WroteSome, DiskFaulted, LinkFaulted, LinkCounted, LinkPassed, LinkEnded, KeepsPlan};
     ghost use Rattle.mem_disk.specs.Made.{call_of};
     ghost use Rattle.mem_disk.specs.Replay.{IsNoWrite, after};
 
@@ -215,6 +215,7 @@ impl MemDisk {
         ensures bytes { (disk_now (history_of self.new)).bytes ≡ (disk_now (history_of self.old)).bytes }
         ensures exact { FailsExactly self.old self.new result }
         ensures calm { OnOk result (self.new.disk_faults ≡ self.old.disk_faults) }
+        ensures keeps { KeepsPlan self.old self.new }
     {
         if self.calls() >= LAST {
             self.miss_disk();
@@ -242,6 +243,7 @@ impl MemDisk {
         ensures listed { ListsMiss at (length bytes.now) self.old self.new result }
         ensures exact { FailsExactly self.old self.new result }
         ensures calm { OnOk result (self.new.disk_faults ≡ self.old.disk_faults) }
+        ensures keeps { KeepsPlan self.old self.new }
     {
         if self.calls() >= LAST {
             self.miss_disk();
@@ -364,7 +366,7 @@ impl Shop for MemDisk {
     ghost use Rattle.std.proofs.lemmas.Bool.{false≢true};
     ghost use Rattle.std.specs.Prelude.{◌≡◌, ◌+◌, ◌≤◌, true, false, IsTrue, IfOk, OnOk, length, slice_range};
     ghost use Rattle.shop_model.specs.History.{DiskCall, Len, ReadAt, WriteAt, Sync, WroteOrMissed, SyncedOrNot, disk_now};
-    ghost use Rattle.mem_disk.specs.Disks.{history_of, FailsExactly, ListsMiss};
+    ghost use Rattle.mem_disk.specs.Disks.{history_of, FailsExactly, KeepsPlan, ListsMiss};
     ghost use Rattle.mem_disk.specs.Laws.{readable_of};
 
     ghost tells_disk = { true };
@@ -385,6 +387,7 @@ impl Shop for MemDisk {
         ensures len { IfOk result (λ n. n ≡ length (disk_now (history_of self.old)).bytes) }
         ensures exact { FailsExactly self.old self.new result }
         ensures calm { OnOk result (self.new.disk_faults ≡ self.old.disk_faults) }
+        ensures keeps { KeepsPlan self.old self.new }
     {
         self.disk_call(Made::Len, Done::Kept)?;
         Ok(self.bytes.len() as u64)
@@ -399,6 +402,7 @@ impl Shop for MemDisk {
             (at + length out.old)) }
         ensures exact { FailsExactly self.old self.new result }
         ensures calm { OnOk result (self.new.disk_faults ≡ self.old.disk_faults) }
+        ensures keeps { KeepsPlan self.old self.new }
     {
         self.disk_call(Made::ReadAt(at, out.len() as u64), Done::Kept)?;
         copy_part(&self.bytes, at as usize, out);
@@ -413,6 +417,7 @@ impl Shop for MemDisk {
         ensures listed { ListsMiss at (length bytes.now) self.old self.new result }
         ensures exact { FailsExactly self.old self.new result }
         ensures calm { OnOk result (self.new.disk_faults ≡ self.old.disk_faults) }
+        ensures keeps { KeepsPlan self.old self.new }
     {
         self.write_call(Made::WriteAt(at, seen(bytes)), at as usize, bytes)
     }
@@ -422,6 +427,7 @@ impl Shop for MemDisk {
         ensures disk { SyncedOrNot (disk_now (history_of self.old)) (disk_now (history_of self.new)) result }
         ensures exact { FailsExactly self.old self.new result }
         ensures calm { OnOk result (self.new.disk_faults ≡ self.old.disk_faults) }
+        ensures keeps { KeepsPlan self.old self.new }
     {
         self.disk_call(Made::Sync, Done::Synced)
     }

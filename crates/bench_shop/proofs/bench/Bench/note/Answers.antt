@@ -5,7 +5,8 @@ use Rattle.bench_shop.proofs.bench.Bench.note.Goals as goal
 
 pub invariant_of-self-clause-steps : goal.invariant_of-self-clause-steps
 invariant_of-self-clause-steps c = λ m.
-    noted_steps c.args.moment m c.args.self.now.world c.of-world.result.value c.args.self.now.past c.of-before.result.value
+    noted_steps c.args.moment m c.args.self.now.world c.of-world.result.value c.args.self.now.past
+    c.of-before.result.value
     c.of-world.ensures c.of-before.ensures c.requires.last c.args.self.now.steps
 
 pub invariant_of-self-clause-replays : goal.invariant_of-self-clause-replays

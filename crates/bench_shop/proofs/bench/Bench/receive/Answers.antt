@@ -9,20 +9,25 @@ use Rattle.bench_shop.proofs.bench.Bench.receive.Goals as goal
 
 pub invariant_of-self-clause-steps : goal.invariant_of-self-clause-steps
 invariant_of-self-clause-steps c =
-    went_steps c.args.moment (Polled (length c.args.out.now - 1)) c.args.self.now c.note.new.self (world_of c.poll.new.self)
+    went_steps c.args.moment (Polled (length c.args.out.now - 1)) c.args.self.now c.note.new.self
+    (world_of c.poll.new.self)
     (c.if-not-note.ensures.yes) c.requires.last c.each_link_call_is_unit_steps.ensures.same
-    (polled_steps c.each_link_call_is_unit_steps.ensures (length c.args.out.now) c.poll.new.out (vehicle_of c.note.new.self.world) (world_of c.poll.new.self).vehicle
+    (polled_steps c.each_link_call_is_unit_steps.ensures (length c.args.out.now) c.poll.new.out
+    (vehicle_of c.note.new.self.world) (world_of c.poll.new.self).vehicle
     c.in-Ok.got c.in-Ok.ensures.ok)
 
 pub invariant_of-self-clause-replays : goal.invariant_of-self-clause-replays
 invariant_of-self-clause-replays c = λ m few.
-    went_replays c.args.moment m (Polled (length c.args.out.now - 1)) c.args.self.now c.note.new.self (world_of c.poll.new.self)
+    went_replays c.args.moment m (Polled (length c.args.out.now - 1)) c.args.self.now c.note.new.self
+    (world_of c.poll.new.self)
     (c.if-not-note.ensures.yes) c.requires.moment c.requires.last
-    (c.in-Ok.ensures.exact ∙ ap (λ (n : ℕ). polled n (world_of c.note.new.self.world)) (omega (arith, c.requires.room))) few
+    (c.in-Ok.ensures.exact ∙ ap (λ (n : ℕ). polled n (world_of c.note.new.self.world))
+    (omega (arith, c.requires.room))) few
 
 pub invariant_of-self-clause-over : goal.invariant_of-self-clause-over
 invariant_of-self-clause-over c = λ m lt.
-    never_over c.args.moment m (Polled (length c.args.out.now - 1)) c.args.self.now c.note.new.self (world_of c.poll.new.self)
+    never_over c.args.moment m (Polled (length c.args.out.now - 1)) c.args.self.now c.note.new.self
+    (world_of c.poll.new.self)
     (c.if-not-note.ensures.yes) c.requires.moment lt
 
 pub returns-then-not-may-clause-received : goal.returns-then-not-may-clause-received

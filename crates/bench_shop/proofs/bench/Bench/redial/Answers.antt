@@ -9,7 +9,8 @@ pub invariant_of-self-clause-steps : goal.invariant_of-self-clause-steps
 invariant_of-self-clause-steps c =
     went_steps c.args.moment Redialed c.args.self.now c.note.new.self (world_of c.redial.new.self)
     (c.if-not-note.ensures.yes) c.requires.last c.each_link_call_is_unit_steps.ensures.same
-    (redialed_steps c.each_link_call_is_unit_steps.ensures (vehicle_of c.note.new.self.world) (world_of c.redial.new.self).vehicle c.redial.ensures.vehicle)
+    (redialed_steps c.each_link_call_is_unit_steps.ensures (vehicle_of c.note.new.self.world)
+    (world_of c.redial.new.self).vehicle c.redial.ensures.vehicle)
 
 pub invariant_of-self-clause-replays : goal.invariant_of-self-clause-replays
 invariant_of-self-clause-replays c = λ m few.

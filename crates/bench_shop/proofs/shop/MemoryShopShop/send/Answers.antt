@@ -1,0 +1,23 @@
+use Rattle.std.proofs.Common.{refl}
+use Rattle.bench_shop.specs.Pasts.{vehicle_of}
+use Rattle.bench_shop.proofs.Calling.{err_is, late_call, link_call, link_fails, not_over, not_sent, sent_now}
+use Rattle.bench_shop.proofs.shop.MemoryShopShop.send.Goals as goal
+
+pub returns-then-is_over-clause-call : goal.returns-then-is_over-clause-call
+returns-then-is_over-clause-call c = late_call _ c.args.self.now _ _ (c.if-is_over.ensures.0 refl) refl c.late.ensures
+
+pub returns-then-is_over-clause-vehicle : goal.returns-then-is_over-clause-vehicle
+returns-then-is_over-clause-vehicle c = sent_now c.args.bytes.now c.args.self.now _ _
+    (not_sent c.args.bytes.now (vehicle_of c.args.self.now.bench.world) _ c.nothing_sent.ensures)
+
+pub returns-clause-call : goal.returns-clause-call
+returns-clause-call c = link_call _ c.args.self.now.plan.link _ _ _ c.args.self.now _ c.begin-may.new.disk _
+    (not_over c.args.self.now c.is_over.result c.if-is_over.false c.is_over.ensures.1) c.begin-may.ensures
+    c.send-sent.ensures.went c.end_link.ensures (err_is c.send-sent.result _ c.is_err.ensures.value)
+
+pub returns-clause-vehicle : goal.returns-clause-vehicle
+returns-clause-vehicle c = sent_now c.args.bytes.now c.args.self.now _ _ c.send-sent.ensures.sent
+
+pub returns-clause-exact : goal.returns-clause-exact
+returns-clause-exact c = link_fails _ _ _ _ c.args.self.now _ c.begin-may.new.disk _ c.begin-may.ensures c.send-sent.ensures.exact
+    c.send-sent.ensures.went c.end_link.ensures
