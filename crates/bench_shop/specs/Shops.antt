@@ -13,13 +13,18 @@ use Rattle.vehicle_world.specs.Saving.{anew}
 use Rattle.vehicle_world.specs.Worlds.{Simulated, world_of}
 use Rattle.bench_shop.specs.Benches.{world_at, Brings}
 use Rattle.bench_shop.specs.Faults.{is_listed, no_faults, piece_for}
+use Rattle.mem_disk.specs.declared.disk.MemDisk.{MemDisk}
+use Rattle.bench_shop.specs.declared.bench.Bench.{Bench}
 use Rattle.bench_shop.specs.declared.faults.Faults.{Faults}
 use Rattle.bench_shop.specs.declared.shop.Made.{Made}
 use Rattle.bench_shop.specs.declared.shop.MemoryShop.{MemoryShop}
 
 -- of the disk what it tells itself, of the vehicle what the record says
+abbrev pub history : MemDisk → Bench → History
+history d b = record (disk_history d) { vehicle_at = λ m. (world_at b m).vehicle }
+
 abbrev pub history_of : MemoryShop → History
-history_of s = record (disk_history s.disk) { vehicle_at = λ m. (world_at s.bench m).vehicle }
+history_of s = history s.disk s.bench
 
 abbrev pub moment_of : MemoryShop → ℕ
 moment_of s = disk_moment s.disk
@@ -76,9 +81,12 @@ LinkFails old new result = moment_of old < LAST
     → (IsErr result ↔ (IsTrue (is_listed old.plan.link old.disk.link_calls) ⊎ (starved_of old < starved_of new)))
 
 -- a receive that did not fail is garbled just where a piece is listed for it; the fault is counted there alone
+abbrev pub GarblesIn : Option (List ℕ) → List ℕ → MemDisk → MemDisk → Got → Type 0
+GarblesIn None out old new got = new.link_faults ≡ old.link_faults
+GarblesIn (Some piece) out old new got = Brings (Some piece) out got
+
 abbrev pub Garbles : Option (List ℕ) → List ℕ → MemoryShop → MemoryShop → Got → Type 0
-Garbles None out old new got = new.disk.link_faults ≡ old.disk.link_faults
-Garbles (Some piece) out old new got = Brings (Some piece) out got
+Garbles piece out old new got = GarblesIn piece out old.disk new.disk got
 
 abbrev pub piece_now : MemoryShop → Option (List ℕ)
 piece_now s = piece_for s.plan.garbled s.receives

@@ -11,7 +11,7 @@ use crate::link::{begin, late};
 use crate::taking::{is_faulty, take};
 use disk_model::{DeviceFault, Pick};
 use flash_base::NoMemory;
-use mem_disk::{MemDisk, Made as Call, seen};
+use mem_disk::{Made as Call, MemDisk, seen};
 use shop_model::{Got, Shop};
 use std::alloc::Global;
 use vehicle_world::{World, nothing_sent};
@@ -53,7 +53,12 @@ impl MemoryShop {
     ghost use Rattle.bench_shop.specs.Shops.{history_of, made_of, starved_of, IsCrashed, IsNew};
 
     /// A shop whose file has these bytes, before any call. Of the plan it keeps a copy.
-    pub fn new(alloc: Global, image: &[u8], world: World, plan: &Faults) -> Result<MemoryShop, NoMemory>
+    pub fn new(
+        alloc: Global,
+        image: &[u8],
+        world: World,
+        plan: &Faults,
+    ) -> Result<MemoryShop, NoMemory>
         requires fresh { IsFresh (world_of world) }
         requires plan { IsFaults plan.now }
         ensures { IfOk result (IsNew image.now (world_of world) plan.now) }

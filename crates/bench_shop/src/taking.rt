@@ -1,9 +1,10 @@
 //! A receive, which may be garbled.
 
-ghost use Rattle.std.specs.Prelude.{◌≡◌, ◌+◌, ◌≤◌, ◌<◌, ◌^◌, ◌||◌, None, IfOk, IfSome, length};
+ghost use Rattle.std.specs.Prelude.{◌≡◌, ◌+◌, ◌≤◌, ◌<◌, ◌^◌, ◌||◌, None, IfOk, IfSome, OnOk, length};
 ghost use Rattle.std.specs.Option.{is_some, option_map};
 ghost use Rattle.std.specs.Result.{is_err};
 ghost use Rattle.shop_model.specs.History.{Received, IsPiece};
+ghost use Rattle.vehicle_world.specs.Worlds.{polled, world_of};
 ghost use Rattle.bench_shop.specs.Benches.{Brings, FailsHungry, Went};
 ghost use Rattle.bench_shop.specs.Pasts.{last_of, tick_of, vehicle_of};
 
@@ -30,6 +31,8 @@ pub(crate) fn take(
     ensures brings { IfOk result (Brings (option_map (λ b. b.now) piece.entry) out.new) }
     ensures received { Received out.new (option_map (λ b. b.now) piece.entry ≡ None)
         (vehicle_of bench.old.world) (vehicle_of bench.new.world) result }
+    ensures does { option_map (λ b. b.now) piece.entry ≡ None
+        → OnOk result (world_of bench.new.world ≡ polled (length out.old) (world_of bench.old.world)) }
     ensures went { Went moment bench.old bench.new }
     ensures exact { FailsHungry may bench.old bench.new result }
     ensures tick { tick_of bench.new.world ≤ tick_of bench.old.world + 1 }
