@@ -1,5 +1,5 @@
 -- The calls of a shop in memory are those of a shop.
-use Rattle.std.proofs.Common.{◌≡◌, inl, inr, ℕ, suc, ◌+◌, ◌-◌, ◌<◌, ◌≤◌, ◌^◌, min, Bool, true, false, List, [], ◌∷◌, Option, Some, None, refl, sym, ◌∙◌, ap, subst, arith, Result, Ok, Err}
+use Rattle.std.proofs.Common.{◌≡◌, inl, inr, ℕ, ◌+◌, ◌<◌, ◌≤◌, ◌^◌, min, Bool, true, false, List, [], Option, Some, None, refl, sym, ◌∙◌, ap, subst, arith, Result, Ok, Err}
 use Rattle.std.proofs.lemmas.Bool.{both_ways, cases_lt, lt-ltb}
 use Rattle.std.specs.Bool.{OnTrue, OnFalse}
 use Rattle.std.specs.Prelude.{nat_lt, IfOk, IsErr, IsTrue, not, ◌&&◌, ◌||◌, ◌⊎◌, ◌↔◌}
@@ -13,11 +13,11 @@ use Rattle.unit_model.specs.declared.reply.Got.TheVariants.{Bytes as GotBytes}
 use Rattle.disk_model.specs.declared.device.DeviceFault.{DeviceFault}
 use Rattle.flash_base.specs.Counts.{Rises, one_more}
 use Rattle.unit_model.specs.Vehicle.{Vehicle}
-use Rattle.shop_model.specs.History.{History, Call, LAST, Passes, DiskCall, LinkCall, Sent, Received, Redialed, vehicle_now, disk_now}
-use Rattle.mem_disk.specs.Disks.{moment_of as disk_moment, disk_calls, history_of as disk_history, is_listed as disk_listed, FailsExactly, LinkPassed, LinkEnded}
+use Rattle.shop_model.specs.History.{History, Call, LAST, DiskCall, LinkCall, Sent, Received, Redialed, vehicle_now, disk_now}
+use Rattle.mem_disk.specs.Disks.{moment_of as disk_moment, disk_calls, history_of as disk_history, FailsExactly, LinkPassed, LinkEnded}
 use Rattle.mem_disk.specs.declared.disk.MemDisk.{MemDisk}
 use Rattle.vehicle_world.specs.Worlds.{Simulated, world_of}
-use Rattle.bench_shop.specs.Benches.{world_at, Brings, FailsHungry, Went}
+use Rattle.bench_shop.specs.Benches.{Brings, FailsHungry, Went}
 use Rattle.bench_shop.specs.Faults.{is_listed}
 use Rattle.bench_shop.specs.Links.{LinkBegun}
 use Rattle.bench_shop.specs.Pasts.{last_of, world_in, vehicle_of}

@@ -2,7 +2,7 @@
 use Rattle.std.proofs.Common.{◌≡◌, ℕ, ◌≤◌, Bool, true, false, List, [], ◌∷◌, ◌++◌, length, Result, Ok, Err, refl, sym, subst, rules}
 use Rattle.std.proofs.lemmas.Bool.{le-leb}
 use Rattle.std.specs.Cmp.Derive.{both_true}
-use Rattle.std.specs.Prelude.{◌&&◌, nat_le, OnOk, OnErr}
+use Rattle.std.specs.Prelude.{◌&&◌, OnOk, OnErr}
 use Rattle.flash_base.specs.declared.fault.NoMemory.{NoMemory}
 use Rattle.flash_base.specs.Lists.{all_of}
 use Rattle.bench_shop.specs.Faults.{is_piece}

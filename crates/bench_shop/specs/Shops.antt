@@ -1,12 +1,11 @@
 -- What a shop in memory tells, and when its calls fail.
-use Rattle.std.specs.Prelude.{◌≡◌, ◌⊎◌, ◌↔◌, ℕ, ◌+◌, ◌-◌, ◌≤◌, ◌<◌, min, Bool, false, ◌&&◌, not, IsTrue, List, length, take, Option, Some, None, Result, Ok, Err, IsErr, OnOk}
+use Rattle.std.specs.Prelude.{◌≡◌, ◌⊎◌, ◌↔◌, ℕ, ◌+◌, ◌≤◌, ◌<◌, false, IsTrue, List, take, Option, Some, None, Result, IsErr}
 use Rattle.disk_model.specs.declared.device.DeviceFault.{DeviceFault}
 use Rattle.disk_model.specs.Disk.{IsCrashImage}
 use Rattle.disk_model.specs.declared.device.Pick.{Pick}
 use Rattle.mem_disk.specs.Crashed.{IsPicked}
 use Rattle.mem_disk.specs.Replay.{start as start_disk, synced_bytes}
 use Rattle.unit_model.specs.declared.reply.Got.{Got}
-use Rattle.unit_model.specs.declared.reply.Got.TheVariants.{Quiet, Bytes}
 use Rattle.shop_model.specs.History.{History, LAST, disk_now, vehicle_now}
 use Rattle.mem_disk.specs.Disks.{moment_of as disk_moment, disk_calls, history_of as disk_history}
 use Rattle.vehicle_world.specs.Saving.{anew}

@@ -1,5 +1,4 @@
-use Rattle.std.proofs.Common.{◌≡◌, true, ◌++◌, ◌∷◌, [], ℕ, List, Result, Ok, Err, sym, subst, refl}
-use Rattle.flash_base.specs.Lists.{all_of}
+use Rattle.std.proofs.Common.{◌≡◌, true, ℕ, List, sym, subst}
 use Rattle.bench_shop.specs.Faults.{is_piece}
 use Rattle.bench_shop.proofs.Listed.{garbled_on, piece_is}
 use Rattle.bench_shop.proofs.faults.Faults.garble.Goals as goal

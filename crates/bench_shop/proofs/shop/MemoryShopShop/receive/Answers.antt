@@ -1,4 +1,4 @@
-use Rattle.std.proofs.Common.{◌≡◌, ℕ, List, Option, IfOk, Bor, option_map, refl, subst, ap, ◌∙◌}
+use Rattle.std.proofs.Common.{ℕ, List, Option, IfOk, refl, subst, ap, ◌∙◌}
 use Rattle.bench_shop.specs.Faults.{piece_for}
 use Rattle.bench_shop.specs.Shops.{GarblesIn}
 use Rattle.bench_shop.specs.Benches.{Went}

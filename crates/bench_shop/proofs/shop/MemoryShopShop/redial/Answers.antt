@@ -1,6 +1,6 @@
 use Rattle.std.proofs.Common.{ℕ, refl, subst}
 use Rattle.bench_shop.specs.Benches.{Went}
-use Rattle.bench_shop.proofs.Calling.{err_is, late_call, late_past, link_call, link_fails, not_over, redialed_now, went_past}
+use Rattle.bench_shop.proofs.Calling.{err_is, late_call, link_call, link_fails, not_over, redialed_now, went_past}
 use Rattle.bench_shop.proofs.shop.MemoryShopShop.redial.Goals as goal
 
 pub returns-then-is_over-clause-call : goal.returns-then-is_over-clause-call
