@@ -1,0 +1,79 @@
+ghost use Rattle.std.specs.Prelude.{◌≤◌};
+
+use bench_gen::files;
+use bench_shop::MemoryShop;
+use flash_commands::flash_plain;
+use flash_drill::drill;
+use flash_shelf::{MemoryShelf, MemorySink};
+use plan_commands::Status;
+use std::alloc::Global;
+use std::sync::Wait;
+use std::test::Fail;
+use std::thread::Threads;
+
+/// What `drill 0` prints; the digest is that of Python's `hashlib` over the plan's canonical bytes.
+const DRILLED: &str = "drill 0 units 2 bytes 8192 blocks 4
+plan 54b74dd1685082bc13c6352207e3eea8d04665607e1997d847b4486952acd14c
+unit U00 1000 complete
+unit U01 1001 complete
+complete 2 of 2
+";
+
+/// What `status drill.json` prints over the shop that it hands back.
+const LOOKED: &str = "plan 54b74dd1685082bc13c6352207e3eea8d04665607e1997d847b4486952acd14c
+unit U00 1000 complete
+unit U01 1001 complete
+complete 2 of 2
+";
+
+/// What `status drill.json` prints over a shop.
+fn look<R: Threads + Sync>(
+    rt: &R,
+    alloc: Global,
+    shop: &mut MemoryShop,
+) -> Result<(Status, MemorySink), Fail> {
+    let mut words = Vec::new(alloc);
+    for word in ["status", "drill.json"] {
+        words.push(String::from_str(alloc, word)?)?;
+    }
+    let mut shelf = MemoryShelf::new(alloc, &files(alloc, 0)?, &[])?;
+    let mut out = MemorySink::new(alloc, &[])?;
+    let status = flash_plain(rt, alloc, words.as_slice(), &mut shelf, shop, &mut out);
+    Ok((status, out))
+}
+
+#[test]
+fn smallest(rt: HostRuntime) -> Result<(), Fail> {
+    let alloc = rt.alloc();
+    let mut out = MemorySink::new(alloc, &[])?;
+    let (shop, status) = drill(&rt, alloc, 0, &mut out);
+    assert!(rt; status == Status::Done);
+    assert!(rt; out.written() == DRILLED.as_bytes());
+    match shop {
+        None => assert!(rt; false),
+        Some(mut shop) => {
+            let (status, out) = look(&rt, alloc, &mut shop)?;
+            assert!(rt; status == Status::Done);
+            assert!(rt; out.written() == LOOKED.as_bytes());
+        }
+    }
+    Ok(())
+}
+
+/// A sink that fails at once: nothing is printed, and the vehicle is programmed all the same.
+#[test]
+fn cut_off(rt: HostRuntime) -> Result<(), Fail> {
+    let alloc = rt.alloc();
+    let mut out = MemorySink::new(alloc, &[0])?;
+    let (shop, status) = drill(&rt, alloc, 0, &mut out);
+    assert!(rt; status == Status::Sink);
+    assert!(rt; out.written().is_empty());
+    match shop {
+        None => assert!(rt; false),
+        Some(mut shop) => {
+            let (_, out) = look(&rt, alloc, &mut shop)?;
+            assert!(rt; out.written() == LOOKED.as_bytes());
+        }
+    }
+    Ok(())
+}

@@ -1,0 +1,3 @@
+pub mod Drilling
+pub mod Ending
+pub mod Words
