@@ -12,4 +12,5 @@ mod serving;
 mod words;
 
 pub use drilling::drill;
-pub use serving::flash;
+pub use plan_commands::Status;
+pub use serving::{flash, flash_watched};

@@ -10,8 +10,9 @@ ghost use Rattle.plan_commands.specs.Words.{status_order};
 
 use crate::drilling::drill;
 use crate::words::drill_in;
-use flash_commands::flash as serve;
+use flash_commands::flash_watched as serve;
 use flash_shelf::{Shelf, Sink};
+use flash_workers::{Unwatched, Watcher};
 use plan_commands::Status;
 use shop_model::Shop;
 use std::alloc::Global;
@@ -49,8 +50,47 @@ pub fn flash<R: Threads + Wait + Sync, F: Shelf, S: Shop + Send, K: Sink>(
         → ServesDrill n K.tells (K.history out.old) (K.history out.new) result.1 }
     ensures kept { (n : ℕ) → drill_number (map string_bytes words.now) ≡ Some n → shelf.new ≡ shelf.old }
 {
+    flash_watched(rt, alloc, words, shelf, shop, out, &Unwatched)
+}
+
+/// The same, and a watcher is told how far a run has come; of a drill it is told nothing. No promise speaks of it.
+pub fn flash_watched<
+    R: Threads + Wait + Sync,
+    F: Shelf,
+    S: Shop + Send,
+    K: Sink,
+    W: Watcher + Sync,
+>(
+    rt: &R,
+    alloc: Global,
+    words: &[String],
+    shelf: &mut F,
+    shop: S,
+    out: &mut K,
+    watcher: &W,
+) -> (S, Status)
+    ensures not_called { run_order (map string_bytes words.now) ≡ None
+        → status_order (map string_bytes words.now) ≡ None → result.0 ≡ shop }
+    ensures serves { run_order (map string_bytes words.now) ≡ None
+        → status_order (map string_bytes words.now) ≡ None → drill_number (map string_bytes words.now) ≡ None
+        → ServesWords F.tells (F.history shelf.old) (F.history shelf.new)
+        K.tells (K.history out.old) (K.history out.new) (map string_bytes words.now) result.1 }
+    ensures shows { (order : List ℕ) → status_order (map string_bytes words.now) ≡ Some order
+        → ServesStatus F.tells (F.history shelf.old) (F.history shelf.new)
+        S.tells_disk (S.history shop) (S.history result.0)
+        K.tells (K.history out.old) (K.history out.new) order result.1 }
+    ensures runs { (order : List ℕ) → run_order (map string_bytes words.now) ≡ Some order
+        → RunsOrder F.tells (F.history shelf.old) (F.history shelf.new)
+        S.tells_disk S.tells_vehicle (S.history shop) (S.history result.0)
+        K.tells (K.history out.old) (K.history out.new) order result.1 }
+
+    // A drill of its own: the shelf and the shop are as they were.
+    ensures drills { (n : ℕ) → drill_number (map string_bytes words.now) ≡ Some n
+        → ServesDrill n K.tells (K.history out.old) (K.history out.new) result.1 }
+    ensures kept { (n : ℕ) → drill_number (map string_bytes words.now) ≡ Some n → shelf.new ≡ shelf.old }
+{
     match drill_in(words) {
         Some(n) => (shop, drill(rt, alloc, n, out).1),
-        None => serve(rt, alloc, words, shelf, shop, out),
+        None => serve(rt, alloc, words, shelf, shop, out, watcher),
     }
 }
