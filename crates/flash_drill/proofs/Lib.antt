@@ -1,2 +1,3 @@
+pub mod Drilled
 pub mod Ends
 pub mod Forms

@@ -58,7 +58,7 @@ fn is_starved(shop: &MemoryShop, page: &MemorySink) -> bool {
 /// Makes an order, its files and a vehicle of the number `n`, and programs it with 4 workers, all in memory: on a
 /// shelf and a shop of its own, which begin as they are made and are told to fail nowhere. Prints the summary line
 /// `drill N units U bytes B blocks K` and the lines of the run behind it, and hands the shop back; None comes only for
-/// want of memory before the run. Where the shop found no memory at some call, the status is `NoMemory`, and the
+/// want of memory before the run, and then nothing is printed. Where the shop found no memory at some call, the status is `NoMemory`, and the
 /// lines of the run are not printed.
 ///
 /// It may wait, as its workers do.
@@ -70,6 +70,7 @@ pub fn drill<R: Threads + Wait + Sync, K: Sink>(
 ) -> (Option<MemoryShop>, Status)
     requires { n ≤ 999999 }
     ensures none { result.0 ≡ None → result.1 ≡ Status.NoMemory }
+    ensures unwritten { result.0 ≡ None → out.new ≡ out.old }
     ensures drills { IfSome result.0 (λ shop. Drills n (history_of shop)
         K.tells (K.history out.old) (K.history out.new) result.1) }
 
