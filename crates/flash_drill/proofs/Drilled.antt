@@ -1,6 +1,7 @@
 -- A drill's run, and what the drill promises by it.
 use Rattle.std.proofs.Common.{◌≡◌, ◌∙◌, ◌⊎◌, inl, inr, ℕ, true, Bool, List, [], ◌∷◌, codes, map, Some, None, refl, sym, ap, subst}
 use Rattle.std.specs.Prelude.{Option, IfSome}
+use Rattle.std.specs.Fmt.{digits}
 use Rattle.bench_gen.specs.Files.{AreFiles}
 use Rattle.drill_law.specs.Vehicles.{unit_specs}
 use Rattle.flash_commands.specs.Running.{RunsOrder}
@@ -33,6 +34,8 @@ start_units n = made_units (unit_specs n)
 -- ------ the run
 abbrev pub run_of_drill : List (List ℕ)
 run_of_drill = codes "run" ∷ codes "drill.json" ∷ codes "4" ∷ []
+
+unfolding digits
 
 is_run : run_order run_of_drill ≡ Some (codes "drill.json")
 is_run = refl

@@ -1,3 +1,5 @@
+pub mod Calm
 pub mod Drilled
 pub mod Ends
 pub mod Forms
+pub mod Quiet

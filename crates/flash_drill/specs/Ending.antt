@@ -1,5 +1,5 @@
 -- What a drill prints, and what holds of disk, vehicle and text at its end, for any vehicle at its start.
-use Rattle.std.specs.Prelude.{◌≡◌, ◌⊎◌, ℕ, true, Bool, IsTrue, List, [], ◌++◌, codes}
+use Rattle.std.specs.Prelude.{◌≡◌, ◌⊎◌, ℕ, true, false, Bool, IsTrue, List, [], ◌++◌, codes}
 use Rattle.bench_gen.specs.Files.{AreFiles}
 use Rattle.bench_gen.specs.Sizes.{all_blocks_of, all_bytes_of, units_of}
 use Rattle.drill_law.specs.Laws.{no_file}
@@ -34,16 +34,19 @@ IsPrinted tells k0 k1 text status result =
     × (IsTrue tells → AddsPart k0.written k1.written text))
     ⊎ ((result ≡ NoMemory) × (k1 ≡ k0))
 
--- the summary line with the lines of a run behind it; where memory ran out, without them
-abbrev pub IsPrintedRun : Bool → SinkHistory → SinkHistory → ℕ → List ℕ → Ending → Ending → Type 0
-IsPrintedRun tells k0 k1 n lines status result =
+-- the summary line with the lines of a run behind it; where a call found no memory, the summary line alone
+abbrev pub IsPrintedRun : Bool → SinkHistory → SinkHistory → ℕ → List ℕ → Ending → Bool → Ending → Type 0
+IsPrintedRun tells k0 k1 n lines status false result =
     IsPrinted tells k0 k1 (summary n ++ lines) status result
-    ⊎ ((result ≡ NoMemory) × IsPrinted tells k0 k1 (summary n ++ []) NoMemory result)
+IsPrintedRun tells k0 k1 n lines status true result =
+    (result ≡ NoMemory) × IsPrinted tells k0 k1 (summary n ++ []) NoMemory result
 
 -- ------ the start and the run
--- an empty journal, and this vehicle
+-- an empty journal, and this vehicle; nothing has failed yet
 pub record BeginsOver (v : Vehicle) (h : History) : Type 0 where
   pub moment : h.moment ≡ 0
+  pub disk_faults : h.disk_faults ≡ 0
+  pub link_faults : h.link_faults ≡ 0
   pub disk : disk_now h ≡ no_file
   pub vehicle : vehicle_now h ≡ v
 
@@ -67,9 +70,3 @@ pub record EndsOver (n : ℕ) (v : Vehicle) (h : History) (tells : Bool) (k0 k1 
   pub text : IsTrue tells → k1.written
       ≡ k0.written ++ (summary n ++ report_text (plan_of_drill n) (all_complete (plan_of_drill n)))
   pub memory : AreShown h 0 h.moment → AreProgrammedOver (plan_of_drill n) v (vehicle_now h)
-
--- a run at which no count rose, and no receive was garbled, ends well, but for want of memory
-abbrev pub CompletesOver : (n : ℕ) (v : Vehicle) (h : History) (page : SinkHistory) (status : Ending)
-    → RunsOver n v h page status → Type 0
-CompletesOver n v h page status r = IsCalm r.before r.behind r.first h r.blank page → AreShown h 0 h.moment
-    → (status ≡ Done) ⊎ (status ≡ NoMemory)

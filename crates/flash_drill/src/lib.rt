@@ -7,6 +7,7 @@
 
 mod drilling;
 mod making;
+mod own;
 mod printing;
 mod serving;
 mod words;

@@ -6,24 +6,21 @@ ghost use Rattle.bench_shop.specs.Shops.{IsNew};
 ghost use Rattle.vehicle_world.specs.Worlds.{IsFresh, made_of, world_of};
 ghost use Rattle.flash_drill.specs.Drilling.{spec_of_drill};
 
+use crate::own::{OwnShelf, OwnShop};
 use bench_gen::{files, vehicle_text};
-use bench_shop::{Faults, MemoryShop};
 use drill_law::units_match;
 use flash_base::NoMemory;
-use flash_shelf::MemoryShelf;
 use std::alloc::Global;
 use vehicle_world::World;
 use world_file::read;
 
-/// A shelf with the files of drill `n`, of whose calls none is to fail.
-pub(crate) fn shelf_of(alloc: Global, n: u32) -> Result<MemoryShelf, NoMemory>
+/// A shelf with the files of drill `n`.
+pub(crate) fn shelf_of(alloc: Global, n: u32) -> Result<OwnShelf, NoMemory>
     requires { n ≤ 999999 }
-    ensures files { IfOk result (λ shelf. AreFiles n shelf.files) }
-    ensures none { IfOk result (λ shelf. shelf.failing ≡ []) }
-    ensures faults { IfOk result (λ shelf. shelf.faults ≡ 0) }
+    ensures { IfOk result (λ s. AreFiles n s.shelf.files) }
 {
     let files = files(alloc, n)?;
-    MemoryShelf::new(alloc, &files, &[])
+    OwnShelf::new(alloc, &files)
 }
 
 /// The vehicle of drill `n`, as its text says.
@@ -40,11 +37,11 @@ fn world_of(alloc: Global, n: u32) -> Result<World, NoMemory>
     }
 }
 
-/// A shop with an empty journal and the vehicle of drill `n`, of whose calls none is to fail.
-pub(crate) fn shop_of(alloc: Global, n: u32) -> Result<MemoryShop, NoMemory>
+/// A shop with an empty journal and the vehicle of drill `n`.
+pub(crate) fn shop_of(alloc: Global, n: u32) -> Result<OwnShop, NoMemory>
     requires { n ≤ 999999 }
-    ensures { IfOk result (IsNew [] (made_of (spec_of_drill n)) no_faults) }
+    ensures { IfOk result (λ s. IsNew [] (made_of (spec_of_drill n)) no_faults s.shop) }
 {
     let world = world_of(alloc, n)?;
-    MemoryShop::new(alloc, &[], world, &Faults::none(alloc))
+    OwnShop::new(alloc, world)
 }

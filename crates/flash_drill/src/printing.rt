@@ -4,7 +4,7 @@ ghost use Rattle.flash_drill.specs.Ending.{IsPrinted, IsPrintedRun, cut_off, sum
 
 use bench_gen::{blocks, bytes, units};
 use flash_base::{Bytes, NoMemory};
-use flash_shelf::{MemorySink, Sink};
+use flash_shelf::Sink;
 use plan_commands::Status;
 use run_report::drill_line;
 use std::alloc::Global;
@@ -45,21 +45,21 @@ fn print_all<K: Sink>(alloc: Global, out: &mut K, n: u32, lines: &[u8], status: 
     }
 }
 
-/// Prints the summary line and what a run printed on its page, and tells the status. Where a call found no memory the
-/// status is `NoMemory`, and the lines of the run are left out.
+/// Prints the summary line and the lines of a run, and tells the status. Where a call found no memory the status is
+/// `NoMemory`, and the lines of the run are left out.
 pub(crate) fn print_run<K: Sink>(
     alloc: Global,
     out: &mut K,
     n: u32,
-    page: &MemorySink,
+    lines: &[u8],
     status: Status,
     starved: bool,
 ) -> Status
     requires { n ≤ 999999 }
-    ensures { IsPrintedRun K.tells (K.history out.old) (K.history out.new) n page.now.written status result }
+    ensures { IsPrintedRun K.tells (K.history out.old) (K.history out.new) n lines.now status starved result }
 {
     if starved {
         return print_all(alloc, out, n, &[], Status::NoMemory);
     }
-    print_all(alloc, out, n, page.written(), status)
+    print_all(alloc, out, n, lines, status)
 }
