@@ -1,5 +1,5 @@
 -- A vehicle without troubles stays one, whatever is sent to it and received from it.
-use Rattle.std.proofs.Common.{◌≡◌, ◌∙◌, ◌×◌, ℕ, ◌+◌, ◌==◌, Bool, true, false, List, [], ◌∷◌, ◌++◌, Option, Some, None, refl, sym, ap, subst, map}
+use Rattle.std.proofs.Common.{◌≡◌, ◌∙◌, ℕ, ◌+◌, ◌==◌, Bool, true, false, List, [], ◌∷◌, ◌++◌, Option, Some, None, refl, sym, ap, subst, map}
 use Rattle.std.specs.Prelude.{IfSome, length, nat_le, if◌then◌else◌}
 use Rattle.doip_frame.specs.Deframe.{bad_in}
 use Rattle.doip_frame.specs.declared.frame.Bad.{Bad}
@@ -87,15 +87,18 @@ refused_calm None g c = c
 refused_calm (Some code) g c = says_calm g _ c
 
 queued_calm : (unit due : ℕ) (body : List ℕ) (g : Gate) → IsCalmGate g → IsCalmGate (queued unit due body g)
-queued_calm unit due body g c = record { troubles = c.troubles; denied = λ code. denied code (nat_le due g.gateway.tick) ∙ c.denied code; silent = silent (nat_le due g.gateway.tick) ∙ c.silent }
+queued_calm unit due body g c = record {
+  troubles = c.troubles;
+  denied = λ code. denied code (nat_le due g.gateway.tick) _ _ refl refl ∙ c.denied code;
+  silent = silent (nat_le due g.gateway.tick) _ _ refl refl ∙ c.silent;
+}
   where
-    denied : (code : ℕ) (b : Bool) {x y : Gateway} → x.denied code ≡ g.gateway.denied code → y.denied code ≡ g.gateway.denied code → (if b then x else y).denied code ≡ g.gateway.denied code
-    denied code true e f = e
-    denied code false e f = f
-
-    silent : (b : Bool) {x y : Gateway} → x.silent ≡ g.gateway.silent → y.silent ≡ g.gateway.silent → (if b then x else y).silent ≡ g.gateway.silent
-    silent true e f = e
-    silent false e f = f
+    denied : (code : ℕ) (b : Bool) (x y : Gateway) → x.denied code ≡ g.gateway.denied code → y.denied code ≡ g.gateway.denied code → (if b then x else y).denied code ≡ g.gateway.denied code
+    denied code true x y e f = e
+    denied code false x y e f = f
+    silent : (b : Bool) (x y : Gateway) → x.silent ≡ g.gateway.silent → y.silent ≡ g.gateway.silent → (if b then x else y).silent ≡ g.gateway.silent
+    silent true x y e f = e
+    silent false x y e f = f
 
 all_queued_calm : (ws : List DueReply) (g : Gate) → IsCalmGate g → IsCalmGate (all_queued ws g)
 all_queued_calm [] g c = c

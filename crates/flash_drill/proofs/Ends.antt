@@ -1,5 +1,6 @@
 -- What a drill's run promises at its end.
-use Rattle.std.proofs.Common.{◌≡◌, ◌∙◌, ◌⊎◌, inl, inr, ℕ, true, IsTrue, Bool, List, [], ◌++◌, codes, map, Ok, refl, sym, ap, subst}
+use mathlib.Core.Logic.{∥∥₁_elim}
+use Rattle.std.proofs.Common.{◌≡◌, ◌∙◌, ◌⊎◌, inl, inr, ℕ, ◌+◌, ◌≤◌, arith, true, false, IsTrue, Bool, List, [], ◌++◌, codes, map, Ok, refl, sym, ap, subst}
 use Rattle.bay_law.specs.Sentence.{IsSoundAt}
 use Rattle.disk_model.specs.Disk.{DiskState}
 use Rattle.drill_law.specs.Plans.{built_of_drill, plan_of_drill}
@@ -8,7 +9,9 @@ use Rattle.drill_law.proofs.Builds.{builds}
 use Rattle.drill_law.proofs.Starts.{empty_matches, empty_opens, empty_sound}
 use Rattle.flash_commands.specs.Outcomes as outcomes
 use Rattle.flash_commands.specs.Outcomes.{all_complete}
-use Rattle.flash_drill.specs.Ending.{BeginsOver, CompletesOver, EndsOver, IsPrinted, IsPrintedRun, RunsOver, cut_off, summary}
+use Rattle.flash_commands.specs.Running.{IsCalm}
+use Rattle.flash_drill.specs.Drilling.{Completes}
+use Rattle.flash_drill.specs.Ending.{BeginsOver, EndsOver, IsPrinted, IsPrintedRun, RunsOver, cut_off, summary}
 use Rattle.flash_journal.specs.Look.{Opens}
 use Rattle.flash_shelf.specs.History.{SinkHistory}
 use Rattle.journal_model.specs.Records.{label_of, records}
@@ -65,7 +68,7 @@ module _ (n : ℕ) (v : Vehicle) (h : History) (page : SinkHistory) (status : St
   ends_well tells k0 k1 result (inr (inl p)) done = absurd (never_done status (sym p.0 ∙ done))
   ends_well tells k0 k1 result (inr (inr p)) done = absurd (memory_not_done result p.0 done)
 
-  pub completes : v.units ≡ map unit_of (unit_specs n) → CompletesOver n v h page status r
+  pub completes : v.units ≡ map unit_of (unit_specs n) → IsCalm r.before r.behind r.first h r.blank page → AreShown h 0 h.moment → (status ≡ Done) ⊎ (status ≡ NoMemory)
   completes are calm s =
       let P = plan_of_drill n in
       let opens : Opens (label_of P) (disk_now r.first).bytes = subst (λ (d : DiskState). Opens (label_of P) d.bytes) (sym r.begins.disk) (empty_opens P) in
@@ -74,7 +77,33 @@ module _ (n : ℕ) (v : Vehicle) (h : History) (page : SinkHistory) (status : St
       (subst (λ (w : Vehicle). AllMatch P (records (label_of P) []) w) (sym r.begins.vehicle) (empty_matches n v are)) in
       r.runs.complete refl refl refl calm (shown_from s) (built_of_drill n) has_plan opens matches
 
+  -- the vehicle of the start is kept in mind
+  pub started : h.vehicle_at 0 ≡ v
+  started =
+      let kept = r.runs.sound refl refl refl (built_of_drill n) has_plan v starts_sound in
+      kept.is_later.vehicle_past 0 (omega arith) ∙ (ap (λ (m : ℕ). r.first.vehicle_at m) (sym r.begins.moment) ∙ r.begins.vehicle)
+
   -- by what was printed of the run
-  pub ends_printed : (tells : Bool) (k0 k1 : SinkHistory) (result : Status) → IsPrintedRun tells k0 k1 n page.written status result → result ≡ Done → EndsOver n v h tells k0 k1
-  ends_printed tells k0 k1 result (inl p) done = ends_well tells k0 k1 result p done
-  ends_printed tells k0 k1 result (inr p) done = absurd (memory_not_done result p.0 done)
+  pub ends_printed : (tells : Bool) (k0 k1 : SinkHistory) (starved : Bool) (result : Status) → IsPrintedRun tells k0 k1 n page.written status starved result → result ≡ Done → EndsOver n v h tells k0 k1
+  ends_printed tells k0 k1 false result p done = ends_well tells k0 k1 result p done
+  ends_printed tells k0 k1 true result p done = absurd (memory_not_done result p.0 done)
+
+-- a run that ends well is printed, or there was no memory, or writing failed
+pub printed_well : (tells : Bool) (k0 k1 : SinkHistory) (text : List ℕ) (status result : Status) → (status ≡ Done) ⊎ (status ≡ NoMemory) → IsPrinted tells k0 k1 text status result → Completes k0 k1 result
+printed_well tells k0 k1 text status result (inl e) (inl p) = inl (p.0 ∙ e)
+printed_well tells k0 k1 text status result (inr e) (inl p) = inr (inl (p.0 ∙ e))
+printed_well tells k0 k1 text status result (inl e) (inr (inl p)) = inr (inr (p.0 ∙ ap cut_off e, p.1.0))
+printed_well tells k0 k1 text status result (inr e) (inr (inl p)) = inr (inl (p.0 ∙ ap cut_off e))
+printed_well tells k0 k1 text status result e (inr (inr p)) = inr (inl p.0)
+
+-- what a truncated pair says of a status
+pub good : (status : Status) → ∥ (status ≡ Done) ⊎ (status ≡ NoMemory) ∥₁ → (status ≡ Done) ⊎ (status ≡ NoMemory)
+good Done h = inl refl
+good NoMemory h = inr refl
+good Usage h = absurd (∥∥₁_elim h (λ x y. absurd x) (λ x. elim x [ inl e ↦ cc | inr e ↦ cc ]))
+good Input h = absurd (∥∥₁_elim h (λ x y. absurd x) (λ x. elim x [ inl e ↦ cc | inr e ↦ cc ]))
+good Units h = absurd (∥∥₁_elim h (λ x y. absurd x) (λ x. elim x [ inl e ↦ cc | inr e ↦ cc ]))
+good Shelf h = absurd (∥∥₁_elim h (λ x y. absurd x) (λ x. elim x [ inl e ↦ cc | inr e ↦ cc ]))
+good Journal h = absurd (∥∥₁_elim h (λ x y. absurd x) (λ x. elim x [ inl e ↦ cc | inr e ↦ cc ]))
+good Disk h = absurd (∥∥₁_elim h (λ x y. absurd x) (λ x. elim x [ inl e ↦ cc | inr e ↦ cc ]))
+good Sink h = absurd (∥∥₁_elim h (λ x y. absurd x) (λ x. elim x [ inl e ↦ cc | inr e ↦ cc ]))

@@ -3,3 +3,4 @@ pub mod Drilled
 pub mod Ends
 pub mod Forms
 pub mod Quiet
+pub mod Starting

@@ -1,7 +1,7 @@
 -- A shop that is to fail nowhere stays quiet while it finds memory; what that says of a run.
 use mathlib.Core.Logic.{∥∥₁_map}
-use Rattle.std.proofs.Common.{◌≡◌, ◌∙◌, ◌×◌, ◌⊎◌, inl, inr, ℕ, ◌+◌, ◌<◌, ◌≤◌, ◌==◌, Bool, true, false, List, [], ◌∷◌, Option, Some, None, Result, Ok, Err, refl, sym, ap, subst, map, take, arith}
-use Rattle.std.proofs.lemmas.Bool.{cases_lt}
+use Rattle.std.proofs.Common.{◌≡◌, ◌∙◌, ◌⊎◌, inl, inr, ℕ, ◌+◌, ◌<◌, ◌≤◌, ◌==◌, Bool, true, false, List, [], ◌∷◌, Option, Some, None, Result, Ok, Err, refl, sym, ap, subst, map, take, arith}
+use Rattle.std.proofs.lemmas.Bool.{cases_lt, false≢true}
 use Rattle.std.specs.Prelude.{IfOk, IsErr, IsOk, IsTrue, OnOk, ◌↔◌, if◌then◌else◌}
 use Rattle.bench_shop.proofs.Calling.{now_is}
 use Rattle.bench_shop.specs.Faults.{is_listed, no_faults, piece_for}
@@ -57,17 +57,14 @@ module _ {T : Type 0} (call : Call) (h0 h1 : History) (r : Result T DeviceFault)
 -- ------ no call fails
 succeeds : {T : Type 0} (numbers : List ℕ) (n old new : ℕ) (r : Result T DeviceFault) → numbers ≡ [] → old ≡ 0 → new ≡ 0
     → IsErr r ↔ (IsTrue (is_listed numbers n) ⊎ (old < new)) → IsOk r
-succeeds numbers n old new (Ok x) none f g fails = tt
-succeeds [] n old new (Err e) none f g fails = absurd (elim (fails.0 tt) [ inl listed ↦ cc | inr more ↦ omega (arith, more, f, g) ])
+succeeds numbers n old new (Ok x) none f g fails = refl
+succeeds [] n old new (Err e) none f g fails = absurd (elim (fails.0 refl) [ inl listed ↦ cc | inr more ↦ omega (arith, more, f, g) ])
 succeeds (k ∷ ks) n old new (Err e) none f g fails = cc
 
-on_ok : {T : Type 0} (r : Result T DeviceFault) (P : Type 0) → IsOk r → OnOk r P → P
+pub on_ok : {T : Type 0} (r : Result T DeviceFault) (P : Type 0) → IsOk r → OnOk r P → P
 on_ok (Ok x) P ok p = p
-on_ok (Err e) P ok p = absurd ok
+on_ok (Err e) P ok p = absurd (false≢true ok)
 
-if_ok : (r : Result Got DeviceFault) (P : Type 0) → IsOk r → IfOk r (λ got. P) → P
-if_ok (Ok x) P ok p = p
-if_ok (Err e) P ok p = absurd ok
 
 module _ {T : Type 0} (call : Call) (old new : MemoryShop) (r : Result T DeviceFault) (plan : old.plan ≡ no_faults) (quiet : IsQuietFed old) where
   no_disk : old.plan.disk ≡ []
@@ -116,7 +113,7 @@ no_piece s plan = ap (λ (f : Faults). piece_for f.garbled s.receives) plan
 pub plain_receive : (out : List ℕ) (old new : MemoryShop) (r : Result Got DeviceFault) → old.plan ≡ no_faults → IfOk r (Garbles (piece_now old) out old new) → IsOk r
     → (history_of new).link_faults ≡ (history_of old).link_faults
 plain_receive out old new (Ok got) plan g ok = subst (λ (o : Option (List ℕ)). Garbles o out old new got) (no_piece old plan) g
-plain_receive out old new (Err e) plan g ok = absurd ok
+plain_receive out old new (Err e) plan g ok = absurd (false≢true ok)
 
 -- a receive at which no fault was counted is shown
 pub shown_receive : (out : List ℕ) (a b : ℕ) (v w : Vehicle) (r : Result Got DeviceFault) → Received out (¬ Rises a b) v w r → a ≡ 0 → b ≡ 0 → IsShownReceive v w
@@ -161,7 +158,7 @@ calm_units : (ss : List Sim) → Each IsCalmSim ss → Each IsCalmUnit (map unit
 calm_units [] c = tt
 calm_units (s ∷ ss) c = (c.0.counts, calm_units ss c.1)
 
-same_addresses : (ss : List Sim) → unit_addresses (map unit_in ss) ≡ sim_addresses ss
+pub same_addresses : (ss : List Sim) → unit_addresses (map unit_in ss) ≡ sim_addresses ss
 same_addresses [] = refl
 same_addresses (s ∷ ss) = ap (λ (as' : List ℕ). s.unit.address ∷ as') (same_addresses ss)
 
