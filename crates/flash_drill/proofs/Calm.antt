@@ -96,6 +96,7 @@ queued_calm unit due body g c = record {
     denied : (code : ℕ) (b : Bool) (x y : Gateway) → x.denied code ≡ g.gateway.denied code → y.denied code ≡ g.gateway.denied code → (if b then x else y).denied code ≡ g.gateway.denied code
     denied code true x y e f = e
     denied code false x y e f = f
+
     silent : (b : Bool) (x y : Gateway) → x.silent ≡ g.gateway.silent → y.silent ≡ g.gateway.silent → (if b then x else y).silent ≡ g.gateway.silent
     silent true x y e f = e
     silent false x y e f = f

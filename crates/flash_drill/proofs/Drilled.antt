@@ -22,6 +22,7 @@ use Rattle.shop_model.specs.History.{vehicle_now}
 use Rattle.unit_model.specs.Vehicle.{Vehicle}
 use Rattle.vehicle_world.specs.Worlds.{made_of, world_of}
 use Rattle.std.proofs.lemmas.Bool.{false≢true, lt-ltb}
+use Rattle.std.proofs.lemmas.Bool.Decides.{nat_tests}
 use Rattle.flash_shelf.specs.History.{ShelfHistory, SinkHistory}
 use Rattle.flash_words.specs.Words.{command_of}
 use Rattle.flash_words.specs.declared.command.Command.{Command as AnyCommand}
@@ -47,9 +48,8 @@ start_units n = made_units (unit_specs n)
 abbrev pub run_of_drill : List (List ℕ)
 run_of_drill = codes "run" ∷ codes "drill.json" ∷ codes "4" ∷ []
 
-unfolding digits
-
 is_run : run_order run_of_drill ≡ Some (codes "drill.json")
+unfolding digits
 is_run = refl
 
 module _ (n : ℕ) (h0 h1 : History) (s0 s1 : ShelfHistory) (p0 p1 : SinkHistory) (words : List (List ℕ)) (status : Ending)
@@ -105,6 +105,7 @@ module _ (n : ℕ) (s : MemoryShop) (h0 : History) (s0 s1 : ShelfHistory) (p0 p1
   }
 
   pub run_ends : s1.faults ≡ 0 → p1.faults ≡ 0 → ∥ IsQuiet s ∥₁ → (status ≡ Done) ⊎ (status ≡ NoMemory)
+  unfolding over
   run_ends shelf page quiet = good status (∥∥₁_map quiet (λ q. completes n (start_of_drill n) (history_of s) p1 status (over n h0 (history_of s) s0 s1 p0 p1 words status begins files empty said runs)
       (start_units n) (quiet_calm shelf page q) q.shown))
 

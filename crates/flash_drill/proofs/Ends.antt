@@ -92,7 +92,7 @@ module _ (n : ℕ) (v : Vehicle) (h : History) (page : SinkHistory) (status : St
 pub printed_well : (tells : Bool) (k0 k1 : SinkHistory) (text : List ℕ) (status result : Status) → (status ≡ Done) ⊎ (status ≡ NoMemory) → IsPrinted tells k0 k1 text status result → Completes k0 k1 result
 printed_well tells k0 k1 text status result (inl e) (inl p) = inl (p.0 ∙ e)
 printed_well tells k0 k1 text status result (inr e) (inl p) = inr (inl (p.0 ∙ e))
-printed_well tells k0 k1 text status result (inl e) (inr (inl p)) = inr (inr (p.0 ∙ ap cut_off e, p.1.0))
+printed_well tells k0 k1 text status result (inl e) (inr (inl p)) = inr (inr (p.0 ∙ ap cut_off e, p.1))
 printed_well tells k0 k1 text status result (inr e) (inr (inl p)) = inr (inl (p.0 ∙ ap cut_off e))
 printed_well tells k0 k1 text status result e (inr (inr p)) = inr (inl p.0)
 

@@ -65,7 +65,6 @@ pub on_ok : {T : Type 0} (r : Result T DeviceFault) (P : Type 0) → IsOk r → 
 on_ok (Ok x) P ok p = p
 on_ok (Err e) P ok p = absurd (false≢true ok)
 
-
 module _ {T : Type 0} (call : Call) (old new : MemoryShop) (r : Result T DeviceFault) (plan : old.plan ≡ no_faults) (quiet : IsQuietFed old) where
   no_disk : old.plan.disk ≡ []
   no_disk = ap (λ (f : Faults). f.disk) plan
