@@ -1,8 +1,7 @@
 -- A vehicle without troubles stays one, whatever is sent to it and received from it.
-use Rattle.std.proofs.Common.{◌≡◌, ◌∙◌, ℕ, ◌+◌, ◌==◌, Bool, true, false, List, [], ◌∷◌, ◌++◌, Option, Some, None, refl, sym, ap, subst, map}
+use Rattle.std.proofs.Common.{◌≡◌, ◌∙◌, ℕ, ◌+◌, ◌==◌, Bool, true, false, List, [], ◌∷◌, ◌++◌, Option, Some, None, refl, sym, ap, subst}
 use Rattle.std.specs.Prelude.{IfSome, length, nat_le, if◌then◌else◌}
 use Rattle.doip_frame.specs.Deframe.{bad_in}
-use Rattle.doip_frame.specs.declared.frame.Bad.{Bad}
 use Rattle.doip_frame.specs.declared.frame.Frame.{Frame}
 use Rattle.doip_frame.specs.declared.frame.Frame.TheVariants.{HeaderNack, Activate, Activated, AliveAsk, AliveSay, Message, Ack, Nack, Other}
 use Rattle.flash_base.specs.Lists.{Each}
@@ -10,14 +9,13 @@ use Rattle.flash_drill.specs.Calm.{IsCalmGate, IsCalmSim, IsCalmState, sim_addre
 use Rattle.gateway_sim.specs.Acting.{counted_activation, counted_message, how, nack_for}
 use Rattle.gateway_sim.specs.Feeding.{cut_off, ended}
 use Rattle.gateway_sim.specs.Gates.{Gate, front_of}
-use Rattle.gateway_sim.specs.Handling.{Sent, Nothing, Heard, Refused, Step, activates, answered, code_of, comes, delivers, handled, queued, refused, refusing, says}
+use Rattle.gateway_sim.specs.Handling.{Sent, Nothing, Heard, Refused, Step, activates, answered, code_of, comes, delivers, handled, queued, refused, says}
 use Rattle.gateway_sim.specs.declared.spec.GatewayTrouble.{GatewayTrouble}
 use Rattle.outcome_law.proofs.Growing.{obedient_counts}
 use Rattle.unit_model.specs.Feed.{DueReply, held_answers, still_held}
 use Rattle.unit_model.specs.Poll.{held_on}
-use Rattle.unit_model.specs.Running.{calm}
 use Rattle.unit_model.specs.Step.{reply_at}
-use Rattle.unit_model.specs.Unit.{ControlUnit, Counts, obedient}
+use Rattle.unit_model.specs.Unit.{ControlUnit, obedient}
 use Rattle.unit_model.specs.Vehicle.{Gateway, HeldAnswer}
 use Rattle.unit_model.specs.declared.reply.UnitReply.{UnitReply}
 use Rattle.unit_model.specs.declared.spec.TroubleSpec.{TroubleSpec}

@@ -1,6 +1,6 @@
 -- A drill's run, and what the drill promises by it.
 use mathlib.Core.Logic.{∥∥₁_map}
-use Rattle.std.proofs.Common.{◌+◌, ◌<◌, ◌||◌, nat_lt, false, arith, ◌≡◌, ◌∙◌, ◌⊎◌, inl, inr, ℕ, true, Bool, List, [], ◌∷◌, codes, map, Some, None, refl, sym, ap, subst}
+use Rattle.std.proofs.Common.{◌<◌, ◌||◌, nat_lt, false, arith, ◌≡◌, ◌∙◌, ◌⊎◌, inl, inr, ℕ, true, Bool, List, [], ◌∷◌, codes, map, Some, None, refl, sym, ap, subst}
 use Rattle.std.specs.Prelude.{Option, IfSome}
 use Rattle.std.specs.Fmt.{digits}
 use Rattle.bench_gen.specs.Files.{AreFiles}

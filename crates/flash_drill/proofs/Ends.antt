@@ -1,17 +1,16 @@
 -- What a drill's run promises at its end.
 use mathlib.Core.Logic.{∥∥₁_elim}
-use Rattle.std.proofs.Common.{◌≡◌, ◌∙◌, ◌⊎◌, inl, inr, ℕ, ◌+◌, ◌≤◌, arith, true, false, IsTrue, Bool, List, [], ◌++◌, codes, map, Ok, refl, sym, ap, subst}
+use Rattle.std.proofs.Common.{◌≡◌, ◌∙◌, ◌⊎◌, inl, inr, ℕ, arith, true, false, IsTrue, Bool, List, [], ◌++◌, codes, map, Ok, refl, sym, ap, subst}
 use Rattle.bay_law.specs.Sentence.{IsSoundAt}
 use Rattle.disk_model.specs.Disk.{DiskState}
 use Rattle.drill_law.specs.Plans.{built_of_drill, plan_of_drill}
 use Rattle.drill_law.specs.Vehicles.{unit_specs}
 use Rattle.drill_law.proofs.Builds.{builds}
 use Rattle.drill_law.proofs.Starts.{empty_matches, empty_opens, empty_sound}
-use Rattle.flash_commands.specs.Outcomes as outcomes
 use Rattle.flash_commands.specs.Outcomes.{all_complete}
 use Rattle.flash_commands.specs.Running.{IsCalm}
 use Rattle.flash_drill.specs.Drilling.{Completes}
-use Rattle.flash_drill.specs.Ending.{BeginsOver, EndsOver, IsPrinted, IsPrintedRun, RunsOver, cut_off, summary}
+use Rattle.flash_drill.specs.Ending.{EndsOver, IsPrinted, IsPrintedRun, RunsOver, cut_off, summary}
 use Rattle.flash_journal.specs.Look.{Opens}
 use Rattle.flash_shelf.specs.History.{SinkHistory}
 use Rattle.journal_model.specs.Records.{label_of, records}

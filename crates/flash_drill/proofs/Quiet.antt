@@ -1,12 +1,12 @@
 -- A shop that is to fail nowhere stays quiet while it finds memory; what that says of a run.
 use mathlib.Core.Logic.{∥∥₁_map}
-use Rattle.std.proofs.Common.{◌≡◌, ◌∙◌, ◌⊎◌, inl, inr, ℕ, ◌+◌, ◌<◌, ◌≤◌, ◌==◌, Bool, true, false, List, [], ◌∷◌, Option, Some, None, Result, Ok, Err, refl, sym, ap, subst, map, take, arith}
+use Rattle.std.proofs.Common.{◌≡◌, ◌∙◌, ◌⊎◌, inl, inr, ℕ, ◌+◌, ◌<◌, ◌==◌, Bool, true, false, List, [], ◌∷◌, Option, Some, None, Result, Ok, Err, refl, sym, ap, subst, map, take, arith}
 use Rattle.std.proofs.lemmas.Bool.{cases_lt, false≢true}
 use Rattle.std.specs.Prelude.{IfOk, IsErr, IsOk, IsTrue, OnOk, ◌↔◌, if◌then◌else◌}
 use Rattle.bench_shop.proofs.Calling.{now_is}
 use Rattle.bench_shop.specs.Faults.{is_listed, no_faults, piece_for}
 use Rattle.bench_shop.specs.Pasts.{vehicle_of}
-use Rattle.bench_shop.specs.Shops.{DiskFails, Garbles, IsNew, KeepsBench, KeepsPlan, LinkFails, history_of, moment_of, piece_now, starved_of}
+use Rattle.bench_shop.specs.Shops.{DiskFails, Garbles, IsNew, KeepsBench, KeepsPlan, LinkFails, history_of, piece_now, starved_of}
 use Rattle.bench_shop.specs.declared.faults.Faults.{Faults}
 use Rattle.bench_shop.specs.declared.shop.MemoryShop.{MemoryShop}
 use Rattle.disk_model.specs.declared.device.DeviceFault.{DeviceFault}
@@ -14,9 +14,9 @@ use Rattle.flash_base.specs.Counts.{Rises}
 use Rattle.flash_base.specs.Lists.{Each}
 use Rattle.flash_drill.proofs.Calm.{Stays}
 use Rattle.flash_drill.specs.Calm.{IsCalmSim, IsCalmState, sim_addresses, unit_addresses}
-use Rattle.flash_drill.specs.Own.{IsQuiet, IsQuietFed}
+use Rattle.flash_drill.specs.Own.{IsQuietFed}
 use Rattle.run_model.specs.Troubles.{AreCalm, IsCalm, IsUnitCalm, IsVehicleCalm}
-use Rattle.shop_model.specs.History.{Call, Receive, DiskCall, History, LAST, LinkCall, Passes, Received, vehicle_now}
+use Rattle.shop_model.specs.History.{Call, DiskCall, History, LAST, LinkCall, Passes, Received, vehicle_now}
 use Rattle.shop_model.specs.Through.{AreShown, IsShownCall, IsShownReceive}
 use Rattle.unit_model.specs.Running.{calm}
 use Rattle.unit_model.specs.Unit.{ControlUnit, Counts}

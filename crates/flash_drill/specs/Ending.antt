@@ -7,11 +7,11 @@ use Rattle.drill_law.specs.Plans.{plan_of_drill}
 use Rattle.flash_base.specs.Counts.{Rises}
 use Rattle.flash_commands.specs.Outcomes as outcomes
 use Rattle.flash_commands.specs.Outcomes.{all_complete}
-use Rattle.flash_commands.specs.Running.{AllRecorded, AreProgrammedOver, IsCalm, RunsOrder}
+use Rattle.flash_commands.specs.Running.{AllRecorded, AreProgrammedOver, RunsOrder}
 use Rattle.flash_shelf.specs.History.{ShelfHistory, SinkHistory}
 use Rattle.flash_shelf.specs.Outside.{AddsPart}
 use Rattle.plan_commands.specs.declared.status.Status.{Status as Ending}
-use Rattle.plan_commands.specs.declared.status.Status.TheVariants.{Done, NoMemory}
+use Rattle.plan_commands.specs.declared.status.Status.TheVariants.{NoMemory}
 use Rattle.run_report.specs.OneLine.{drill_line}
 use Rattle.run_report.specs.Report.{report_text}
 use Rattle.shop_model.specs.History.{History, disk_now, vehicle_now}

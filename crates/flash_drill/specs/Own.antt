@@ -1,5 +1,5 @@
 -- The shelf, the shop and the page of a drill, while nothing has failed.
-use Rattle.std.specs.Prelude.{◌≡◌, ℕ, ◌<◌}
+use Rattle.std.specs.Prelude.{◌≡◌, ◌<◌}
 use Rattle.bench_shop.specs.Shops.{history_of, moment_of, starved_of}
 use Rattle.bench_shop.specs.declared.shop.MemoryShop.{MemoryShop}
 use Rattle.flash_drill.specs.Calm.{IsCalmState, sim_addresses, unit_addresses}

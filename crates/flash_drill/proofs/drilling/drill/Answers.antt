@@ -1,10 +1,9 @@
 use Rattle.std.proofs.Common.{◌≡◌, ◌∙◌, ℕ, ◌<◌, List, String, Global, map, string_bytes, ap, sym, subst}
 use Rattle.bench_shop.specs.Shops.{history_of, starved_of}
 use Rattle.bench_shop.specs.declared.shop.MemoryShop.{MemoryShop}
-use Rattle.flash_drill.specs.Drilling.{Completes, Drills, EndsStarved, EndsWell}
+use Rattle.flash_drill.specs.Drilling.{Drills, EndsWell}
 use Rattle.flash_drill.specs.Ending.{IsPrintedRun}
 use Rattle.flash_drill.proofs.Drilled.{drill_ends, drills, ends, ends_starved}
-use Rattle.plan_commands.specs.declared.status.Status.TheVariants.{Done}
 use Rattle.shop_model.specs.History.{LAST}
 use Rattle.flash_drill.proofs.drilling.drill.Goals as goal
 

@@ -1,4 +1,3 @@
-use Rattle.std.proofs.Common.{◌≡◌}
 use Rattle.vehicle_world.specs.Worlds.{world_of}
 use Rattle.flash_drill.proofs.Starting.{world_calm}
 use Rattle.flash_drill.proofs.making.shop_of.Goals as goal

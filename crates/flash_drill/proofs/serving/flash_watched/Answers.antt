@@ -1,4 +1,4 @@
-use Rattle.std.proofs.Common.{◌≡◌, ℕ, List, map, string_bytes, ap, subst}
+use Rattle.std.proofs.Common.{◌≡◌, ℕ, map, string_bytes, ap, subst}
 use Rattle.bench_shop.specs.Shops.{history_of}
 use Rattle.flash_drill.specs.Drilling.{ServesDrill}
 use Rattle.flash_drill.proofs.Drilled.{no_look, no_run, same_number, served}

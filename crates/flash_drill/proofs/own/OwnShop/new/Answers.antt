@@ -1,4 +1,4 @@
-use Rattle.std.proofs.Common.{◌≡◌, [], subst}
+use Rattle.std.proofs.Common.{[], subst}
 use Rattle.bench_shop.specs.Faults.{no_faults}
 use Rattle.bench_shop.specs.Shops.{IsNew}
 use Rattle.bench_shop.specs.declared.faults.Faults.{Faults}

@@ -1,4 +1,4 @@
-use Rattle.std.proofs.Common.{◌≡◌, ◌∙◌}
+use Rattle.std.proofs.Common.{◌∙◌}
 use Rattle.flash_drill.proofs.Quiet.{disk_quiet}
 use Rattle.shop_model.specs.History.{Len}
 use Rattle.flash_drill.proofs.own.OwnShopShop.len.Goals as goal

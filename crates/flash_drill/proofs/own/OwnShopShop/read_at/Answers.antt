@@ -1,4 +1,4 @@
-use Rattle.std.proofs.Common.{◌≡◌, ◌∙◌, length}
+use Rattle.std.proofs.Common.{◌∙◌, length}
 use Rattle.flash_drill.proofs.Quiet.{disk_quiet}
 use Rattle.shop_model.specs.History.{ReadAt}
 use Rattle.flash_drill.proofs.own.OwnShopShop.read_at.Goals as goal

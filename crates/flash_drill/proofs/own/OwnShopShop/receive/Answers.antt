@@ -1,4 +1,4 @@
-use Rattle.std.proofs.Common.{◌≡◌, ◌∙◌, length, sym, subst}
+use Rattle.std.proofs.Common.{◌∙◌, length, sym, subst}
 use Rattle.flash_drill.proofs.Calm.{polled_calm, Stays}
 use Rattle.flash_drill.proofs.Quiet.{link_quiet, no_piece, on_ok, plain_receive, shown_receive}
 use Rattle.shop_model.specs.History.{Receive}

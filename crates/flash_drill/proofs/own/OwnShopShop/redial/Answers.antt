@@ -1,4 +1,4 @@
-use Rattle.std.proofs.Common.{◌≡◌, ◌∙◌, length, sym, subst}
+use Rattle.std.proofs.Common.{◌∙◌, sym, subst}
 use Rattle.flash_drill.proofs.Calm.{redialed_calm, Stays}
 use Rattle.flash_drill.proofs.Quiet.{link_quiet, on_ok}
 use Rattle.shop_model.specs.History.{Redial}
