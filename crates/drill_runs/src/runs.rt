@@ -26,6 +26,10 @@ unit U01 1001 complete
 complete 2 of 2
 ";
 
+/// How what `drill 2815` prints begins and ends: 12 units of 1 MiB, in three groups.
+const REALISTIC: &str = "drill 2815 units 12 bytes 12582912 blocks 3084\n";
+const ALL_COMPLETE: &str = "\ncomplete 12 of 12\n";
+
 /// What `status drill.json` prints over a shop.
 fn look<R: Threads + Sync>(
     rt: &R,
@@ -57,6 +61,17 @@ fn smallest(rt: HostRuntime) -> Result<(), Fail> {
             assert!(rt; out.written() == LOOKED.as_bytes());
         }
     }
+    Ok(())
+}
+
+#[test]
+fn realistic(rt: HostRuntime) -> Result<(), Fail> {
+    let alloc = rt.alloc();
+    let mut out = MemorySink::new(alloc, &[])?;
+    let (_, status) = drill(&rt, alloc, 2815, &mut out);
+    assert!(rt; status == Status::Done);
+    assert!(rt; out.written().starts_with(REALISTIC.as_bytes()));
+    assert!(rt; out.written().ends_with(ALL_COMPLETE.as_bytes()));
     Ok(())
 }
 
