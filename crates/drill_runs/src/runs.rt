@@ -2,6 +2,7 @@ ghost use Rattle.std.specs.Prelude.{◌≤◌};
 
 use bench_gen::files;
 use bench_shop::MemoryShop;
+use flash_base::NoMemory;
 use flash_commands::flash_plain;
 use flash_drill::drill;
 use flash_shelf::{MemoryShelf, MemorySink};
@@ -28,39 +29,70 @@ complete 2 of 2
 
 /// How what `drill 2815` prints begins and ends: 12 units of 1 MiB, in three groups.
 const REALISTIC: &str = "drill 2815 units 12 bytes 12582912 blocks 3084\n";
+
 const ALL_COMPLETE: &str = "\ncomplete 12 of 12\n";
 
-/// What `status drill.json` prints over a shop.
+/// `status drill.json`.
+fn words(alloc: Global) -> Result<Vec<String>, NoMemory> {
+    let status = String::from_str(alloc, "status")?;
+    let order = String::from_str(alloc, "drill.json")?;
+    Ok(vec![in alloc; status, order]?)
+}
+
+/// A shelf with the files of the smallest drill.
+fn shelf(alloc: Global) -> Result<MemoryShelf, NoMemory> {
+    let files = files(alloc, 0)?;
+    MemoryShelf::new(alloc, &files, &[])
+}
+
+/// The status of `status drill.json` over a shop.
 fn look<R: Threads + Sync>(
     rt: &R,
     alloc: Global,
     shop: &mut MemoryShop,
-) -> Result<(Status, MemorySink), Fail> {
-    let mut words = Vec::new(alloc);
-    for word in ["status", "drill.json"] {
-        words.push(String::from_str(alloc, word)?)?;
-    }
-    let mut shelf = MemoryShelf::new(alloc, &files(alloc, 0)?, &[])?;
+    out: &mut MemorySink,
+) -> Result<Status, NoMemory> {
+    let words = words(alloc)?;
+    let mut shelf = shelf(alloc)?;
+    Ok(flash_plain(rt, alloc, words.as_slice(), &mut shelf, shop, out))
+}
+
+/// Whether each unit of the smallest drill is recorded complete in a shop.
+fn is_recorded<R: Threads + Sync>(
+    rt: &R,
+    alloc: Global,
+    shop: &mut MemoryShop,
+) -> Result<bool, NoMemory> {
     let mut out = MemorySink::new(alloc, &[])?;
-    let status = flash_plain(rt, alloc, words.as_slice(), &mut shelf, shop, &mut out);
-    Ok((status, out))
+    let status = look(rt, alloc, shop, &mut out)?;
+    if status != Status::Done {
+        return Ok(false);
+    }
+    Ok(out.written() == LOOKED.as_bytes())
+}
+
+/// The status of the smallest drill, and whether its shop has each unit recorded complete.
+fn drilled<R: Threads + Wait + Sync>(
+    rt: &R,
+    alloc: Global,
+    out: &mut MemorySink,
+) -> Result<(Status, bool), NoMemory> {
+    let (shop, status) = drill(rt, alloc, 0, out);
+    let Some(mut shop) = shop else {
+        return Ok((status, false));
+    };
+    let recorded = is_recorded(rt, alloc, &mut shop)?;
+    Ok((status, recorded))
 }
 
 #[test]
 fn smallest(rt: HostRuntime) -> Result<(), Fail> {
     let alloc = rt.alloc();
     let mut out = MemorySink::new(alloc, &[])?;
-    let (shop, status) = drill(&rt, alloc, 0, &mut out);
+    let (status, recorded) = drilled(&rt, alloc, &mut out)?;
     assert!(rt; status == Status::Done);
+    assert!(rt; recorded);
     assert!(rt; out.written() == DRILLED.as_bytes());
-    match shop {
-        None => assert!(rt; false),
-        Some(mut shop) => {
-            let (status, out) = look(&rt, alloc, &mut shop)?;
-            assert!(rt; status == Status::Done);
-            assert!(rt; out.written() == LOOKED.as_bytes());
-        }
-    }
     Ok(())
 }
 
@@ -68,7 +100,7 @@ fn smallest(rt: HostRuntime) -> Result<(), Fail> {
 fn realistic(rt: HostRuntime) -> Result<(), Fail> {
     let alloc = rt.alloc();
     let mut out = MemorySink::new(alloc, &[])?;
-    let (_, status) = drill(&rt, alloc, 2815, &mut out);
+    let status = drill(&rt, alloc, 2815, &mut out).1;
     assert!(rt; status == Status::Done);
     assert!(rt; out.written().starts_with(REALISTIC.as_bytes()));
     assert!(rt; out.written().ends_with(ALL_COMPLETE.as_bytes()));
@@ -80,15 +112,9 @@ fn realistic(rt: HostRuntime) -> Result<(), Fail> {
 fn cut_off(rt: HostRuntime) -> Result<(), Fail> {
     let alloc = rt.alloc();
     let mut out = MemorySink::new(alloc, &[0])?;
-    let (shop, status) = drill(&rt, alloc, 0, &mut out);
+    let (status, recorded) = drilled(&rt, alloc, &mut out)?;
     assert!(rt; status == Status::Sink);
+    assert!(rt; recorded);
     assert!(rt; out.written().is_empty());
-    match shop {
-        None => assert!(rt; false),
-        Some(mut shop) => {
-            let (_, out) = look(&rt, alloc, &mut shop)?;
-            assert!(rt; out.written() == LOOKED.as_bytes());
-        }
-    }
     Ok(())
 }
