@@ -39,60 +39,57 @@ fn words(alloc: Global) -> Result<Vec<String>, NoMemory> {
     Ok(vec![in alloc; status, order]?)
 }
 
-/// A shelf with the files of the smallest drill.
-fn shelf(alloc: Global) -> Result<MemoryShelf, NoMemory> {
-    let files = files(alloc, 0)?;
+/// A shelf with the files of a drill.
+fn shelf(alloc: Global, n: u32) -> Result<MemoryShelf, NoMemory>
+    requires { n ≤ 999999 }
+{
+    let files = files(alloc, n)?;
     MemoryShelf::new(alloc, &files, &[])
 }
 
-/// The status of `status drill.json` over a shop.
+/// What `status drill.json` answers over a shop.
 fn look<R: Threads + Sync>(
     rt: &R,
     alloc: Global,
+    n: u32,
     shop: &mut MemoryShop,
     out: &mut MemorySink,
-) -> Result<Status, NoMemory> {
+) -> Result<Status, NoMemory>
+    requires { n ≤ 999999 }
+{
     let words = words(alloc)?;
-    let mut shelf = shelf(alloc)?;
+    let mut shelf = shelf(alloc, n)?;
     Ok(flash_plain(rt, alloc, words.as_slice(), &mut shelf, shop, out))
 }
 
-/// Whether each unit of the smallest drill is recorded complete in a shop.
-fn is_recorded<R: Threads + Sync>(
-    rt: &R,
-    alloc: Global,
-    shop: &mut MemoryShop,
-) -> Result<bool, NoMemory> {
-    let mut out = MemorySink::new(alloc, &[])?;
-    let status = look(rt, alloc, shop, &mut out)?;
-    if status != Status::Done {
-        return Ok(false);
-    }
-    Ok(out.written() == LOOKED.as_bytes())
-}
-
-/// The status of the smallest drill, and whether its shop has each unit recorded complete.
+/// What a drill answers, and what `status drill.json` answers over its shop.
 fn drilled<R: Threads + Wait + Sync>(
     rt: &R,
     alloc: Global,
+    n: u32,
     out: &mut MemorySink,
-) -> Result<(Status, bool), NoMemory> {
-    let (shop, status) = drill(rt, alloc, 0, out);
+    looked: &mut MemorySink,
+) -> Result<(Status, Status), NoMemory>
+    requires { n ≤ 999999 }
+{
+    let (shop, status) = drill(rt, alloc, n, out);
     let Some(mut shop) = shop else {
-        return Ok((status, false));
+        return Err(NoMemory);
     };
-    let recorded = is_recorded(rt, alloc, &mut shop)?;
-    Ok((status, recorded))
+    let seen = look(rt, alloc, n, &mut shop, looked)?;
+    Ok((status, seen))
 }
 
 #[test]
 fn smallest(rt: HostRuntime) -> Result<(), Fail> {
     let alloc = rt.alloc();
     let mut out = MemorySink::new(alloc, &[])?;
-    let (status, recorded) = drilled(&rt, alloc, &mut out)?;
+    let mut looked = MemorySink::new(alloc, &[])?;
+    let (status, seen) = drilled(&rt, alloc, 0, &mut out, &mut looked)?;
     assert!(rt; status == Status::Done);
-    assert!(rt; recorded);
     assert!(rt; out.written() == DRILLED.as_bytes());
+    assert!(rt; seen == Status::Done);
+    assert!(rt; looked.written() == LOOKED.as_bytes());
     Ok(())
 }
 
@@ -100,10 +97,13 @@ fn smallest(rt: HostRuntime) -> Result<(), Fail> {
 fn realistic(rt: HostRuntime) -> Result<(), Fail> {
     let alloc = rt.alloc();
     let mut out = MemorySink::new(alloc, &[])?;
-    let status = drill(&rt, alloc, 2815, &mut out).1;
+    let mut looked = MemorySink::new(alloc, &[])?;
+    let (status, seen) = drilled(&rt, alloc, 2815, &mut out, &mut looked)?;
     assert!(rt; status == Status::Done);
     assert!(rt; out.written().starts_with(REALISTIC.as_bytes()));
     assert!(rt; out.written().ends_with(ALL_COMPLETE.as_bytes()));
+    assert!(rt; seen == Status::Done);
+    assert!(rt; looked.written().ends_with(ALL_COMPLETE.as_bytes()));
     Ok(())
 }
 
@@ -112,9 +112,11 @@ fn realistic(rt: HostRuntime) -> Result<(), Fail> {
 fn cut_off(rt: HostRuntime) -> Result<(), Fail> {
     let alloc = rt.alloc();
     let mut out = MemorySink::new(alloc, &[0])?;
-    let (status, recorded) = drilled(&rt, alloc, &mut out)?;
+    let mut looked = MemorySink::new(alloc, &[])?;
+    let (status, seen) = drilled(&rt, alloc, 0, &mut out, &mut looked)?;
     assert!(rt; status == Status::Sink);
-    assert!(rt; recorded);
     assert!(rt; out.written().is_empty());
+    assert!(rt; seen == Status::Done);
+    assert!(rt; looked.written() == LOOKED.as_bytes());
     Ok(())
 }
