@@ -36,6 +36,21 @@ fn put_said(out: &mut Bytes, status: Status, printed: &[u8]) -> Result<(), NoMem
     put_lines(out, str::from_utf8(printed).unwrap_or("no text"))
 }
 
+/// The same with the words and files at hand.
+fn run_words<R: Threads + Wait + Sync>(
+    rt: &R,
+    alloc: Global,
+    words: &[String],
+    shelf: &mut MemoryShelf,
+    shop: MemoryShop,
+    out: &mut Bytes,
+) -> Result<MemoryShop, NoMemory> {
+    let mut sink = MemorySink::new(alloc, &[])?;
+    let (shop, status) = flash(rt, alloc, words, shelf, shop, &mut sink);
+    put_said(out, status, sink.written())?;
+    Ok(shop)
+}
+
 /// Runs a command over the shop and these files, puts what it says, and hands the shop back.
 pub fn run<R: Threads + Wait + Sync>(
     rt: &R,
@@ -47,8 +62,5 @@ pub fn run<R: Threads + Wait + Sync>(
 ) -> Result<MemoryShop, NoMemory> {
     let words = words_of(alloc, command)?;
     let mut shelf = MemoryShelf::new(alloc, files, &[])?;
-    let mut sink = MemorySink::new(alloc, &[])?;
-    let (shop, status) = flash(rt, alloc, words.as_slice(), &mut shelf, shop, &mut sink);
-    put_said(out, status, sink.written())?;
-    Ok(shop)
+    run_words(rt, alloc, words.as_slice(), &mut shelf, shop, out)
 }

@@ -10,7 +10,8 @@
 //!   print what the shop holds and how often it was called;
 //!   `each disk SAID: COMMAND`, `each link SAID: COMMAND` and `each stop -: COMMAND`, alone in their row, let each call fail
 //!   in turn, or stop at each moment, and count the runs that end as SAID says and those behind them that end as a run
-//!   without a failure does; all else are the words of a command.
+//!   without a failure does; `together ORDER` runs an
+//!   order whose units are begun together; all else are the words of a command.
 //!
 //! A command is printed as the number of its status and its lines, without that of the plan.
 #![tactic(auto)]
@@ -21,6 +22,7 @@ mod row;
 mod setup;
 mod steps;
 mod text;
+mod together;
 mod turns;
 mod vehicle;
 
@@ -33,7 +35,7 @@ use std::sync::Wait;
 use std::thread::Threads;
 
 /// The files beside the rows: orders, what is programmed, and vehicles.
-const NAMES: [&str; 34] = [
+const NAMES: [&str; 36] = [
     "a.bin",
     "all.car",
     "all.json",
@@ -53,6 +55,8 @@ const NAMES: [&str; 34] = [
     "long.car",
     "long.json",
     "long1.json",
+    "many.car",
+    "many.json",
     "none.car",
     "one.car",
     "one.json",

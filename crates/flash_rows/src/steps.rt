@@ -1,8 +1,8 @@
 //! The steps of a row, one after another over one shop.
 
-use crate::command;
 use crate::held::{put_calls, put_heard, put_image, put_link_calls, put_memory, put_written};
 use crate::text::{number, put};
+use crate::{command, together};
 use bench_shop::{MemoryShop, Pick};
 use flash_base::{Bytes, Files, NoMemory};
 use std::alloc::Global;
@@ -19,9 +19,15 @@ pub fn pick_of(word: &str) -> Pick {
 }
 
 /// The shop behind a crash so many moments ago.
-fn crash(alloc: Global, shop: &MemoryShop, rest: &str) -> Result<MemoryShop, NoMemory> {
+fn crash(
+    alloc: Global,
+    shop: &MemoryShop,
+    rest: &str,
+    out: &mut Bytes,
+) -> Result<MemoryShop, NoMemory> {
     let (back, pick) = rest.split_once(' ').unwrap_or((rest, ""));
     let moment = shop.made().moments.saturating_sub(number(back));
+    put(out, "crash")?;
     shop.crash(alloc, moment, pick_of(pick))
 }
 
@@ -44,7 +50,22 @@ fn put_held(
     Ok(true)
 }
 
-/// One step, which hands the shop on.
+/// One step that may call the shop, which is handed on.
+fn called<R: Threads + Wait + Sync>(
+    rt: &R,
+    alloc: Global,
+    files: &Files,
+    step: &str,
+    shop: MemoryShop,
+    out: &mut Bytes,
+) -> Result<MemoryShop, NoMemory> {
+    match step.strip_prefix("together ") {
+        Some(order) => together::run(rt, alloc, files, order, shop, out),
+        None => command::run(rt, alloc, files, step, shop, out),
+    }
+}
+
+/// One step, which hands on the shop.
 fn one<R: Threads + Wait + Sync>(
     rt: &R,
     alloc: Global,
@@ -54,13 +75,16 @@ fn one<R: Threads + Wait + Sync>(
     out: &mut Bytes,
 ) -> Result<MemoryShop, NoMemory> {
     let mut shop = shop;
+    if let Some(rest) = step.strip_prefix("crash ") {
+        return crash(alloc, &shop, rest, out);
+    }
     if put_held(alloc, step, &mut shop, out)? {
         return Ok(shop);
     }
-    command::run(rt, alloc, files, step, shop, out)
+    called(rt, alloc, files, step, shop, out)
 }
 
-/// All steps.
+/// All steps, each followed by a semicolon.
 pub fn all<R: Threads + Wait + Sync>(
     rt: &R,
     alloc: Global,
@@ -72,12 +96,7 @@ pub fn all<R: Threads + Wait + Sync>(
     let mut shop = shop;
     for step in steps.split("; ") {
         put(out, " ")?;
-        if let Some(rest) = step.strip_prefix("crash ") {
-            shop = crash(alloc, &shop, rest)?;
-            put(out, "crash")?;
-        } else {
-            shop = one(rt, alloc, files, step, shop, out)?;
-        }
+        shop = one(rt, alloc, files, step, shop, out)?;
         put(out, ";")?;
     }
     Ok(())
