@@ -5,13 +5,16 @@
 //! - VEHICLE names a file that describes a vehicle; the text TROUBLES is put where it has the mark `$`.
 //! - SETUP is `-`, or what is said before the first step, parted by commas: `disk N` and `link N` for a call that fails,
 //!   `garbled N HEX` for a receive that brings these bytes, `image HEX` for what the journal's file holds.
-//! - STEPS are parted by semicolons. `crash BACK PICK` takes the shop up again as it was so many moments ago, behind a
-//!   crash with the image `old`, `new` or `junk`; `memory`, `sum`, `heard`, `image`, `calls` and `link calls`
-//!   print what the shop holds and how often it was called;
-//!   `each disk SAID: COMMAND`, `each link SAID: COMMAND` and `each stop -: COMMAND`, alone in their row, let each call fail
-//!   in turn, or stop at each moment, and count the runs that end as SAID says and those behind them that end as a run
-//!   without a failure does; `together ORDER` runs an
-//!   order whose units are begun together; all else are the words of a command.
+//! - STEPS are parted by semicolons:
+//!   - `memory` and `sum` print the bytes of each unit that are not FF, as they are or by number and SHA-256; `heard` how
+//!     many requests each heard; `image` the journal's file; `calls` and `link calls` how often the shop was called.
+//!   - `crash BACK PICK` takes the shop up again as it was so many calls ago, behind a crash with the image `old`, `new`
+//!     or `junk`.
+//!   - `together ORDER` runs an order whose units are begun by one record.
+//!   - Any other step is the words of a command.
+//! - In their place may stand `each disk SAID: COMMAND`, `each link SAID: COMMAND` or `each stop -: COMMAND`. Each call of
+//!   that kind fails in turn, or the run is stopped behind each call; the runs that end as SAID says are counted, and
+//!   those behind them that end as a run without a failure does.
 //!
 //! A command is printed as the number of its status and its lines, without that of the plan.
 #![tactic(auto)]
