@@ -13,6 +13,9 @@ use std::thread::Threads;
 /// The images behind a crash.
 const PICKS: [Pick; 3] = [Pick::Old, Pick::New, Pick::Junk(0x5a)];
 
+/// The image behind a crash where all that was written is synced.
+const SYNCED: [Pick; 1] = [Pick::New];
+
 /// What is tried: with which vehicle, by which command, and what is wanted.
 #[derive(Clone, Copy)]
 pub struct Trial<'a> {
@@ -85,7 +88,7 @@ fn is_again<R: Threads + Wait + Sync>(
     Ok(said.as_slice() == want)
 }
 
-/// Counts the runs behind a crash at this moment, with each image.
+/// Counts the runs behind a crash at this moment, with each of these images.
 fn count_again<R: Threads + Wait + Sync>(
     rt: &R,
     alloc: Global,
@@ -93,11 +96,12 @@ fn count_again<R: Threads + Wait + Sync>(
     command: &str,
     shop: &MemoryShop,
     moment: u64,
+    picks: &[Pick],
     want: &[u8],
     count: &mut Count,
 ) -> Result<(), NoMemory> {
-    for pick in PICKS {
-        let right = is_again(rt, alloc, files, command, shop, (moment, pick), want)?;
+    for pick in picks {
+        let right = is_again(rt, alloc, files, command, shop, (moment, *pick), want)?;
         count.add(right);
     }
     Ok(())
@@ -110,6 +114,7 @@ fn count_one<R: Threads + Wait + Sync>(
     files: &Files,
     trial: Trial<'_>,
     setup: &Setup,
+    picks: &[Pick],
     want: &[u8],
     counts: &mut (Count, Count),
 ) -> Result<(), NoMemory> {
@@ -129,6 +134,7 @@ fn count_one<R: Threads + Wait + Sync>(
         trial.command,
         &shop,
         last,
+        picks,
         want,
         &mut counts.1,
     )
@@ -146,7 +152,7 @@ fn each_disk<R: Threads + Wait + Sync>(
     for number in 0..calls {
         let mut setup = Setup::new(alloc);
         fail_disk(&mut setup, number)?;
-        count_one(rt, alloc, files, trial, &setup, want, counts)?;
+        count_one(rt, alloc, files, trial, &setup, &PICKS, want, counts)?;
     }
     Ok(())
 }
@@ -163,7 +169,7 @@ fn each_link<R: Threads + Wait + Sync>(
     for number in 0..calls {
         let mut setup = Setup::new(alloc);
         fail_link(&mut setup, number)?;
-        count_one(rt, alloc, files, trial, &setup, want, counts)?;
+        count_one(rt, alloc, files, trial, &setup, &SYNCED, want, counts)?;
     }
     Ok(())
 }
@@ -180,9 +186,29 @@ fn each_stop<R: Threads + Wait + Sync>(
 ) -> Result<(), NoMemory> {
     let last = shop.made().moments;
     for moment in 0..last {
-        count_again(rt, alloc, files, trial.command, shop, moment, want, count)?;
+        count_again(
+            rt,
+            alloc,
+            files,
+            trial.command,
+            shop,
+            moment,
+            &PICKS,
+            want,
+            count,
+        )?;
     }
-    count_again(rt, alloc, files, trial.command, shop, last, want, count)
+    count_again(
+        rt,
+        alloc,
+        files,
+        trial.command,
+        shop,
+        last,
+        &PICKS,
+        want,
+        count,
+    )
 }
 
 /// What is made to fail, and the run without a failure that says how many calls there are.
