@@ -7,21 +7,32 @@
 //!   `garbled N HEX` for a receive that brings these bytes, `image HEX` for what the journal's file holds.
 //! - STEPS are parted by semicolons:
 //!   - `memory` and `sum` print the bytes of each unit that are not FF, as they are or by number and SHA-256; `heard` how
-//!     many requests each heard; `image` the journal's file; `calls` and `link calls` how often the shop was called.
+//!     many requests each heard; `image` the journal's file; `calls` and `link calls` how often the shop was called;
+//!     `starved` how many of these calls found no memory.
+//!   - `sent` prints each frame that the vehicle was sent, `sent N` the one with this number from 0: of a diagnostic message
+//!     the unit's address and the request, of another frame all bytes.
 //!   - `crash BACK PICK` takes the shop up again as it was so many calls ago, behind a crash with the image `old`, `new`
 //!     or `junk`.
 //!   - `together ORDER` runs an order whose units are begun by one record.
+//!   - `meet UNIT UNIT ORDER` runs an order by two workers at a gate at which these two units wait for one another, and
+//!     prints whether they met.
+//!   - `unheard COMMAND` is a command of whose output the first write fails, `plain COMMAND` one that is served by the
+//!     call that knows no run.
 //!   - Any other step is the words of a command.
 //! - In their place may stand `each disk SAID: COMMAND`, `each link SAID: COMMAND` or `each stop -: COMMAND`. Each call of
 //!   that kind fails in turn, or the run is stopped behind each call; the runs that end as SAID says are counted, and
 //!   those behind them that end as a run without a failure does.
+//!
+//! `files.txt` names the files beside the rows.
 //!
 //! A command is printed as the number of its status and its lines, without that of the plan.
 #![tactic(auto)]
 
 mod command;
 mod held;
+mod meeting;
 mod row;
+mod sent;
 mod setup;
 mod steps;
 mod text;
@@ -37,46 +48,6 @@ use std::io::Print;
 use std::sync::Wait;
 use std::thread::Threads;
 
-/// The files beside the rows: orders, what is programmed, and vehicles.
-const NAMES: [&str; 36] = [
-    "a.bin",
-    "all.car",
-    "all.json",
-    "b.bin",
-    "cat.json",
-    "delayed.car",
-    "digest.car",
-    "digest.json",
-    "empty.json",
-    "free.json",
-    "gate.car",
-    "gate3.car",
-    "ident.json",
-    "ident32.car",
-    "ident33.car",
-    "long.bin",
-    "long.car",
-    "long.json",
-    "long1.json",
-    "many.car",
-    "many.json",
-    "none.car",
-    "one.car",
-    "one.json",
-    "one1.json",
-    "other.json",
-    "parts.json",
-    "small.car",
-    "three.car",
-    "three.json",
-    "three1.json",
-    "two.car",
-    "two.json",
-    "xor.car",
-    "xor.json",
-    "zeros.car",
-];
-
 /// Reads a file; one that is missing is left out.
 fn take<F: Shelf>(
     alloc: Global,
@@ -90,13 +61,18 @@ fn take<F: Shelf>(
     }
 }
 
-/// The files of a shelf.
-fn files_of<F: Shelf>(alloc: Global, shelf: &mut F) -> Result<Files, NoMemory> {
+/// The files of a shelf with these names, a line each: orders, what is programmed, and vehicles.
+fn files_of<F: Shelf>(alloc: Global, shelf: &mut F, names: &str) -> Result<Files, NoMemory> {
     let mut files = Files::new(alloc);
-    for name in NAMES {
+    for name in names.split('\n') {
         take(alloc, shelf, name, &mut files)?;
     }
     Ok(files)
+}
+
+/// The text of a file; empty where it is none.
+fn text_of(file: &Bytes) -> &str {
+    str::from_utf8(file.as_slice()).unwrap_or("")
 }
 
 /// Prints a row.
@@ -136,16 +112,14 @@ fn main(rt: HostRuntime) -> io::Result<()> {
     let Ok(mut shelf) = FolderShelf::new(rt, alloc, ".") else {
         return println!(rt; "no memory");
     };
-    let Ok(files) = files_of(alloc, &mut shelf) else {
+    let Ok(names) = shelf.read(alloc, "files.txt") else {
+        return println!(rt; "no files");
+    };
+    let Ok(files) = files_of(alloc, &mut shelf, text_of(&names)) else {
         return println!(rt; "no memory");
     };
     let Ok(rows) = shelf.read(alloc, "rows.txt") else {
         return println!(rt; "no rows");
     };
-    print_all(
-        &rt,
-        alloc,
-        &files,
-        str::from_utf8(rows.as_slice()).unwrap_or("no text"),
-    )
+    print_all(&rt, alloc, &files, text_of(&rows))
 }

@@ -37,6 +37,7 @@ fn table<R: Threads + Wait + Sync>(
     alloc: Global,
     files: &Files,
     vehicle: &[u8],
+    setup: &str,
     text: &str,
     out: &mut Bytes,
 ) -> Result<(), NoMemory> {
@@ -44,6 +45,7 @@ fn table<R: Threads + Wait + Sync>(
     let (status, command) = rest.split_once(": ").unwrap_or((rest, ""));
     let trial = Trial {
         vehicle,
+        setup,
         command,
         status,
     };
@@ -76,7 +78,7 @@ fn put_parts<R: Threads + Wait + Sync>(
 ) -> Result<(), NoMemory> {
     let vehicle = vehicle_of(alloc, files, row.vehicle, row.troubles)?;
     match row.steps.strip_prefix("each ") {
-        Some(rest) => table(rt, alloc, files, vehicle.as_slice(), rest, out),
+        Some(rest) => table(rt, alloc, files, vehicle.as_slice(), row.setup, rest, out),
         None => steps_of(rt, alloc, files, row, vehicle.as_slice(), out),
     }
 }

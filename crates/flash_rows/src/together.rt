@@ -23,14 +23,18 @@ fn claim_all<S: Shop>(plan: &Plan, bay: &mut Bay<S>)
     }
 }
 
+/// Who the tester is, and how often the link may be lost.
+pub fn rules_of(built: &Built) -> LinkRules {
+    LinkRules {
+        tester: built.order.tester,
+        relinks: built.order.relinks,
+    }
+}
+
 /// Opens a bay of the plan, takes up its units, and then brings one after the other to its end: the first record says
 /// of each unit that was taken up that it is begun.
 fn run_built<S: Shop>(alloc: Global, built: &Built, shop: S) -> S {
-    let rules = LinkRules {
-        tester: built.order.tester,
-        relinks: built.order.relinks,
-    };
-    match Bay::open(alloc, &built.plan, &rules, shop) {
+    match Bay::open(alloc, &built.plan, &rules_of(built), shop) {
         Ok(opened) => {
             let mut bay = opened;
             claim_all(&built.plan, &mut bay);

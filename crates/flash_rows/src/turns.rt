@@ -1,9 +1,9 @@
 //! A failure at each call of a run in turn, and the run behind each.
 
-use crate::command;
 use crate::held::put_memory;
 use crate::setup::{Setup, fail_disk, fail_link, shop_of};
 use crate::text::{put, put_number};
+use crate::{command, setup};
 use bench_shop::{MemoryShop, Pick};
 use flash_base::{Bytes, Files, NoMemory};
 use std::alloc::Global;
@@ -20,6 +20,8 @@ const SYNCED: [Pick; 1] = [Pick::New];
 #[derive(Clone, Copy)]
 pub struct Trial<'a> {
     pub vehicle: &'a [u8],
+    /// What is said of the shop before the first call.
+    pub setup: &'a str,
     pub command: &'a str,
     /// How the command ends where a call fails.
     pub status: &'a str,
@@ -62,7 +64,7 @@ fn ended<R: Threads + Wait + Sync>(
     shop: MemoryShop,
     out: &mut Bytes,
 ) -> Result<MemoryShop, NoMemory> {
-    let shop = command::run(rt, alloc, files, command, shop, out)?;
+    let shop = command::run(rt, alloc, files, command, &[], shop, out)?;
     put(out, "; ")?;
     put_memory(alloc, out, &shop)?;
     Ok(shop)
@@ -122,7 +124,7 @@ fn count_one<R: Threads + Wait + Sync>(
         return Ok(());
     };
     let mut said = Bytes::new(alloc);
-    let shop = command::run(rt, alloc, files, trial.command, shop, &mut said)?;
+    let shop = command::run(rt, alloc, files, trial.command, &[], shop, &mut said)?;
     counts
         .0
         .add(said.as_slice().starts_with(trial.status.as_bytes()));
@@ -150,7 +152,7 @@ fn each_disk<R: Threads + Wait + Sync>(
     counts: &mut (Count, Count),
 ) -> Result<(), NoMemory> {
     for number in 0..calls {
-        let mut setup = Setup::new(alloc);
+        let mut setup = setup::read(alloc, trial.setup)?;
         fail_disk(&mut setup, number)?;
         count_one(rt, alloc, files, trial, &setup, &PICKS, want, counts)?;
     }
@@ -167,7 +169,7 @@ fn each_link<R: Threads + Wait + Sync>(
     counts: &mut (Count, Count),
 ) -> Result<(), NoMemory> {
     for number in 0..calls {
-        let mut setup = Setup::new(alloc);
+        let mut setup = setup::read(alloc, trial.setup)?;
         fail_link(&mut setup, number)?;
         count_one(rt, alloc, files, trial, &setup, &SYNCED, want, counts)?;
     }
@@ -240,7 +242,8 @@ pub fn in_turn<R: Threads + Wait + Sync>(
     trial: Trial<'_>,
     out: &mut Bytes,
 ) -> Result<(), NoMemory> {
-    let Some(shop) = shop_of(alloc, trial.vehicle, &Setup::new(alloc))? else {
+    let setup = setup::read(alloc, trial.setup)?;
+    let Some(shop) = shop_of(alloc, trial.vehicle, &setup)? else {
         return put(out, " no vehicle");
     };
     let mut want = Bytes::new(alloc);
