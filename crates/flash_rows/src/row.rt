@@ -62,10 +62,10 @@ fn steps_of<R: Threads + Wait + Sync>(
     out: &mut Bytes,
 ) -> Result<(), NoMemory> {
     let setup = setup::read(alloc, row.setup)?;
-    let Some(shop) = setup::shop_of(alloc, vehicle, &setup)? else {
-        return put(out, " no vehicle");
-    };
-    steps::all(rt, alloc, files, row.steps, shop, out)
+    match setup::shop_of(alloc, vehicle, &setup)? {
+        Some(shop) => steps::all(rt, alloc, files, row.steps, shop, out),
+        None => put(out, " no vehicle"),
+    }
 }
 
 /// Puts what a row says.

@@ -232,6 +232,40 @@ fn each<R: Threads + Wait + Sync>(
     }
 }
 
+/// Puts how the run without a failure ended; then tries what is to fail, and puts how many runs ended as is wanted.
+fn tried<R: Threads + Wait + Sync>(
+    rt: &R,
+    alloc: Global,
+    files: &Files,
+    what: &str,
+    trial: Trial<'_>,
+    shop: &MemoryShop,
+    want: &[u8],
+    out: &mut Bytes,
+) -> Result<(), NoMemory> {
+    put(out, " ")?;
+    out.extend(want)?;
+    let mut counts = (Count::none(), Count::none());
+    each(rt, alloc, files, what, trial, shop, want, &mut counts)?;
+    counts.0.put(out, "; failed")?;
+    counts.1.put(out, "; again")
+}
+
+/// The run without a failure, and what is tried then.
+fn run_first<R: Threads + Wait + Sync>(
+    rt: &R,
+    alloc: Global,
+    files: &Files,
+    what: &str,
+    trial: Trial<'_>,
+    shop: MemoryShop,
+    out: &mut Bytes,
+) -> Result<(), NoMemory> {
+    let mut want = Bytes::new(alloc);
+    let shop = ended(rt, alloc, files, trial.command, shop, &mut want)?;
+    tried(rt, alloc, files, what, trial, &shop, want.as_slice(), out)
+}
+
 /// Tries a failure at each call (`disk`, `link`) or a stop at each moment, and puts how the run without a failure ended,
 /// and how many of the others ended as is wanted: those with a failure with the status, those behind it as that run.
 pub fn in_turn<R: Threads + Wait + Sync>(
@@ -243,24 +277,8 @@ pub fn in_turn<R: Threads + Wait + Sync>(
     out: &mut Bytes,
 ) -> Result<(), NoMemory> {
     let setup = setup::read(alloc, trial.setup)?;
-    let Some(shop) = shop_of(alloc, trial.vehicle, &setup)? else {
-        return put(out, " no vehicle");
-    };
-    let mut want = Bytes::new(alloc);
-    let shop = ended(rt, alloc, files, trial.command, shop, &mut want)?;
-    let mut counts = (Count::none(), Count::none());
-    each(
-        rt,
-        alloc,
-        files,
-        what,
-        trial,
-        &shop,
-        want.as_slice(),
-        &mut counts,
-    )?;
-    put(out, " ")?;
-    out.extend(want.as_slice())?;
-    counts.0.put(out, "; failed")?;
-    counts.1.put(out, "; again")
+    match shop_of(alloc, trial.vehicle, &setup)? {
+        Some(shop) => run_first(rt, alloc, files, what, trial, shop, out),
+        None => put(out, " no vehicle"),
+    }
 }
