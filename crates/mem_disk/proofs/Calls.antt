@@ -12,7 +12,7 @@ use Rattle.mem_disk.specs.declared.disk.MemDisk.{MemDisk}
 use Rattle.std.specs.Bool.{OnTrue, OnFalse}
 use Rattle.mem_disk.specs.Made.{call_in}
 use Rattle.mem_disk.specs.Replay.{start, after, replay, spliced}
-use Rattle.mem_disk.specs.Disks.{history_of, moment_of, is_listed, FailsExactly, ListsMiss, Passed, Recorded, Starved, WroteSome, SameRecord, DiskFaulted, LinkFaulted, LinkCounted}
+use Rattle.mem_disk.specs.Disks.{history_of, moment_of, is_listed, FailsExactly, ListsMiss, Passed, Recorded, Starved, WroteSome, SameRecord, DiskFaulted, LinkFaulted, LinkCounted, LinkPassed}
 use Rattle.mem_disk.proofs.Replays.{replay-append, same_past}
 
 -- the disk is what the whole record gives
@@ -259,3 +259,46 @@ link_went call old mid counted x did count = record {
   never_falls = omega (arith, count.link_faults, did.passed.link_faults);
   fault = λ is. absurd (both_ways false refl is);
 }
+
+-- ------ link calls of whoever has a vehicle beside the disk
+-- one link call more, and nothing else
+pub record OneMore (mid new : MemDisk) : Type 0 where
+  pub first : new.first.items ≡ mid.first.items
+  pub failing : new.failing.items ≡ mid.failing.items
+  pub calls : new.calls.items ≡ mid.calls.items
+  pub idle : new.idle ≡ mid.idle
+  pub made : new.made ≡ mid.made
+  pub starves : new.starved ≡ mid.starved
+  pub disk_faults : new.disk_faults ≡ mid.disk_faults
+  pub link_faults : new.link_faults ≡ mid.link_faults
+  pub link_calls : new.link_calls ≡ mid.link_calls + 1
+  pub linked : new.linked ≡ mid.linked
+
+link_begun_past : (call : Call) (old mid new : MemDisk) (went : Bool) → Passed call old mid
+    → ((m : ℕ) → m ≤ moment_of old → (history_of mid).disk_at m ≡ (history_of old).disk_at m)
+    → disk_now (history_of mid) ≡ disk_now (history_of old)
+    → OnTrue went (new.starved ≡ old.starved) → OnFalse went (new.starved ≡ old.starved + 1)
+    → OneMore mid new → LinkPassed call went old new
+link_begun_past call old mid new went passed past disk fed hungry more = record {
+  moment = omega (arith, passed.moment, more.idle, ap length more.calls);
+  disk_past = λ m le. (λ i. replay (start (more.first i)) (take m (more.calls i))) ∙ past m le;
+  disk = disk_is new ∙ (λ i. replay (start (more.first i)) (more.calls i)) ∙ sym (disk_is mid) ∙ disk;
+  calls_past = λ m lt. (λ i. call_in (more.made i) m) ∙ passed.calls_past m lt;
+  call_is = (λ i. call_in (more.made i) (moment_of old)) ∙ passed.call_is;
+  failing = more.failing ∙ passed.failing;
+  disk_faults = more.disk_faults ∙ passed.disk_faults;
+  link_faults = more.link_faults ∙ passed.link_faults;
+  link_calls = more.link_calls ∙ ap (λ (n : ℕ). n + 1) passed.link_calls;
+  linked = more.linked ∙ passed.linked;
+  recorded = fed;
+  hungry = hungry;
+}
+
+pub link_begun : (call : Call) (old mid new : MemDisk) (went : Bool) → OnTrue went (Recorded call Kept old mid)
+    → OnFalse went (Starved call old mid) → OneMore mid new → LinkPassed call went old new
+link_begun call old mid new true yes' no' more =
+    link_begun_past call old mid new true yes'.passed (recorded_past call Kept old mid yes') (disk_recorded call Kept old mid yes')
+    (more.starves ∙ yes'.starves) tt more
+link_begun call old mid new false yes' no' more =
+    link_begun_past call old mid new false no'.passed (starved_past call old mid no') (disk_starved call old mid no')
+    tt (more.starves ∙ no'.starves) more

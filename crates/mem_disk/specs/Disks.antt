@@ -1,5 +1,6 @@
 -- What a disk in memory tells, and what one call adds to its record.
-use Rattle.std.specs.Prelude.{◌≡◌, ◌⊎◌, ◌↔◌, ℕ, ◌+◌, ◌<◌, ◌^◌, ◌-◌, min, Vec, false, List, [], ◌∷◌, ◌++◌, length, take, None, Bool, ◌==◌, IsTrue, Result, IsErr, OnErr}
+use Rattle.std.specs.Prelude.{◌≡◌, ◌⊎◌, ◌↔◌, ℕ, ◌+◌, ◌≤◌, ◌<◌, ◌^◌, ◌-◌, min, Vec, false, List, [], ◌∷◌, ◌++◌, length, take, None, Bool, ◌==◌, IsTrue, Result, IsErr, OnErr}
+use Rattle.std.specs.Bool.{OnTrue, OnFalse}
 use Rattle.std.specs.List.{list_any}
 use Rattle.std.specs.declared.alloc.Global.{Global}
 use Rattle.disk_model.specs.declared.device.DeviceFault.{DeviceFault}
@@ -136,3 +137,35 @@ pub record LinkCounted (mid counted : MemDisk) : Type 0 where
   pub disk_faults : counted.disk_faults ≡ mid.disk_faults
   pub link_faults : counted.link_faults ≡ mid.link_faults
   pub link_calls : counted.link_calls ≡ mid.link_calls + 1
+
+-- the calls that are listed to fail stay, and the count of calls that found no memory rises by these calls alone
+pub record KeepsPlan (old new : MemDisk) : Type 0 where
+  pub failing : new.failing.items ≡ old.failing.items
+  pub starves : old.starved ≤ new.starved
+  pub at_most : new.starved + moment_of old ≤ old.starved + moment_of new
+
+-- ------ link calls of whoever has a vehicle beside this disk
+-- one moment more, at which the disk stays; it was recorded, or no memory was found
+pub record LinkPassed (call : Call) (went : Bool) (old new : MemDisk) : Type 0 where
+  pub moment : moment_of new ≡ moment_of old + 1
+  pub disk_past : (m : ℕ) → m ≤ moment_of old → (history_of new).disk_at m ≡ (history_of old).disk_at m
+  pub disk : disk_now (history_of new) ≡ disk_now (history_of old)
+  pub calls_past : (m : ℕ) → m < moment_of old → call_in new.made m ≡ call_in old.made m
+  pub call_is : call_in new.made (moment_of old) ≡ call
+  pub failing : new.failing.items ≡ old.failing.items
+  pub disk_faults : new.disk_faults ≡ old.disk_faults
+  pub link_faults : new.link_faults ≡ old.link_faults
+  pub link_calls : new.link_calls ≡ old.link_calls + 1
+  pub linked : new.linked ≡ old.linked
+  pub recorded : OnTrue went (new.starved ≡ old.starved)
+  pub hungry : OnFalse went (new.starved ≡ old.starved + 1)
+
+-- what it answers is known
+pub record LinkEnded (missed connected : Bool) (old new : MemDisk) : Type 0 where
+  pub same : history_of new ≡ record (history_of old) { link_faults = new.link_faults; linked = new.linked }
+  pub failing : new.failing.items ≡ old.failing.items
+  pub starves : new.starved ≡ old.starved
+  pub disk_calls : disk_calls new ≡ disk_calls old
+  pub faulty : OnTrue missed (new.link_faults ≡ one_more old.link_faults)
+  pub fine : OnFalse missed (new.link_faults ≡ old.link_faults)
+  pub link : new.linked ≡ connected

@@ -48,7 +48,7 @@ impl MemDisk {
     ghost use Rattle.std.specs.Prelude.{◌≡◌, ◌+◌, ◌≤◌, ◌<◌, ◌⊎◌, ◌↔◌, IsTrue, IsOk, IsErr, OnOk, OnErr, IfOk, length};
     ghost use Rattle.std.specs.Bool.{OnTrue, OnFalse};
     ghost use Rattle.shop_model.specs.History.{LAST, DiskCall, LinkCall, Redial, WroteOrMissed, disk_now};
-    ghost use Rattle.mem_disk.specs.Disks.{history_of, moment_of, disk_calls, is_listed, IsNew, FailsExactly, ListsMiss, Recorded, Starved, WroteSome, DiskFaulted, LinkFaulted, LinkCounted};
+    ghost use Rattle.mem_disk.specs.Disks.{history_of, moment_of, disk_calls, is_listed, IsNew, FailsExactly, ListsMiss, Recorded, Starved, WroteSome, DiskFaulted, LinkFaulted, LinkCounted, LinkPassed, LinkEnded, KeepsPlan};
     ghost use Rattle.mem_disk.specs.Made.{call_of};
     ghost use Rattle.mem_disk.specs.Replay.{IsNoWrite, after};
 
@@ -92,6 +92,27 @@ impl MemDisk {
         ensures { result ≡ disk_calls self.now }
     {
         self.calls() - self.link_calls
+    }
+
+    /// The number of link calls so far, failed ones too.
+    pub fn link_calls(&self) -> u64
+        ensures { result ≡ self.now.link_calls }
+    {
+        self.link_calls
+    }
+
+    /// Whether it is the last moment.
+    pub fn is_over(&self) -> bool
+        ensures { IsTrue result ↔ moment_of self.now ≡ LAST }
+    {
+        self.calls() >= LAST
+    }
+
+    /// Whether the last dial succeeded.
+    pub fn is_linked(&self) -> bool
+        ensures { result ≡ self.now.linked }
+    {
+        self.linked
     }
 
     // Whether the next disk call is listed to fail.
@@ -193,6 +214,8 @@ impl MemDisk {
         ensures kept { OnErr result (disk_now (history_of self.new) ≡ disk_now (history_of self.old)) }
         ensures bytes { (disk_now (history_of self.new)).bytes ≡ (disk_now (history_of self.old)).bytes }
         ensures exact { FailsExactly self.old self.new result }
+        ensures calm { OnOk result (self.new.disk_faults ≡ self.old.disk_faults) }
+        ensures keeps { KeepsPlan self.old self.new }
     {
         if self.calls() >= LAST {
             self.miss_disk();
@@ -219,6 +242,8 @@ impl MemDisk {
             (disk_now (history_of self.new)) result }
         ensures listed { ListsMiss at (length bytes.now) self.old self.new result }
         ensures exact { FailsExactly self.old self.new result }
+        ensures calm { OnOk result (self.new.disk_faults ≡ self.old.disk_faults) }
+        ensures keeps { KeepsPlan self.old self.new }
     {
         if self.calls() >= LAST {
             self.miss_disk();
@@ -235,6 +260,27 @@ impl MemDisk {
             self.miss_disk();
             Err(DeviceFault)
         }
+    }
+
+    /// A link call of whoever has a vehicle beside this disk begins: it is counted, and the disk stays. False where there is no
+    /// memory to record it; it is then to fail.
+    pub fn pass_link(&mut self, made: Made) -> bool
+        requires { moment_of self.old < LAST }
+        ensures { LinkPassed (call_of made) result self.old self.new }
+    {
+        let went = self.record(made, Done::Kept);
+        self.link_calls += 1;
+        went
+    }
+
+    /// The end of such a call: a fault is counted, or is not, and the link is a connection or is none.
+    pub fn end_link(&mut self, faulty: bool, linked: bool)
+        ensures { LinkEnded faulty linked self.old self.new }
+    {
+        if faulty {
+            self.link_faults = self.link_faults.saturating_add(1);
+        }
+        self.linked = linked;
     }
 
     // A send or a receive: nobody is there, so it fails.
@@ -320,7 +366,7 @@ impl Shop for MemDisk {
     ghost use Rattle.std.proofs.lemmas.Bool.{false≢true};
     ghost use Rattle.std.specs.Prelude.{◌≡◌, ◌+◌, ◌≤◌, true, false, IsTrue, IfOk, OnOk, length, slice_range};
     ghost use Rattle.shop_model.specs.History.{DiskCall, Len, ReadAt, WriteAt, Sync, WroteOrMissed, SyncedOrNot, disk_now};
-    ghost use Rattle.mem_disk.specs.Disks.{history_of, FailsExactly, ListsMiss};
+    ghost use Rattle.mem_disk.specs.Disks.{history_of, FailsExactly, KeepsPlan, ListsMiss};
     ghost use Rattle.mem_disk.specs.Laws.{readable_of};
 
     ghost tells_disk = { true };
@@ -340,6 +386,8 @@ impl Shop for MemDisk {
         ensures disk { disk_now (history_of self.new) ≡ disk_now (history_of self.old) }
         ensures len { IfOk result (λ n. n ≡ length (disk_now (history_of self.old)).bytes) }
         ensures exact { FailsExactly self.old self.new result }
+        ensures calm { OnOk result (self.new.disk_faults ≡ self.old.disk_faults) }
+        ensures keeps { KeepsPlan self.old self.new }
     {
         self.disk_call(Made::Len, Done::Kept)?;
         Ok(self.bytes.len() as u64)
@@ -353,6 +401,8 @@ impl Shop for MemDisk {
         ensures bytes { OnOk result (out.new ≡ slice_range (disk_now (history_of self.old)).bytes at
             (at + length out.old)) }
         ensures exact { FailsExactly self.old self.new result }
+        ensures calm { OnOk result (self.new.disk_faults ≡ self.old.disk_faults) }
+        ensures keeps { KeepsPlan self.old self.new }
     {
         self.disk_call(Made::ReadAt(at, out.len() as u64), Done::Kept)?;
         copy_part(&self.bytes, at as usize, out);
@@ -366,6 +416,8 @@ impl Shop for MemDisk {
             (disk_now (history_of self.new)) result }
         ensures listed { ListsMiss at (length bytes.now) self.old self.new result }
         ensures exact { FailsExactly self.old self.new result }
+        ensures calm { OnOk result (self.new.disk_faults ≡ self.old.disk_faults) }
+        ensures keeps { KeepsPlan self.old self.new }
     {
         self.write_call(Made::WriteAt(at, seen(bytes)), at as usize, bytes)
     }
@@ -374,6 +426,8 @@ impl Shop for MemDisk {
         ensures call { DiskCall Sync (history_of self.old) (history_of self.new) result }
         ensures disk { SyncedOrNot (disk_now (history_of self.old)) (disk_now (history_of self.new)) result }
         ensures exact { FailsExactly self.old self.new result }
+        ensures calm { OnOk result (self.new.disk_faults ≡ self.old.disk_faults) }
+        ensures keeps { KeepsPlan self.old self.new }
     {
         self.disk_call(Made::Sync, Done::Synced)
     }

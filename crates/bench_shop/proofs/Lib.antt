@@ -1,0 +1,5 @@
+pub mod Benches
+pub mod Calling
+pub mod Links
+pub mod Listed
+pub mod Replays

@@ -1,0 +1,5 @@
+//! Tests of drills that are run.
+#![tactic(auto)]
+
+#[cfg(test)]
+mod runs;
