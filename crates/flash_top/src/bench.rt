@@ -1,6 +1,6 @@
 //! The files of the vehicle, before a command and behind it.
 
-use flash_commands::Status;
+use flash_drill::Status;
 use flash_shelf::Sink;
 use folder_shop::{BenchFault, BenchShop, SaveFault};
 use std::fs::File;

@@ -5,7 +5,7 @@
 mod bench;
 
 use bench::{ended, ended_run, refused, say_whose};
-use flash_commands::{Status, flash_watched};
+use flash_drill::{Status, flash_watched};
 use flash_shelf::{FolderShelf, StreamSink};
 use folder_shop::BenchShop;
 use run_progress::Progress;
