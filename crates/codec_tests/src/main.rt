@@ -4,6 +4,8 @@
 //! are.
 #![tactic(auto)]
 
+ghost use Rattle.std.specs.Thread.{IsSync};
+
 mod answers;
 mod first_bytes;
 mod frames;
@@ -15,19 +17,23 @@ mod told;
 use flash_base::NoMemory;
 use std::alloc::Global;
 use std::io;
+use std::thread::Threads;
 use test_rows::{Calls, show_tables};
 
 #[derive(Drop)]
 struct Codecs;
 
 impl Calls for Codecs {
-    fn answer(
+    fn answer<R: Threads + Alloc<A = Global> + Sync>(
         &self,
-        alloc: Global,
+        rt: &R,
         call: &str,
         inputs: &str,
         out: &mut String,
-    ) -> Result<(), NoMemory> {
+    ) -> Result<(), NoMemory>
+        requires { IsSync R.row }
+    {
+        let alloc = rt.alloc();
         match call {
             "request" => requests::answer(alloc, inputs, out),
             "beginnings" => requests::answer_beginnings(alloc, inputs, out),

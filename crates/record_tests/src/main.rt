@@ -4,25 +4,31 @@
 //! but for the lines and counts of a refusal.
 #![tactic(auto)]
 
+ghost use Rattle.std.specs.Thread.{IsSync};
+
 mod spans;
 mod texts;
 
 use flash_base::NoMemory;
 use std::alloc::Global;
 use std::io;
+use std::thread::Threads;
 use test_rows::{Calls, show_tables};
 
 #[derive(Drop)]
 struct Records;
 
 impl Calls for Records {
-    fn answer(
+    fn answer<R: Threads + Alloc<A = Global> + Sync>(
         &self,
-        alloc: Global,
+        rt: &R,
         call: &str,
         inputs: &str,
         out: &mut String,
-    ) -> Result<(), NoMemory> {
+    ) -> Result<(), NoMemory>
+        requires { IsSync R.row }
+    {
+        let alloc = rt.alloc();
         match call {
             "hex" => texts::put_read(hex_rec::read(alloc, inputs.as_bytes()), out),
             "srec" => texts::put_read(srec_rec::read(alloc, inputs.as_bytes()), out),

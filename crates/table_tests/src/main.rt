@@ -21,21 +21,21 @@ use std::io;
 use std::thread::Threads;
 use test_rows::{Calls, show_tables};
 
-/// The calls, with the runtime that builds plans.
+/// The calls.
 #[derive(Drop)]
-struct Tables<'a, R> {
-    rt: &'a R,
-    ghost sync: { IsSync R.row },
-}
+struct Tables;
 
-impl<'a, R: Threads + Sync> Calls for Tables<'a, R> {
-    fn answer(
+impl Calls for Tables {
+    fn answer<R: Threads + Alloc<A = Global> + Sync>(
         &self,
-        alloc: Global,
+        rt: &R,
         call: &str,
         inputs: &str,
         out: &mut String,
-    ) -> Result<(), NoMemory> {
+    ) -> Result<(), NoMemory>
+        requires { IsSync R.row }
+    {
+        let alloc = rt.alloc();
         match call {
             "catalogue" => catalogues::answer(alloc, inputs, out),
             "parts" => catalogues::answer_parts(alloc, inputs, out),
@@ -43,10 +43,10 @@ impl<'a, R: Threads + Sync> Calls for Tables<'a, R> {
             "order" => orders::answer(alloc, inputs, out),
             "members" => orders::answer_members(alloc, inputs, out),
             "image" => images::answer(alloc, inputs, out),
-            "build" => builds::answer(self.rt, alloc, inputs, out),
-            "report" => reports::answer(self.rt, alloc, inputs, out),
-            "command" => commands::answer(self.rt, alloc, inputs, out),
-            "status" => commands::answer_status(self.rt, alloc, inputs, out),
+            "build" => builds::answer(rt, alloc, inputs, out),
+            "report" => reports::answer(rt, alloc, inputs, out),
+            "command" => commands::answer(rt, alloc, inputs, out),
+            "status" => commands::answer_status(rt, alloc, inputs, out),
             _ => Ok(out.push_str("no such call")?),
         }
     }
@@ -62,5 +62,5 @@ const NAMES: &[&str] = &[
 ];
 
 fn main(rt: HostRuntime) -> io::Result<()> {
-    show_tables(&rt, &Tables { rt: &rt }, NAMES)
+    show_tables(&rt, &Tables, NAMES)
 }

@@ -6,9 +6,12 @@
 //! the text of the save; `twice` writes whether the save of what the save says is the same text.
 #![tactic(auto)]
 
+ghost use Rattle.std.specs.Thread.{IsSync};
+
 use flash_base::{Bytes, NoMemory};
 use std::alloc::Global;
 use std::io;
+use std::thread::Threads;
 use test_rows::{Calls, bytes_of_digits, first, number, put_bytes, put_digits, show_tables};
 use unit_model::Got;
 use vehicle_world::World;
@@ -132,13 +135,16 @@ fn put_fault(fault: &BenchFault, out: &mut String) -> Result<(), NoMemory> {
 struct Vehicles;
 
 impl Calls for Vehicles {
-    fn answer(
+    fn answer<R: Threads + Alloc<A = Global> + Sync>(
         &self,
-        alloc: Global,
+        rt: &R,
         _call: &str,
         inputs: &str,
         out: &mut String,
-    ) -> Result<(), NoMemory> {
+    ) -> Result<(), NoMemory>
+        requires { IsSync R.row }
+    {
+        let alloc = rt.alloc();
         let (text, steps) = first(inputs);
         match world_file::read(alloc, text.as_bytes()) {
             Ok(mut world) => take_all(alloc, &mut world, steps, out),
