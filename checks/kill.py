@@ -1,7 +1,7 @@
 #!/usr/bin/env python3
 """Kills runs of the program with SIGKILL, and runs it again each time.
 
-    checks/kill.py PROGRAM [--instants N] [--calls N] [--seconds N] [--bytes N]
+    checks/kill.py PROGRAM [--instants N] [--calls N] [--seconds N] [--bytes N] [--units one|three]
 
 Behind each kill: every file can be read, no unit is recorded complete whose image is not in the vehicle that the files
 hold together (by a reader of its own), and the next run ends with status 0 and the memory of a run that was not killed.
@@ -20,9 +20,11 @@ import time
 import bench_runs
 
 
-def jobs(program, seconds, size):
+def jobs(program, seconds, size, units):
     """The two jobs, their vehicles with as many responses pending as make a run last so long."""
     for name, sizes, keys in (("one unit", [size], False), ("three units", [size // 4] * 3, True)):
+        if units and not name.startswith(units):
+            continue
         waits = 1
         while True:
             job = bench_runs.Job(sizes, waits, keys=keys, chain=keys)
@@ -120,13 +122,14 @@ def main():
     words.add_argument("--calls", type=int, default=300)
     words.add_argument("--seconds", type=float, default=3.0)
     words.add_argument("--bytes", type=int, default=3_000_000)
+    words.add_argument("--units", choices=("one", "three"))
     given = words.parse_args()
     program = os.path.abspath(given.program)
     traced = shutil.which("strace") is not None
     if not traced:
         print("no strace: kills at system calls are left out")
     good = True
-    for name, job, took in jobs(program, given.seconds, given.bytes):
+    for name, job, took in jobs(program, given.seconds, given.bytes, given.units):
         good &= at_instants(program, name, job, took, given.instants)
         if traced:
             good &= at_calls(program, name, job, took, given.calls)
