@@ -1,12 +1,30 @@
-//! Simulated vehicles: each row of `troubles` has a vehicle file and steps, and what comes of them.
+//! Simulated vehicles: each row has a vehicle file and steps, and what comes of them.
 //!
 //! The form of the table is that of `test_rows`. The call `vehicle` has two inputs. The first is the file, the second the
 //! steps, parted by blanks: `send:HEX` sends these bytes; `polls:N` polls so many times, and each piece that comes is written
 //! as the tick and its bytes; `redial` makes the connection new; `again` saves the vehicle and reads it again; `save` writes
 //! the text of the save; `twice` writes whether the save of what the save says is the same text.
+//!
+//! The call `link` is that of a tester 0E80 of the units 1001 and 1002, over a shop with the vehicle of the first input.
+//! The second is `-`, or parts that are parted by blanks: `fails:N` for a link call that fails, `brings:N:HEX` for a
+//! receive that brings these bytes instead of what is due, `brings:N:SIZE:HEX` for receives from this one on that bring
+//! them in pieces of this size. The third is the steps. Each writes a word:
+//!
+//! - `dial`, `ask`, `say` and `send:UNIT:HEX` call the link; `lost` where the call failed.
+//! - `poll` writes what it brought: the bytes, `quiet`, or `lost` with the bytes that ended the connection.
+//! - `polls:N` polls so many times, or until the link is lost, and writes how often, and how often bytes came.
+//! - `take:UNIT` writes the oldest message of the unit: `reply` with its bytes, `nack` with its code, or `none`.
+//! - `state` writes where the link stands, its ticks, its losses, and whether it owes the answer to an alive check.
+//! - `frames` writes what the vehicle was sent.
+//!
+//! A step that the link does not allow is not made, and writes `no`.
 #![tactic(auto)]
 
 ghost use Rattle.std.specs.Thread.{IsSync};
+
+mod link;
+mod setup;
+mod tester;
 
 use flash_base::{Bytes, NoMemory};
 use std::alloc::Global;
@@ -21,7 +39,7 @@ use world_file::BenchFault;
 const LAST: u64 = 1 << 62;
 
 /// Parts are written with blanks between them.
-fn put_blank(out: &mut String) -> Result<(), NoMemory> {
+pub fn put_blank(out: &mut String) -> Result<(), NoMemory> {
     if !out.is_empty() {
         out.push(' ')?;
     }
@@ -119,7 +137,7 @@ fn take_all(
     Ok(())
 }
 
-fn put_fault(fault: &BenchFault, out: &mut String) -> Result<(), NoMemory> {
+pub fn put_fault(fault: &BenchFault, out: &mut String) -> Result<(), NoMemory> {
     match fault {
         BenchFault::BadField { path } => {
             out.push_str("bad field ")?;
@@ -131,6 +149,15 @@ fn put_fault(fault: &BenchFault, out: &mut String) -> Result<(), NoMemory> {
     }
 }
 
+/// The call `vehicle`: a vehicle file, and the steps.
+fn drive(alloc: Global, inputs: &str, out: &mut String) -> Result<(), NoMemory> {
+    let (text, steps) = first(inputs);
+    match world_file::read(alloc, text.as_bytes()) {
+        Ok(mut world) => take_all(alloc, &mut world, steps, out),
+        Err(fault) => put_fault(&fault, out),
+    }
+}
+
 #[derive(Drop)]
 struct Vehicles;
 
@@ -138,21 +165,19 @@ impl Calls for Vehicles {
     fn answer<R: Threads + Alloc<A = Global> + Sync>(
         &self,
         rt: &R,
-        _call: &str,
+        call: &str,
         inputs: &str,
         out: &mut String,
     ) -> Result<(), NoMemory>
         requires { IsSync R.row }
     {
-        let alloc = rt.alloc();
-        let (text, steps) = first(inputs);
-        match world_file::read(alloc, text.as_bytes()) {
-            Ok(mut world) => take_all(alloc, &mut world, steps, out),
-            Err(fault) => put_fault(&fault, out),
+        match call {
+            "link" => link::answer(rt.alloc(), inputs, out),
+            _ => drive(rt.alloc(), inputs, out),
         }
     }
 }
 
 fn main(rt: HostRuntime) -> io::Result<()> {
-    show_tables(&rt, &Vehicles, &["troubles"])
+    show_tables(&rt, &Vehicles, &["troubles", "links"])
 }
