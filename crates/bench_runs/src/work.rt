@@ -1,0 +1,140 @@
+//! Runs over a shop in memory: one worker beside SHA-256 and copies of the same bytes, and several workers beside one.
+
+mod case;
+mod figures;
+mod peers;
+
+use crate::print_beside;
+use case::{Case, fastest};
+use figures::Figures;
+use std::alloc::Global;
+use std::io;
+use std::sync::Wait;
+use std::thread::Threads;
+use std::time::Clock;
+
+/// The bytes of a unit in a long run.
+const MEGABYTE: u32 = 1_048_576;
+
+/// Prints what a run came to, and where `is_timed` what it took.
+fn print_run<R: Print>(rt: &R, case: &Case, told: &Figures, is_timed: bool) -> io::Result<()> {
+    let (units, first) = (case.units, case.first);
+    let (complete, sent) = (told.complete, told.sent);
+    println!(rt;
+        "{units} units, the first of {first} bytes: {complete} complete after {sent} requests"
+    )?;
+    if is_timed {
+        let (took, ticks, log) = (told.took, told.ticks, told.log / told.sent.max(1));
+        let (workers, disk, link) = (case.workers, told.disk, told.link);
+        println!(rt;
+            "  {workers} workers: {took} us, {ticks} ticks, {link} link calls, {disk} disk calls, {log} bytes of log a request"
+        )?;
+        let (passes, claimed, events) = (told.passes, told.claimed, told.events);
+        println!(rt; "  {passes} steps in turn, {claimed} claims, {events} events")?;
+    }
+    Ok(())
+}
+
+/// How often each case is run; the fastest run counts.
+const ROUNDS: u32 = 3;
+
+/// A run of one worker beside its peers, beside one of half the bytes, and beside one of half the units.
+fn run_timed<R: Threads + Wait + Sync + Print + Clock + Alloc<A = Global>>(
+    rt: &R,
+) -> io::Result<()> {
+    let whole = Case::plain(12, MEGABYTE, 1);
+    let told = fastest(rt, &whole, ROUNDS)?;
+    print_run(rt, &whole, &told, true)?;
+    let peer = peers::fastest(rt, 12, MEGABYTE, ROUNDS)?;
+    print_beside(rt, told.took, "SHA-256 twice and five copies", peer)?;
+    let half = fastest(rt, &Case::plain(12, MEGABYTE / 2, 1), ROUNDS)?;
+    print_beside(rt, told.took, "half the bytes", half.took)?;
+    let half = fastest(rt, &Case::plain(6, MEGABYTE, 1), ROUNDS)?;
+    print_beside(rt, told.took, "half the units", half.took)
+}
+
+/// A short run of one worker, or long ones and their times.
+pub fn run<R: Threads + Wait + Sync + Print + Clock + Alloc<A = Global>>(
+    rt: &R,
+    is_timed: bool,
+) -> io::Result<()> {
+    if is_timed {
+        return run_timed(rt);
+    }
+    let case = Case::plain(12, 4096, 1);
+    let told = fastest(rt, &case, 1)?;
+    print_run(rt, &case, &told, false)
+}
+
+/// One run, and what of its memory is known.
+pub fn once<R: Threads + Wait + Sync + Print + Clock + Alloc<A = Global>>(
+    rt: &R,
+) -> io::Result<()> {
+    let told = fastest(rt, &Case::plain(12, MEGABYTE, 1), 1)?;
+    let log = told.log;
+    println!(rt; "plan and vehicle of 12582912 bytes each, log of {log}")
+}
+
+/// Prints one case with one worker and with several; how many times its ticks and its time are those of the others.
+fn print_crew<R: Threads + Wait + Sync + Print + Clock + Alloc<A = Global>>(
+    rt: &R,
+    case: &Case,
+    alone: &Case,
+    rounds: u32,
+) -> io::Result<()> {
+    let one = fastest(rt, alone, rounds)?;
+    print_run(rt, alone, &one, true)?;
+    let many = fastest(rt, case, rounds)?;
+    print_run(rt, case, &many, true)?;
+    print_ticks(rt, many.ticks, one.ticks)?;
+    print_beside(rt, many.took, "one worker", one.took)
+}
+
+/// Prints ticks beside those of one worker.
+fn print_ticks<R: Print>(rt: &R, ticks: u64, alone: u64) -> io::Result<()> {
+    let hundredths = ticks.saturating_mul(100) / alone.max(1);
+    let (whole, part) = (hundredths / 100, hundredths % 100);
+    println!(rt; "  {ticks} ticks, one worker {alone}, ratio {whole}.{part:02}")
+}
+
+/// Runs of several workers beside those of one: units that answer late, units that answer at once, units of which all but
+/// one wait, and units that stand at the same place.
+pub fn crews<R: Threads + Wait + Sync + Print + Clock + Alloc<A = Global>>(
+    rt: &R,
+    is_timed: bool,
+) -> io::Result<()> {
+    let (size, rounds) = if is_timed {
+        (MEGABYTE, ROUNDS)
+    } else {
+        (4096, 1)
+    };
+    println!(rt; "answers that are late")?;
+    print_crew(rt, &Case::late(4), &Case::late(1), rounds)?;
+    println!(rt; "answers at once")?;
+    print_crew(
+        rt,
+        &Case::plain(12, size, 4),
+        &Case::plain(12, size, 1),
+        rounds,
+    )?;
+    println!(rt; "all but one only wait")?;
+    print_crew(
+        rt,
+        &Case::waiting(size, 4),
+        &Case::plain(1, size, 1),
+        rounds,
+    )?;
+    print_crew(
+        rt,
+        &Case::waiting(size, 8),
+        &Case::plain(1, size, 1),
+        rounds,
+    )?;
+    println!(rt; "units that stand at the same place")?;
+    print_crew(
+        rt,
+        &Case::plain(16, 1024, 16),
+        &Case::plain(16, 1024, 1),
+        rounds,
+    )
+}
