@@ -1,5 +1,5 @@
 //! Plans of plain units, at addresses from 1001 on: each has one segment, at 1000.
-ghost use Rattle.std.specs.Prelude.{◌≡◌, ◌≤◌, ◌<◌, length, IfOk};
+ghost use Rattle.std.specs.Prelude.{◌≤◌, length, IfOk};
 ghost use Rattle.flash_base.specs.Lists.{Each};
 ghost use Rattle.flash_plan.specs.Accepting.{IsDraft};
 ghost use Rattle.flash_plan.specs.Plan.{IsTaskName};
@@ -13,10 +13,10 @@ fn body(alloc: Global, size: u32) -> Result<Bytes, NoMemory>
     ensures { IfOk result (λ b. 1 ≤ length b) }
 {
     let mut body = Bytes::from_vec(Vec::with_capacity(alloc, size as usize)?);
-    body.push(0)?;
     for i in 1..size {
         body.push((i % 251) as u8)?;
     }
+    body.push(0)?;
     Ok(body)
 }
 
