@@ -75,26 +75,31 @@ pub fn once<R: Threads + Wait + Sync + Print + Clock + Alloc<A = Global>>(
     println!(rt; "plan and vehicle of 12582912 bytes each, log of {log}")
 }
 
-/// Prints one case with one worker and with several; how many times its ticks and its time are those of the others.
+/// Prints ticks beside those of one worker, if it had any.
+fn print_ticks<R: Print>(rt: &R, ticks: u64, alone: u64) -> io::Result<()> {
+    if alone == 0 {
+        return Ok(());
+    }
+    let hundredths = ticks.saturating_mul(100) / alone;
+    let (whole, part) = (hundredths / 100, hundredths % 100);
+    println!(rt; "  {ticks} ticks, one worker {alone}, ratio {whole}.{part:02}")
+}
+
+/// Prints a case with one worker and with several, and their ticks and times beside each other.
 fn print_crew<R: Threads + Wait + Sync + Print + Clock + Alloc<A = Global>>(
     rt: &R,
+    what: &str,
     case: &Case,
-    alone: &Case,
     rounds: u32,
 ) -> io::Result<()> {
-    let one = fastest(rt, alone, rounds)?;
-    print_run(rt, alone, &one, true)?;
+    println!(rt; "{what}")?;
+    let alone = case.alone();
+    let one = fastest(rt, &alone, rounds)?;
+    print_run(rt, &alone, &one, true)?;
     let many = fastest(rt, case, rounds)?;
     print_run(rt, case, &many, true)?;
     print_ticks(rt, many.ticks, one.ticks)?;
     print_beside(rt, many.took, "one worker", one.took)
-}
-
-/// Prints ticks beside those of one worker.
-fn print_ticks<R: Print>(rt: &R, ticks: u64, alone: u64) -> io::Result<()> {
-    let hundredths = ticks.saturating_mul(100) / alone.max(1);
-    let (whole, part) = (hundredths / 100, hundredths % 100);
-    println!(rt; "  {ticks} ticks, one worker {alone}, ratio {whole}.{part:02}")
 }
 
 /// Runs of several workers beside those of one: units that answer late, units that answer at once, units of which all but
@@ -108,33 +113,9 @@ pub fn crews<R: Threads + Wait + Sync + Print + Clock + Alloc<A = Global>>(
     } else {
         (4096, 1)
     };
-    println!(rt; "answers that are late")?;
-    print_crew(rt, &Case::late(4), &Case::late(1), rounds)?;
-    println!(rt; "answers at once")?;
-    print_crew(
-        rt,
-        &Case::plain(12, size, 4),
-        &Case::plain(12, size, 1),
-        rounds,
-    )?;
-    println!(rt; "all but one only wait")?;
-    print_crew(
-        rt,
-        &Case::waiting(size, 4),
-        &Case::plain(1, size, 1),
-        rounds,
-    )?;
-    print_crew(
-        rt,
-        &Case::waiting(size, 8),
-        &Case::plain(1, size, 1),
-        rounds,
-    )?;
-    println!(rt; "units that stand at the same place")?;
-    print_crew(
-        rt,
-        &Case::plain(16, 1024, 16),
-        &Case::plain(16, 1024, 1),
-        rounds,
-    )
+    print_crew(rt, "answers are late", &Case::late(4), rounds)?;
+    print_crew(rt, "answers at once", &Case::plain(12, size, 4), rounds)?;
+    print_crew(rt, "all but one wait", &Case::waiting(size, 4), rounds)?;
+    print_crew(rt, "all but one wait", &Case::waiting(size, 8), rounds)?;
+    print_crew(rt, "all stand together", &Case::plain(16, 1024, 16), rounds)
 }

@@ -77,6 +77,17 @@ impl Case {
         }
     }
 
+    /// The same with one worker.
+    pub(crate) fn alone(&self) -> Case {
+        Case {
+            units: self.units,
+            first: self.first,
+            others: self.others,
+            answers: self.answers,
+            workers: 1,
+        }
+    }
+
     fn plan(&self, alloc: Global) -> Result<Plan, NoMemory> {
         crate::plans::plan(alloc, self.units, self.first, self.others)
     }
