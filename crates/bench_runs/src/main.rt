@@ -5,7 +5,7 @@
 //!
 //! - `vehicle`: a simulated vehicle and its file;
 //! - `run`: runs of one worker; `run peak` makes one run and prints the most memory that the process had;
-//! - `workers`: runs of several workers beside one.
+//! - `workers`: runs of several workers beside one, whose counts differ from run to run.
 #![tactic(auto)]
 
 mod copying;
@@ -44,7 +44,7 @@ fn part<R: Threads + Wait + Sync + Print + Clock + Alloc<A = Global>>(
         "vehicle" => vehicle::run(rt, is_timed),
         "run" if word == "peak" => work::once(rt),
         "run" => work::run(rt, is_timed),
-        "workers" => work::crews(rt, is_timed),
+        "workers" => work::crews(rt),
         _ => println!(rt; "no part {name}"),
     }
 }

@@ -1,5 +1,7 @@
 //! Runs over a shop in memory: one worker beside SHA-256 and copies of the same bytes, and several workers beside one.
 
+ghost use Rattle.std.specs.Prelude.{◌≤◌};
+
 mod case;
 mod figures;
 mod peers;
@@ -90,32 +92,54 @@ fn print_crew<R: Threads + Wait + Sync + Print + Clock + Alloc<A = Global>>(
     rt: &R,
     what: &str,
     case: &Case,
-    rounds: u32,
 ) -> io::Result<()> {
     println!(rt; "{what}")?;
     let alone = case.alone();
-    let one = fastest(rt, &alone, rounds)?;
+    let one = fastest(rt, &alone, ROUNDS)?;
     print_run(rt, &alone, &one, true)?;
-    let many = fastest(rt, case, rounds)?;
+    let many = fastest(rt, case, ROUNDS)?;
     print_run(rt, case, &many, true)?;
     print_ticks(rt, many.ticks, one.ticks)?;
     print_beside(rt, many.took, "one worker", one.took)
+}
+
+/// The microseconds that the longer of two cases takes beyond the shorter.
+fn further<R: Threads + Wait + Sync + Clock + Alloc<A = Global>>(
+    rt: &R,
+    short: &Case,
+    long: &Case,
+) -> io::Result<u128> {
+    let short = fastest(rt, short, ROUNDS)?;
+    let long = fastest(rt, long, ROUNDS)?;
+    Ok(long.took.saturating_sub(short.took))
+}
+
+/// Prints what four further megabytes of the first unit take where all others wait, with so many workers beside one: the
+/// steps of the worker that transfers, and nothing of how the others begin and end.
+fn print_steps<R: Threads + Wait + Sync + Print + Clock + Alloc<A = Global>>(
+    rt: &R,
+    workers: u16,
+) -> io::Result<()>
+    requires { (1 ≤ workers) × (workers ≤ 16) }
+{
+    let short = Case::waiting(MEGABYTE, workers);
+    let long = Case::waiting(5 * MEGABYTE, workers);
+    let many = further(rt, &short, &long)?;
+    let one = further(rt, &short.alone(), &long.alone())?;
+    println!(rt; "four further megabytes, {workers} workers of which one transfers")?;
+    print_beside(rt, many, "one worker", one)
 }
 
 /// Runs of several workers beside those of one: units that answer late, units that answer at once, units of which all but
 /// one wait, and units that stand at the same place.
 pub fn crews<R: Threads + Wait + Sync + Print + Clock + Alloc<A = Global>>(
     rt: &R,
-    is_timed: bool,
 ) -> io::Result<()> {
-    let (size, rounds) = if is_timed {
-        (MEGABYTE, ROUNDS)
-    } else {
-        (4096, 1)
-    };
-    print_crew(rt, "answers are late", &Case::late(4), rounds)?;
-    print_crew(rt, "answers at once", &Case::plain(12, size, 4), rounds)?;
-    print_crew(rt, "all but one wait", &Case::waiting(size, 4), rounds)?;
-    print_crew(rt, "all but one wait", &Case::waiting(size, 8), rounds)?;
-    print_crew(rt, "all stand together", &Case::plain(16, 1024, 16), rounds)
+    print_crew(rt, "answers are late", &Case::late(4))?;
+    print_crew(rt, "answers at once", &Case::plain(12, MEGABYTE, 4))?;
+    print_crew(rt, "all but one wait", &Case::waiting(MEGABYTE, 4))?;
+    print_steps(rt, 4)?;
+    print_crew(rt, "all but one wait", &Case::waiting(MEGABYTE, 8))?;
+    print_steps(rt, 8)?;
+    print_crew(rt, "all stand together", &Case::plain(16, 1024, 16))
 }
