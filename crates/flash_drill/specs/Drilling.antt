@@ -1,12 +1,14 @@
 -- What a drill does: from which start, over which files, and what it prints.
 use Rattle.std.specs.Prelude.{◌≡◌, ◌⊎◌, ℕ, Bool, [], ◌++◌}
+use Rattle.drill_law.specs.Plans.{plan_of_drill}
 use Rattle.drill_law.specs.Vehicles.{vehicle_of_drill}
+use Rattle.flash_commands.specs.Running.{AreProgrammedOver}
 use Rattle.flash_drill.specs.Ending.{EndsOver, IsPrinted, IsPrintedRun, RunsOver, summary}
 use Rattle.flash_shelf.specs.History.{SinkHistory}
 use Rattle.flash_shelf.specs.Outside.{WriteFailed}
 use Rattle.plan_commands.specs.declared.status.Status.{Status as Ending}
 use Rattle.plan_commands.specs.declared.status.Status.TheVariants.{Done, NoMemory, Sink}
-use Rattle.shop_model.specs.History.{History}
+use Rattle.shop_model.specs.History.{History, vehicle_now}
 use Rattle.unit_model.specs.Vehicle.{Vehicle}
 use Rattle.vehicle_world.specs.Worlds.{made_of}
 use Rattle.vehicle_world.specs.declared.spec.VehicleSpec.{VehicleSpec}
@@ -32,6 +34,10 @@ pub record Drills (n : ℕ) (h : History) (tells : Bool) (k0 k1 : SinkHistory) (
 -- at `Done` the drill ended well
 abbrev pub EndsWell : ℕ → History → Bool → SinkHistory → SinkHistory → Type 0
 EndsWell n h tells k0 k1 = EndsOver n (start_of_drill n) h tells k0 k1
+
+-- each unit's memory is that of one plain overwrite by its image
+abbrev pub HoldImages : ℕ → History → Type 0
+HoldImages n h = ∥ AreProgrammedOver (plan_of_drill n) (start_of_drill n) (vehicle_now h) ∥₁
 
 -- so it ends; or there was no memory, or the text could not be written whole
 abbrev pub Completes : SinkHistory → SinkHistory → Ending → Type 0
