@@ -8,7 +8,7 @@ use Rattle.drill_law.specs.Vehicles.{unit_specs}
 use Rattle.flash_commands.specs.Running.{RunsOrder}
 use Rattle.flash_commands.specs.Words.{run_named, run_order}
 use Rattle.flash_drill.specs.Calm.{unit_addresses}
-use Rattle.flash_drill.specs.Drilling.{Completes, Drills, EndsStarved, EndsWell, HoldImages, ServesDrill, spec_of_drill, start_of_drill}
+use Rattle.flash_drill.specs.Drilling.{Completes, Drills, EndsStarved, EndsWell, AllHold, ServesDrill, spec_of_drill, start_of_drill}
 use Rattle.flash_drill.specs.Ending.{BeginsOver, IsPrintedRun, RunsOver}
 use Rattle.flash_drill.specs.Words.{drill_number, number_in}
 use Rattle.flash_drill.specs.Own.{IsQuiet}
@@ -122,7 +122,7 @@ module _ (n : ℕ) (s : MemoryShop) (h0 : History) (s0 s1 : ShelfHistory) (p0 p1
       printed_well tells k0 k1 _ status result (run_ends shelf (whole (fed_page shop page false e none refl)) quiet) p
 
   pub hold : (tells : Bool) (k0 k1 : SinkHistory) (shop page : ℕ) (starved : Bool) (result : Ending) → starved ≡ (nat_lt 0 shop || nat_lt 0 page) → (shop ≡ 0 → ∥ IsQuiet s ∥₁)
-      → IsPrintedRun tells k0 k1 n p1.written status starved result → result ≡ Done → HoldImages n (history_of s)
+      → IsPrintedRun tells k0 k1 n p1.written status starved result → result ≡ Done → AllHold n (history_of s)
   hold tells k0 k1 shop page true result e quiet p done = absurd (not_done result p.0 done)
   hold tells k0 k1 shop page false result e quiet p done = ∥∥₁_map (quiet (fed_shop shop page false e refl)) (λ q.
       (ends n h0 (history_of s) s0 s1 p0 p1 words status begins files empty said runs tells k0 k1 false result p done).memory q.shown)

@@ -36,8 +36,8 @@ abbrev pub EndsWell : ℕ → History → Bool → SinkHistory → SinkHistory �
 EndsWell n h tells k0 k1 = EndsOver n (start_of_drill n) h tells k0 k1
 
 -- each unit's memory is that of one plain overwrite by its image
-abbrev pub HoldImages : ℕ → History → Type 0
-HoldImages n h = ∥ AreProgrammedOver (plan_of_drill n) (start_of_drill n) (vehicle_now h) ∥₁
+abbrev pub AllHold : ℕ → History → Type 0
+AllHold n h = ∥ AreProgrammedOver (plan_of_drill n) (start_of_drill n) (vehicle_now h) ∥₁
 
 -- so it ends; or there was no memory, or the text could not be written whole
 abbrev pub Completes : SinkHistory → SinkHistory → Ending → Type 0

@@ -3,7 +3,7 @@ ghost use Rattle.std.specs.Prelude.{◌≡◌, ◌≤◌, ◌<◌, ◌∷◌, �
 ghost use Rattle.bench_gen.specs.Files.{AreFiles};
 ghost use Rattle.bench_shop.specs.Shops.{history_of, starved_of};
 ghost use Rattle.shop_model.specs.History.{LAST};
-ghost use Rattle.flash_drill.specs.Drilling.{start_of_drill, Completes, Drills, EndsStarved, EndsWell, HoldImages};
+ghost use Rattle.flash_drill.specs.Drilling.{start_of_drill, Completes, Drills, EndsStarved, EndsWell, AllHold};
 ghost use Rattle.flash_drill.specs.Ending.{BeginsOver};
 
 use crate::making::{shelf_of, shop_of};
@@ -81,7 +81,7 @@ pub fn drill<R: Threads + Wait + Sync, K: Sink>(
 
     // And each unit of the shop holds its image, as long as its last moment was not reached.
     ensures holds { IfSome result.0 (λ shop. result.1 ≡ Status.Done → (history_of shop).moment < LAST
-        → HoldImages n (history_of shop)) }
+        → AllHold n (history_of shop)) }
 
     // The shop found no memory at some call.
     ensures starved { IfSome result.0 (λ shop. 0 < starved_of shop
